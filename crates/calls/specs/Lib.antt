@@ -1,0 +1,5 @@
+pub mod Types
+pub mod Numbers
+pub mod Table
+pub mod Asked
+pub mod Said

@@ -1,0 +1,58 @@
+// What is asked of the kernel, and what it answers: two kinds of number, the 17 calls, the four answers.
+mod numbers;
+mod table;
+
+// A task number and an object number are two types, so that neither can stand for the other.
+pub struct TaskNo(pub u32);
+
+pub struct ObjNo(pub u32);
+
+// The 17 calls. The bytes of a sent item are lent beside the call.
+pub enum Call {
+    Create(u32),
+    Delete(TaskNo),
+    Suspend(TaskNo),
+    Resume(TaskNo),
+    SetPriority(TaskNo, u32),
+    Delay(u32),
+    Yield,
+    Hold,
+    Release,
+    MakeQueue(u32, u32),
+    MakeMutex,
+    Remove(ObjNo),
+    Send(ObjNo, u32),
+    Receive(ObjNo, u32),
+    Take(ObjNo, u32),
+    Give(ObjNo),
+    Tick,
+}
+
+pub enum Answer {
+    Done,
+    Made(u32),
+    Waiting,
+    Refused(u32),
+}
+
+// What a call must name: nothing, a task, an object of any kind, a queue, or a mutex.
+pub enum Names {
+    Nothing,
+    Task,
+    Object,
+    Queue,
+    Mutex,
+}
+
+// A call's number and arguments, each in its own field; an argument that the call does not have stands at a value that is never turned away.
+pub struct Asked {
+    pub number: u32,
+    pub names: Names,
+    pub task: TaskNo,
+    pub object: ObjNo,
+    pub priority: u32,
+    pub ticks: u32,
+    pub capacity: u32,
+    pub size: u32,
+    pub wait: u32,
+}

@@ -1,0 +1,5 @@
+pub mod Orders
+pub mod Lines
+pub mod Counts
+pub mod Tallies
+pub mod Rooms

@@ -1,0 +1,87 @@
+use borrow.Author.Needs.{needs}
+use Prim.Native.Nat.{_-_}
+use Rattle.calls.specs.Numbers.{idle}
+use Rattle.lists.proofs.Bools.{off, on}
+use Rattle.lists.proofs.Loops.{Rest, begin, turn, done, length-mapped}
+use Rattle.order.specs.Order.{unless}
+use borrow.Author.Tests.{lt-ltb, le-ltb}
+use lib.ListN.{length}
+use mathlib.Core.Logic.{⊎-elim}
+use mathlib.Core.Path.{_≡_}
+use native.Mathlib.Omega.{arith}
+use Rattle.order.proofs.Order.behind.Statement.{statement}
+use Rattle.order.proofs.Order.behind.Tie as tie
+use Rattle.order.proofs.Order.behind.Reads as reads
+use Rattle.order.proofs.Order.behind.Lts as lts
+use Rattle.calls.proofs.TaskNo.same.Reads as same-reads
+use Rattle.order.proofs.Order.reach.Reads as reach-reads
+
+abbrev Inv-loop : tie.InvT-loop
+Inv-loop t self out₀ m₀ i₀ n out m i = Rest (unless t) (self .living) (self .places) n (record { places = out₀; living = m₀ }) (record { places = out; living = m }) i
+
+abbrev μ-loop : tie.MeasureT-loop
+μ-loop t self out₀ m₀ i₀ n out m i = n - i
+
+reach-requires : tie.Need-reach-requires Inv-loop μ-loop
+reach-requires c κs = search needs
+
+loop-holds : tie.Need-loop-holds Inv-loop μ-loop
+loop-holds c =
+    let len : length (c .before .before .args .t1 .places) ≡ 16 = search length-mapped in
+    begin (omega arith)
+
+mul-x : tie.Need-mul-x Inv-loop μ-loop
+mul-x c = search needs
+
+element-copy-out-x : tie.Need-element-copy-out-x Inv-loop μ-loop
+element-copy-out-x c = search needs
+
+same-requires : tie.Need-same-requires Inv-loop μ-loop
+same-requires c κs = search needs
+
+mul-out : tie.Need-mul-out Inv-loop μ-loop
+mul-out c = search needs
+
+array-set-from-out : tie.Need-array-set-from-out Inv-loop μ-loop
+array-set-from-out c = search needs
+
+add-m : tie.Need-add-m Inv-loop μ-loop
+add-m c = search needs
+
+add-i : tie.Need-add-i Inv-loop μ-loop
+add-i c = search needs
+
+loop-less : tie.Need-loop-less Inv-loop μ-loop
+loop-less c = search needs
+
+loop-again : tie.Need-loop-again Inv-loop μ-loop
+loop-again c =
+    turn (c .before .before .before .before .loop .inv) (search needs) idle
+    (⊎-elim
+    (λ w. rw (w .2, w .3, ← c .before .same .ensures, off (c .before .same .result) (w .0 .taken), lt-ltb _ _ (w .1 .taken)))
+    (⊎-elim
+    (λ w. rw (w .2, w .3, ← c .before .same .ensures, off (c .before .same .result) (w .0 .taken), le-ltb _ _ (w .1 .left)))
+    (λ w. rw (w .1, w .2, ← c .before .same .ensures, on (c .before .same .result) (w .0 .left))))
+    (c .if1 .came))
+
+returns : tie.Need-returns Inv-loop μ-loop
+returns c = done (c .before .loop .inv) (search needs)
+
+pub behind-spec : {M : Type 1} → statement M
+behind-spec =
+    tie.close
+    (tie.spec
+    Inv-loop
+    μ-loop
+    reach-requires
+    loop-holds
+    mul-x
+    element-copy-out-x
+    same-requires
+    mul-out
+    array-set-from-out
+    add-m
+    add-i
+    loop-less
+    loop-again
+    returns)

@@ -1,0 +1,31 @@
+-- How often a number stands in a list; and an order whose places obey the ranges.
+use Prim.Native.Nat.{ℕ, _+_}
+use mathlib.Core.Bool.{Bool, true, false, _&&_}
+use mathlib.Core.List.{List, [], _∷_}
+use lib.Dec.{eqb, ltb, leb}
+use lib.ListN.{length, getD, set, replicate}
+use Rattle.lists.specs.Choice.{if_then_else_}
+use Rattle.lists.specs.Lists.{foldl, allBelow}
+use Rattle.calls.specs.declared.TaskNo.{TaskNo}
+use Rattle.calls.specs.Numbers.{idle}
+use Rattle.order.specs.declared.Order.{Order}
+
+-- how often the number `n` stands in `xs`
+unfoldable pub count : ℕ → List TaskNo → ℕ
+count n [] = 0
+count n (x ∷ xs) = (if eqb (x .0) n then 1 else 0) + count n xs
+
+-- a slot's number where a task is listed; behind them "a number that a state does not use is 0"
+abbrev pub tidyAt : ℕ → ℕ → TaskNo → Bool
+tidyAt living i x = if ltb i living then ltb (x .0) 16 else eqb (x .0) 0
+
+-- "counts and places obey the ranges": at most 16 are listed
+unfoldable pub tidy : Order → Bool
+tidy o = leb (o .living) 16 && allBelow 16 (λ i. tidyAt (o .living) i (getD (o .places) i idle))
+
+-- what the code counts in one pass: how often each slot's number stands in a list
+abbrev pub bump : List ℕ → TaskNo → List ℕ
+bump c x = set c (x .0) (getD c (x .0) 0 + 1)
+
+unfoldable pub talliesOf : List TaskNo → List ℕ
+talliesOf xs = foldl bump (replicate 16 0) xs

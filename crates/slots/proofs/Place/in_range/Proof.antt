@@ -1,0 +1,55 @@
+use borrow.Author.Needs.{needs}
+use Rattle.slots.proofs.Place.in_range.Statement.{statement}
+use Rattle.slots.proofs.Place.in_range.Tie as tie
+use Rattle.slots.proofs.Place.in_range.Reads as reads
+use Rattle.slots.proofs.Place.in_range.Lts as lts
+use Rattle.slots.proofs.Wake.in_range.Reads as in-range-reads
+
+enum-told : tie.Need-enum-told
+enum-told c = search needs
+
+enum-told-2 : tie.Need-enum-told-2
+enum-told-2 c = search needs
+
+enum-known-self : tie.Need-enum-known-self
+enum-known-self c = search needs
+
+enum-known-self-2 : tie.Need-enum-known-self-2
+enum-known-self-2 c = search needs
+
+in-range-requires : tie.Need-in-range-requires
+in-range-requires c κs = search needs
+
+enum-told-3 : tie.Need-enum-told-3
+enum-told-3 c = search needs
+
+returns : tie.Need-returns
+returns c = search needs
+
+returns-2 : tie.Need-returns-2
+returns-2 c = search needs
+
+returns-3 : tie.Need-returns-3
+returns-3 c = rw (c .before .self .given .1)
+
+returns-4 : tie.Need-returns-4
+returns-4 c = search needs
+
+returns-5 : tie.Need-returns-5
+returns-5 c = search needs
+
+pub in-range-spec : {M : Type 1} → statement M
+in-range-spec =
+    tie.close
+    (tie.spec
+    enum-told
+    enum-told-2
+    enum-known-self
+    enum-known-self-2
+    in-range-requires
+    enum-told-3
+    returns
+    returns-2
+    returns-3
+    returns-4
+    returns-5)

@@ -1,0 +1,55 @@
+use borrow.Author.Needs.{needs}
+use Rattle.slots.proofs.Place.waits_fine.Statement.{statement}
+use Rattle.slots.proofs.Place.waits_fine.Tie as tie
+use Rattle.slots.proofs.Place.waits_fine.Reads as reads
+use Rattle.slots.proofs.Place.waits_fine.Lts as lts
+use Rattle.slots.proofs.Kind.may_wait.Reads as may-wait-reads
+
+enum-told : tie.Need-enum-told
+enum-told c = search needs
+
+enum-told-2 : tie.Need-enum-told-2
+enum-told-2 c = search needs
+
+enum-told-3 : tie.Need-enum-told-3
+enum-told-3 c = search needs
+
+enum-told-4 : tie.Need-enum-told-4
+enum-told-4 c = search needs
+
+may-wait-requires : tie.Need-may-wait-requires
+may-wait-requires c κs = search needs
+
+enum-told-5 : tie.Need-enum-told-5
+enum-told-5 c = search needs
+
+returns : tie.Need-returns
+returns c = search needs
+
+returns-2 : tie.Need-returns-2
+returns-2 c = search needs
+
+returns-3 : tie.Need-returns-3
+returns-3 c = search needs
+
+returns-4 : tie.Need-returns-4
+returns-4 c = rw (c .before .enum-told4 .given .1) (c .may-wait .ensures)
+
+returns-5 : tie.Need-returns-5
+returns-5 c = search needs
+
+pub waits-fine-spec : {M : Type 1} → statement M
+waits-fine-spec =
+    tie.close
+    (tie.spec
+    enum-told
+    enum-told-2
+    enum-told-3
+    enum-told-4
+    may-wait-requires
+    enum-told-5
+    returns
+    returns-2
+    returns-3
+    returns-4
+    returns-5)

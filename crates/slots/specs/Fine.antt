@@ -1,0 +1,92 @@
+-- The sentences of soundness that speak of one slot, in document 01's order.
+use Prim.Native.Nat.{ℕ, _*_}
+use mathlib.Core.Bool.{Bool, true, false, not, _&&_, _||_}
+use mathlib.Core.List.{List, [], _∷_}
+use lib.Dec.{eqb, ltb, leb}
+use Rattle.lists.specs.Choice.{if_then_else_}
+use Rattle.lists.specs.Lists.{every}
+use Rattle.calls.specs.declared.TaskNo.{TaskNo}
+use Rattle.slots.specs.Types.{Wake, Never, At, Place, Free, Ready, Delayed, Waiting, Suspended, Task, Ring, Holder, Nobody, By, Kind, Unused, Queue, Mutex}
+use Rattle.slots.specs.Places.{isFree, isReady, isBlocked, isListed, wakesAt}
+use Rattle.slots.specs.Objects.{isBy, isTaken}
+
+-- idle is "always there, always ready, priority 0"
+abbrev pub idleFine : Task → Bool
+idleFine x = isReady (x .place) && (eqb (x .own) 0 && eqb (x .effective) 0)
+
+-- "each ready task stands once"; "each object lists its waiters once": n is how often it stands in the order
+abbrev pub standsFine : ℕ → Place → Bool
+standsFine n p = eqb n (if isListed p then 1 else 0)
+
+-- "receivers wait only on an empty queue, senders only on a full one, takers only on a mutex held by another"
+abbrev pub mayWait : TaskNo → Kind → Bool
+mayWait t Unused = false
+mayWait t (Queue q) = eqb (q .count) 0 || eqb (q .count) (q .capacity)
+mayWait t (Mutex h) = isTaken h && not (isBy t h)
+
+abbrev pub waitsFine : TaskNo → Kind → Place → Bool
+waitsFine t x Free = true
+waitsFine t x Ready = true
+waitsFine t x (Delayed w) = true
+waitsFine t x (Waiting o w) = mayWait t x
+waitsFine t x Suspended = true
+
+-- "effective is at least own, and equal to it for a task that holds nothing"; "Priorities 0 to 31"
+abbrev pub prioritiesFine : Bool → Task → Bool
+prioritiesFine holds x = leb (x .own) (x .effective) && (leb (x .effective) 31 && (holds || eqb (x .own) (x .effective)))
+
+-- "holders exist": p is where the holder stands
+abbrev pub holderIn : Place → Kind → Bool
+holderIn p Unused = true
+holderIn p (Queue q) = true
+holderIn p (Mutex Nobody) = true
+holderIn p (Mutex (By t)) = not (isFree p)
+
+-- "no wake tick of a delayed or waiting task equals the tick count"
+abbrev pub wakeInRange : Wake → Bool
+wakeInRange Never = true
+wakeInRange (At w) = leb w 4294967295
+
+abbrev pub wakesInRange : Place → Bool
+wakesInRange Free = true
+wakesInRange Ready = true
+wakesInRange (Delayed w) = leb w 4294967295
+wakesInRange (Waiting o w) = wakeInRange w
+wakesInRange Suspended = true
+
+abbrev pub notDue : ℕ → Place → Bool
+notDue tick p = wakesInRange p && not (wakesAt tick p)
+
+-- "counts and places obey the ranges": "A queue has capacity 1 to 64 and item size 0 to 64 bytes, with capacity times size at most 512"
+abbrev pub ringFine : Ring → Bool
+ringFine q =
+    (leb 1 (q .capacity) && leb (q .capacity) 64)
+    && ((leb (q .size) 64 && leb (q .capacity * q .size) 512)
+    && (ltb (q .first) (q .capacity) && leb (q .count) (q .capacity)))
+
+abbrev pub ringInRange : Kind → Bool
+ringInRange Unused = true
+ringInRange (Queue q) = ringFine q
+ringInRange (Mutex h) = true
+
+-- "an outcome is 0 to 3, and 0 if delayed or waiting"
+abbrev pub outcomeFine : Task → Bool
+outcomeFine x = leb (x .outcome) 3 && (not (isBlocked (x .place)) || eqb (x .outcome) 0)
+
+-- "free slots carry the fresh values"
+abbrev pub freshIfFree : Task → Bool
+freshIfFree x = not (isFree (x .place)) || (eqb (x .own) 0 && (eqb (x .effective) 0 && eqb (x .outcome) 0))
+
+-- all that is asked of the task t, x: it stands n times in the order, waits on an object of the kind o if it waits, and holds a mutex or not
+unfoldable pub taskFine : ℕ → TaskNo → ℕ → Kind → Bool → Task → Bool
+taskFine tick t n o holds x =
+    standsFine n (x .place)
+    && (waitsFine t o (x .place)
+    && (prioritiesFine holds x
+    && (notDue tick (x .place)
+    && (outcomeFine x
+    && freshIfFree x))))
+
+-- all that is asked of an object whose holder, if it has one, stands at p
+unfoldable pub kindFine : Place → Kind → Bool
+kindFine p x = holderIn p x && ringInRange x

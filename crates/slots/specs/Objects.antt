@@ -1,0 +1,64 @@
+-- "16 object slots, each free, a queue or a mutex."
+use Prim.Native.Nat.{ℕ}
+use mathlib.Core.Bool.{Bool, true, false}
+use mathlib.Core.List.{List}
+use lib.ListN.{set, replicate}
+use Rattle.lists.specs.Lists.{foldl}
+use Rattle.calls.specs.declared.TaskNo.{TaskNo}
+use Rattle.calls.specs.Numbers.{task, sameTask}
+use Rattle.slots.specs.Types.{Ring, Holder, Nobody, By, Kind, Unused, Queue, Mutex, Object}
+
+-- a free slot
+abbrev pub unused : Object
+unused = record { kind = Unused }
+
+abbrev pub isUnused : Kind → Bool
+isUnused Unused = true
+isUnused (Queue q) = false
+isUnused (Mutex h) = false
+
+abbrev pub isQueue : Kind → Bool
+isQueue Unused = false
+isQueue (Queue q) = true
+isQueue (Mutex h) = false
+
+abbrev pub isMutex : Kind → Bool
+isMutex Unused = false
+isMutex (Queue q) = false
+isMutex (Mutex h) = true
+
+abbrev pub isBy : TaskNo → Holder → Bool
+isBy t Nobody = false
+isBy t (By u) = sameTask u t
+
+abbrev pub isTaken : Holder → Bool
+isTaken Nobody = false
+isTaken (By u) = true
+
+-- a mutex that t holds; a mutex that someone holds
+abbrev pub heldBy : TaskNo → Kind → Bool
+heldBy t Unused = false
+heldBy t (Queue q) = false
+heldBy t (Mutex h) = isBy t h
+
+abbrev pub isHeld : Kind → Bool
+isHeld Unused = false
+isHeld (Queue q) = false
+isHeld (Mutex h) = isTaken h
+
+-- the task that holds it; a number past the table where nobody does
+abbrev pub byWhom : Holder → TaskNo
+byWhom Nobody = task 16
+byWhom (By t) = t
+
+abbrev pub holderOf : Kind → TaskNo
+holderOf Unused = task 16
+holderOf (Queue q) = task 16
+holderOf (Mutex h) = byWhom h
+
+-- what the code notes in one pass: for each slot, whether its task holds a mutex
+abbrev pub mark : List Bool → Object → List Bool
+mark c x = set c (holderOf (x .kind) .0) true
+
+unfoldable pub marksOf : List Object → List Bool
+marksOf os = foldl mark (replicate 16 false) os

@@ -1,0 +1,69 @@
+-- "An existing task is ready, delayed, waiting on one object, or suspended."
+use Prim.Native.Nat.{ℕ}
+use mathlib.Core.Bool.{Bool, true, false, _||_}
+use lib.Dec.{eqb}
+use Rattle.calls.specs.declared.ObjNo.{ObjNo}
+use Rattle.calls.specs.Numbers.{object, sameObject}
+use Rattle.slots.specs.Types.{Wake, Never, At, Place, Free, Ready, Delayed, Waiting, Suspended}
+
+-- the slot has no task
+abbrev pub isFree : Place → Bool
+isFree Free = true
+isFree Ready = false
+isFree (Delayed w) = false
+isFree (Waiting o w) = false
+isFree Suspended = false
+
+abbrev pub isReady : Place → Bool
+isReady Free = false
+isReady Ready = true
+isReady (Delayed w) = false
+isReady (Waiting o w) = false
+isReady Suspended = false
+
+abbrev pub isSuspended : Place → Bool
+isSuspended Free = false
+isSuspended Ready = false
+isSuspended (Delayed w) = false
+isSuspended (Waiting o w) = false
+isSuspended Suspended = true
+
+-- delayed, or waiting on an object
+abbrev pub isBlocked : Place → Bool
+isBlocked Free = false
+isBlocked Ready = false
+isBlocked (Delayed w) = true
+isBlocked (Waiting o w) = true
+isBlocked Suspended = false
+
+-- the order lists the ready, the delayed and the waiting
+abbrev pub isListed : Place → Bool
+isListed p = isReady p || isBlocked p
+
+abbrev pub waitsOn : ObjNo → Place → Bool
+waitsOn o Free = false
+waitsOn o Ready = false
+waitsOn o (Delayed w) = false
+waitsOn o (Waiting p w) = sameObject p o
+waitsOn o Suspended = false
+
+-- the object that it waits on; a number past the table where it waits on none
+abbrev pub waited : Place → ObjNo
+waited Free = object 16
+waited Ready = object 16
+waited (Delayed w) = object 16
+waited (Waiting o w) = o
+waited Suspended = object 16
+
+-- "a wait for ever has no wake tick"
+abbrev pub isAt : ℕ → Wake → Bool
+isAt n Never = false
+isAt n (At w) = eqb w n
+
+-- "the task is due when the count equals" its wake tick
+abbrev pub wakesAt : ℕ → Place → Bool
+wakesAt n Free = false
+wakesAt n Ready = false
+wakesAt n (Delayed w) = eqb w n
+wakesAt n (Waiting o w) = isAt n w
+wakesAt n Suspended = false
