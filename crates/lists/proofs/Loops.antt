@@ -7,7 +7,7 @@ use native.Mathlib.Numerals.{add-one}
 use native.Mathlib.Omega.{arith}
 use lib.ListN.{length, getD, take, drop, length-take, length-map, drop-of-length-le}
 use lib.Seq.{drop-cons, getD-take}
-use Rattle.lists.specs.Lists.{foldl, index, upTo, any, allBelow}
+use Rattle.lists.specs.Lists.{foldl, index, upTo, any, kept, allBelow}
 
 -- a loop over the first `n` of `xs`, up to `e`, that began in the state `b₀`, is at `i` in the state `b`:
 -- the rest, folded from `b`, gives what all gives
@@ -109,17 +109,47 @@ module _ {A : Type 0} {p : A → Bool} {xs : List A} where
   unfolding any
   none-left {i} inv h = rw (drop-of-length-le xs h) at (inv .left)
 
+-- a search through the first `n` of `xs`, up to `e`, for one that passes has met none below `i`
+pub record Skipped {A : Type 0} (p : A → Bool) (n : ℕ) (xs : List A) (e i : ℕ) : Type 0 where
+  pub within : i ≤ e
+  pub upto : e ≡ min n (length xs)
+  pub left : kept p (drop i (take n xs)) ≡ kept p (take n xs)
+
+module _ {A : Type 0} {p : A → Bool} {n : ℕ} {xs : List A} {e : ℕ} where
+  pub skip-none : e ≡ min n (length xs) → Skipped p n xs e 0
+  skip-none u = record { within = omega arith; upto = u; left = refl }
+
+  here : {i : ℕ} → Skipped p n xs e i → i < e → (d : A) → drop i (take n xs) ≡ getD xs i d ∷ drop (i + 1) (take n xs)
+  here {i} inv h d =
+      let l : i < length (take n xs) = rw length-take (omega arith) in
+      let k : i < n = omega arith in
+      rw (add-one, ← getD-take n xs i d k) (drop-cons (take n xs) i d l)
+
+  pub skip : {i : ℕ} → Skipped p n xs e i → i < e → (d : A) → p (getD xs i d) ≡ false → Skipped p n xs e (i + 1)
+  unfolding kept
+  skip inv h d q = record { within = omega arith; upto = inv .upto; left = rw q at (rw (here inv h d) at (inv .left)) }
+
+  pub met : {i : ℕ} → Skipped p n xs e i → i < e → (d : A) → p (getD xs i d) ≡ true → kept p (take n xs) ≡ getD xs i d ∷ kept p (drop (i + 1) (take n xs))
+  unfolding kept
+  met inv h d q = sym (rw q at (rw (here inv h d) at (inv .left)))
+
+  pub met-none : {i : ℕ} → Skipped p n xs e i → e ≤ i → kept p (take n xs) ≡ []
+  unfolding kept
+  met-none {i} inv h =
+      let k : length (take n xs) ≤ i = rw length-take (omega arith) in
+      sym (rw (drop-of-length-le (take n xs) k) at (inv .left))
+
 -- a loop that gathers in `ok` whether the test held of each number below `i`, and `b` before that
 pub record Held (p : ℕ → Bool) (b ok : Bool) (i : ℕ) : Type 0 where
   pub so : ok ≡ (b && allBelow i p)
 
-pub hold : {p : ℕ → Bool} {b ok : Bool} → ok ≡ b → Held p b ok 0
+pub all-begin : {p : ℕ → Bool} {b ok : Bool} → ok ≡ b → Held p b ok 0
 unfolding allBelow
-hold {b = b} e = record { so = rw and-true e }
+all-begin {b = b} e = record { so = rw and-true e }
 
-pub held : {p : ℕ → Bool} {b ok r : Bool} {i : ℕ} → Held p b ok i → r ≡ (ok && p i) → Held p b r (i + 1)
+pub all-turn : {p : ℕ → Bool} {b ok r : Bool} {i : ℕ} → Held p b ok i → r ≡ (ok && p i) → Held p b r (i + 1)
 unfolding allBelow
-held {p} {b} {i = i} h e = record { so = rw (e, h .so, add-one, and-assoc b (allBelow i p) (p i)) }
+all-turn {p} {b} {i = i} h e = record { so = rw (e, h .so, add-one, and-assoc b (allBelow i p) (p i)) }
 
-pub all-held : {p : ℕ → Bool} {b ok : Bool} {i : ℕ} → Held p b ok i → (n : ℕ) → i ≡ n → ok ≡ (b && allBelow n p)
-all-held {p} {b} h n e = rw (← e) (h .so)
+pub all-done : {p : ℕ → Bool} {b ok : Bool} {i : ℕ} → Held p b ok i → (n : ℕ) → i ≡ n → ok ≡ (b && allBelow n p)
+all-done {p} {b} h n e = rw (← e) (h .so)

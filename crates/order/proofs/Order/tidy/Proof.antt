@@ -1,7 +1,7 @@
 use borrow.Author.Needs.{needs}
 use Prim.Native.Nat.{_-_, _≤_}
 use Rattle.calls.specs.Numbers.{idle}
-use Rattle.lists.proofs.Loops.{Held, hold, held, all-held}
+use Rattle.lists.proofs.Loops.{Held, all-begin, all-turn, all-done}
 use Rattle.order.specs.Tidy.{tidyAt, tidy}
 use lib.Dec.{leb}
 use lib.ListN.{getD}
@@ -20,7 +20,7 @@ abbrev μ-loop : tie.MeasureT-loop
 μ-loop self n ok₀ i₀ ok i = 16 - i
 
 loop-holds : tie.Need-loop-holds Inv-loop μ-loop
-loop-holds c = (hold refl, search needs)
+loop-holds c = (all-begin refl, search needs)
 
 mul-x : tie.Need-mul-x Inv-loop μ-loop
 mul-x c = search needs
@@ -41,11 +41,11 @@ loop-less : tie.Need-loop-less Inv-loop μ-loop
 loop-less c = search needs
 
 loop-again : tie.Need-loop-again Inv-loop μ-loop
-loop-again c = (held (c .before .before .before .before .loop .inv .0) (c .both .ensures ∙ rw (c .before .tidy-at .ensures)), search needs)
+loop-again c = (all-turn (c .before .before .before .before .loop .inv .0) (c .both .ensures ∙ rw (c .before .tidy-at .ensures)), search needs)
 
 returns : tie.Need-returns Inv-loop μ-loop
 unfolding tidy
-returns c = all-held (c .before .loop .inv .0) 16 (search needs)
+returns c = all-done (c .before .loop .inv .0) 16 (search needs)
 
 pub tidy-spec : {M : Type 1} → statement M
 tidy-spec =

@@ -1,0 +1,101 @@
+use borrow.Author.Needs.{needs}
+use Prim.Native.Nat.{_-_}
+use Rattle.calls.specs.Numbers.{idle}
+use Rattle.kernel.proofs.Slots.{past-tasks}
+use Rattle.kernel.specs.Lines.{line}
+use Rattle.kernel.specs.Tables.{taskAt}
+use Rattle.lists.proofs.Loops.{length-mapped, Skipped, skip-none, skip, met, met-none}
+use Rattle.slots.specs.Tasks.{inLine}
+use lib.ListN.{length, getD}
+use mathlib.Core.Logic.{⊎-elim}
+use mathlib.Core.Path.{_≡_, _∙_}
+use native.Mathlib.Omega.{arith}
+use Rattle.kernel.proofs.Kernel.heads_line.Statement.{statement}
+use Rattle.kernel.proofs.Kernel.heads_line.Tie as tie
+use Rattle.kernel.proofs.Kernel.heads_line.Reads as reads
+use Rattle.kernel.proofs.Kernel.heads_line.Lts as lts
+use Rattle.calls.proofs.TaskNo.same.Reads as same-reads
+use Rattle.calls.proofs.TaskNo.slot.Reads as slot-reads
+use Rattle.order.proofs.Order.reach.Reads as reach-reads
+use Rattle.slots.proofs.Task.in_line.Reads as in-line-reads
+
+abbrev Inv-loop : tie.InvT-loop
+Inv-loop p self u o n i₀ i = Skipped (λ t. inLine p (taskAt (self .tasks) t)) (o .living) (o .places) n i
+
+abbrev μ-loop : tie.MeasureT-loop
+μ-loop p self u o n i₀ i = n - i
+
+reach-requires : tie.Need-reach-requires Inv-loop μ-loop
+reach-requires c κs = search needs
+
+loop-holds : tie.Need-loop-holds Inv-loop μ-loop
+loop-holds c =
+    let len : length (c .before .before .before .args .t1 .order .places) ≡ 16 = search length-mapped in
+    skip-none (omega arith)
+
+mul-t : tie.Need-mul-t Inv-loop μ-loop
+mul-t c = search needs
+
+element-copy-out-t : tie.Need-element-copy-out-t Inv-loop μ-loop
+element-copy-out-t c = search needs
+
+slot-requires : tie.Need-slot-requires Inv-loop μ-loop
+slot-requires c κs = search needs
+
+mul-x : tie.Need-mul-x Inv-loop μ-loop
+mul-x c = search needs
+
+element-copy-out-x : tie.Need-element-copy-out-x Inv-loop μ-loop
+element-copy-out-x c = search needs
+
+in-line-requires : tie.Need-in-line-requires Inv-loop μ-loop
+in-line-requires c κs = search needs
+
+same-requires : tie.Need-same-requires Inv-loop μ-loop
+same-requires c κs = search needs
+
+returns : tie.Need-returns Inv-loop μ-loop
+unfolding line taskAt
+returns c =
+    c .same .ensures ∙ rw (met (c .before .before .before .before .before .before .before .before .loop .inv) (search needs) idle (rw (← c .before .before .before .before .before .slot .ensures, ← c .before .before .in-line .ensures) (c .before .if2 .taken)))
+
+add-i : tie.Need-add-i Inv-loop μ-loop
+add-i c = search needs
+
+loop-less : tie.Need-loop-less Inv-loop μ-loop
+loop-less c = search needs
+
+loop-again : tie.Need-loop-again Inv-loop μ-loop
+unfolding taskAt
+loop-again c =
+    let len : length (c .before .before .before .before .before .before .before .before .args .t1 .tasks) ≡ 16 = search length-mapped in
+    skip (c .before .before .before .before .loop .inv) (search needs) idle
+    (⊎-elim
+    (λ w. rw (← c .before .slot .ensures, ← w .2 .ensures) (w .3 .left))
+    (λ w. rw (past-tasks (c .before .before .before .before .before .before .before .before .args .t1 .tasks) (getD (c .before .before .before .before .before .before .before .before .args .t1 .order .places) (c .before .before .before .before .loop .i) idle) (omega (arith, w .left))))
+    (c .if1 .came))
+
+returns-2 : tie.Need-returns-2 Inv-loop μ-loop
+unfolding line
+returns-2 c = rw (met-none (c .before .loop .inv) (search needs))
+
+pub heads-line-spec : {M : Type 1} → statement M
+heads-line-spec =
+    tie.close
+    (tie.spec
+    Inv-loop
+    μ-loop
+    reach-requires
+    loop-holds
+    mul-t
+    element-copy-out-t
+    slot-requires
+    mul-x
+    element-copy-out-x
+    in-line-requires
+    same-requires
+    returns
+    add-i
+    loop-less
+    loop-again
+    returns-2)

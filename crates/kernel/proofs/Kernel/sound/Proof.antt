@@ -1,0 +1,107 @@
+use borrow.Author.Needs.{needs}
+use Rattle.kernel.proofs.Quicks.{quick-is}
+use mathlib.Core.Path.{_∙_}
+use Rattle.kernel.proofs.Kernel.sound.Statement.{statement}
+use Rattle.kernel.proofs.Kernel.sound.Tie as tie
+use Rattle.kernel.proofs.Kernel.sound.Reads as reads
+use Rattle.kernel.proofs.Kernel.sound.Lts as lts
+use Rattle.calls.proofs.TaskNo.of.Reads as of-reads
+use Rattle.kernel.proofs.Kernel.holders.Reads as holders-reads
+use Rattle.kernel.proofs.Kernel.objects_fine.Reads as objects-fine-reads
+use Rattle.kernel.proofs.Kernel.runs_fine.Reads as runs-fine-reads
+use Rattle.kernel.proofs.Kernel.shaped.Reads as shaped-reads
+use Rattle.kernel.proofs.Kernel.task.Reads as task-reads
+use Rattle.kernel.proofs.Kernel.tasks_fine.Reads as tasks-fine-reads
+use Rattle.lists.proofs.both.Reads as both-reads
+use Rattle.lists.proofs.either.Reads as either-reads
+use Rattle.order.proofs.Order.tallies.Reads as tallies-reads
+use Rattle.order.proofs.Order.tidy.Reads as tidy-reads
+use Rattle.slots.proofs.Task.idle_fine.Reads as idle-fine-reads
+
+holders-requires : tie.Need-holders-requires
+holders-requires c κs = search needs
+
+of-requires : tie.Need-of-requires
+of-requires c κs = search needs
+
+task-requires : tie.Need-task-requires
+task-requires c κs = search needs
+
+idle-fine-requires : tie.Need-idle-fine-requires
+idle-fine-requires c κs = search needs
+
+array-read-both : tie.Need-array-read-both
+array-read-both c = search needs
+
+both-requires : tie.Need-both-requires
+both-requires c κs = search needs
+
+tallies-requires : tie.Need-tallies-requires
+tallies-requires c κs = search needs
+
+tasks-fine-requires : tie.Need-tasks-fine-requires
+tasks-fine-requires c κs = search needs
+
+objects-fine-requires : tie.Need-objects-fine-requires
+objects-fine-requires c κs = search needs
+
+both-requires-2 : tie.Need-both-requires-2
+both-requires-2 c κs = search needs
+
+either-requires : tie.Need-either-requires
+either-requires c κs = search needs
+
+runs-fine-requires : tie.Need-runs-fine-requires
+runs-fine-requires c κs = search needs
+
+tidy-requires : tie.Need-tidy-requires
+tidy-requires c κs = search needs
+
+both-requires-3 : tie.Need-both-requires-3
+both-requires-3 c κs = search needs
+
+both-requires-4 : tie.Need-both-requires-4
+both-requires-4 c κs = search needs
+
+shaped-requires : tie.Need-shaped-requires
+shaped-requires c κs = search needs
+
+both-requires-5 : tie.Need-both-requires-5
+both-requires-5 c κs = search needs
+
+both-requires-6 : tie.Need-both-requires-6
+both-requires-6 c κs = search needs
+
+both-requires-7 : tie.Need-both-requires-7
+both-requires-7 c κs = search needs
+
+returns : tie.Need-returns
+returns c =
+    c .both7 .ensures
+    ∙ rw (c .before .both6 .ensures, c .before .before .both5 .ensures, c .before .before .before .shaped .ensures, c .before .before .before .before .both4 .ensures, c .before .before .before .before .before .both3 .ensures, c .before .before .before .before .before .before .tidy .ensures, c .before .before .before .before .before .before .before .runs-fine .ensures, c .before .before .before .before .before .before .before .before .either .ensures, c .before .before .before .before .before .before .before .before .before .before .before .both2 .ensures, c .before .before .before .before .before .before .before .before .before .before .before .before .objects-fine .ensures, c .before .before .before .before .before .before .before .before .before .before .before .before .before .tasks-fine .ensures, c .before .before .before .before .before .before .before .before .before .before .before .before .before .before .tallies .ensures, c .before .before .before .before .before .before .before .before .before .before .before .before .before .before .before .both .ensures, c .before .before .before .before .before .before .before .before .before .before .before .before .before .before .before .before .idle-fine .ensures, c .before .before .before .before .before .before .before .before .before .before .before .before .before .before .before .before .before .task .ensures, c .before .before .before .before .before .before .before .before .before .before .before .before .before .before .before .before .before .before .of .ensures, c .before .before .before .before .before .before .before .before .before .before .before .before .before .before .before .before .before .before .before .holders .ensures)
+    (quick-is (c .before .before .before .before .before .before .before .before .before .before .before .before .before .before .before .before .before .before .before .before .before .args .self))
+
+pub sound-spec : {M : Type 1} → statement M
+sound-spec =
+    tie.close
+    (tie.spec
+    holders-requires
+    of-requires
+    task-requires
+    idle-fine-requires
+    array-read-both
+    both-requires
+    tallies-requires
+    tasks-fine-requires
+    objects-fine-requires
+    both-requires-2
+    either-requires
+    runs-fine-requires
+    tidy-requires
+    both-requires-3
+    both-requires-4
+    shaped-requires
+    both-requires-5
+    both-requires-6
+    both-requires-7
+    returns)

@@ -1,0 +1,14 @@
+pub mod Types
+pub mod Tables
+pub mod Lines
+pub mod Sound
+pub mod Quick
+pub mod Sentences
+pub mod Asking
+pub mod Refusals
+pub mod Waits
+pub mod Loans
+pub mod Ticks
+pub mod Items
+pub mod Effects
+pub mod Step

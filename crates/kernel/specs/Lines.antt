@@ -1,0 +1,59 @@
+-- Lines and lists of waiters: the one order, passed through a test. Who stands first, and who runs.
+use Prim.Native.Nat.{ℕ}
+use mathlib.Core.Bool.{Bool, true, false}
+use mathlib.Core.List.{List, [], _∷_, _++_}
+use lib.Dec.{eqb}
+use Rattle.lists.specs.Choice.{if_then_else_}
+use Rattle.lists.specs.Lists.{larger, kept, head}
+use Rattle.order.specs.Order.{listed, ordered, without}
+use Rattle.slots.specs.Places.{isBlocked}
+use Rattle.slots.specs.Tasks.{inLine}
+use Rattle.slots.specs.Leads.{isWho}
+use Rattle.kernel.specs.Types.{TaskNo, ObjNo, Task, Who, AllReady, WaitersOf, Kernel}
+use Rattle.kernel.specs.Tables.{taskAt, withOrder, withRunning}
+
+-- "Each priority has a line of its ready tasks": the line of p, of the tasks that l lists
+unfoldable pub line : List Task → ℕ → List TaskNo → List TaskNo
+line ts p l = kept (λ t. inLine p (taskAt ts t)) l
+
+-- those meant: the ready ones, or an object's waiters, "in order of arrival"
+unfoldable pub those : List Task → Who → List TaskNo → List TaskNo
+those ts w l = kept (λ t. isWho w (taskAt ts t .place)) l
+
+-- the delayed and the waiting, in the order in which they began
+unfoldable pub blockedIn : List Task → List TaskNo → List TaskNo
+blockedIn ts l = kept (λ t. isBlocked (taskAt ts t .place)) l
+
+-- a task's effective priority; the highest of several, 0 for none
+abbrev pub level : List Task → TaskNo → ℕ
+level ts t = taskAt ts t .effective
+
+unfoldable pub highest : List Task → List TaskNo → ℕ
+highest ts [] = 0
+highest ts (t ∷ l) = larger (level ts t) (highest ts l)
+
+-- "highest effective priority, then earliest arrival": a list of one, or of none
+unfoldable pub leader : List Task → List TaskNo → List TaskNo
+leader ts l = head (kept (λ t. eqb (level ts t) (highest ts l)) l)
+
+-- of the ready "the head of the highest occupied line"; of an object's waiters the "First waiter"
+unfoldable pub first : Kernel → Who → List TaskNo
+first k w = leader (k .tasks) (those (k .tasks) w (listed (k .order)))
+
+-- "Choose. With hold 0, the head of the highest occupied line runs; a task overtaken stays at the head of its line. With a hold, the running task stays."
+abbrev pub runsIf : Kernel → List TaskNo → Kernel
+runsIf k [] = k
+runsIf k (t ∷ l) = withRunning k t
+
+unfoldable pub chosen : Kernel → Kernel
+chosen k = if eqb (k .hold) 0 then runsIf k (first k AllReady) else k
+
+-- to the tail of its line or list; to the head; out of the order
+unfoldable pub toTail : Kernel → TaskNo → Kernel
+toTail k t = withOrder k (ordered (without t (listed (k .order)) ++ (t ∷ [])))
+
+unfoldable pub toHead : Kernel → TaskNo → Kernel
+toHead k t = withOrder k (ordered (t ∷ without t (listed (k .order))))
+
+unfoldable pub leaves : Kernel → TaskNo → Kernel
+leaves k t = withOrder k (ordered (without t (listed (k .order))))
