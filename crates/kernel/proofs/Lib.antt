@@ -1,3 +1,4 @@
 pub mod Slots
 pub mod Leads
 pub mod Quicks
+pub mod Says

@@ -3,3 +3,4 @@ pub mod Lines
 pub mod Counts
 pub mod Tallies
 pub mod Rooms
+pub mod Tests
