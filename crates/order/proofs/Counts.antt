@@ -55,6 +55,16 @@ module _ (t : TaskNo) where
       go true e ih = rw (ne-eqb (x .0) u (λ q. h (sym (eqb-true _ _ e) ∙ q)), ih) (omega arith)
       go false e ih = rw ih
 
+  -- who does not stand there is not missed
+  pub without-none : (xs : List TaskNo) → count (t .0) xs ≡ 0 → without t xs ≡ xs
+  unfolding count without
+  without-none [] h = refl
+  without-none (x ∷ xs) h = go (sameTask x t) refl (without-none xs)
+    where
+      go : (b : Bool) → sameTask x t ≡ b → (count (t .0) xs ≡ 0 → without t xs ≡ xs) → (if b then without t xs else x ∷ without t xs) ≡ x ∷ xs
+      go true e ih = absurd (omega (arith, rw e at h))
+      go false e ih = rw (ih (omega (arith, rw e at h)))
+
   pub length-without : (xs : List TaskNo) → length (without t xs) + count (t .0) xs ≡ length xs
   unfolding count without
   length-without [] = refl

@@ -1,0 +1,6 @@
+-- The declared records and variants, under one name.
+pub use Rattle.calls.specs.declared.TaskNo.{TaskNo}
+pub use Rattle.calls.specs.declared.ObjNo.{ObjNo}
+pub use Rattle.calls.specs.declared.Call.{Call}
+pub use Rattle.calls.specs.declared.Call.the-variants.{Create, Delete, Suspend, Resume, SetPriority, Delay, Yield, Hold, Release, MakeQueue, MakeMutex, Remove, Send, Receive, Take, Give, Tick}
+pub use Rattle.kernel.specs.declared.Kernel.{Kernel}

@@ -1,0 +1,133 @@
+// Kernel values made by hand: some sound, and one unsound by each clause that the types leave open. What `sound` says of each is written down.
+use calls::ObjNo;
+use calls::TaskNo;
+use kernel::Kernel;
+use order::Order;
+use slots::Holder;
+use slots::Kind;
+use slots::Object;
+use slots::Place;
+use slots::Ring;
+use slots::Task;
+use slots::Wake;
+
+mod objects;
+mod orders;
+mod tasks;
+
+fn task(place: Place, own: u8, effective: u8, outcome: u8) -> Task {
+    Task {
+        place,
+        own,
+        effective,
+        outcome,
+    }
+}
+
+fn ring(capacity: u8, size: u8, first: u8, count: u8) -> Kind {
+    Kind::Queue(Ring {
+        capacity,
+        size,
+        first,
+        count,
+    })
+}
+
+fn held_by(n: u32) -> Kind {
+    Kind::Mutex(Holder::By(TaskNo::of(n)))
+}
+
+fn waiting(o: u32, w: Wake) -> Place {
+    Place::Waiting(ObjNo::of(o), w)
+}
+
+fn put_task(mut k: Kernel, i: usize, x: Task) -> Kernel {
+    if i < 16 {
+        k.tasks[i] = x;
+    }
+    k
+}
+
+fn put_kind(mut k: Kernel, i: usize, kind: Kind) -> Kernel {
+    if i < 16 {
+        let x = Object { kind };
+        k.objects[i] = x;
+    }
+    k
+}
+
+fn put_order(mut k: Kernel, o: Order) -> Kernel {
+    k.order = o;
+    k
+}
+
+// The number `n` once more, at the end.
+fn listed_too(k: Kernel, n: u32) -> Kernel {
+    let o = k.order;
+    put_order(k, o.appended(TaskNo::of(n)))
+}
+
+fn unlisted(k: Kernel, n: u32) -> Kernel {
+    let o = k.order;
+    put_order(k, o.without(TaskNo::of(n)))
+}
+
+// Task 1 runs and holds mutex 2 for task 6; 2 is ready; 3 is delayed; 4 receives on queue 0; 5 sends on queue 1; 7 is suspended, and listed nowhere.
+fn parlour() -> Kernel {
+    let k = parlour_tasks(Kernel::fresh());
+    let k = put_kind(k, 0, ring(4, 8, 1, 0));
+    let k = put_kind(k, 1, ring(2, 0, 0, 2));
+    let k = put_kind(k, 2, held_by(1));
+    let mut k = put_kind(k, 3, Kind::Mutex(Holder::Nobody));
+    k.running = TaskNo::of(1);
+    k.tick = 5;
+    k
+}
+
+fn parlour_tasks(k: Kernel) -> Kernel {
+    let k = put_task(k, 1, task(Place::Ready, 3, 5, 0));
+    let k = put_task(k, 2, task(Place::Ready, 3, 3, 1));
+    let k = put_task(k, 3, task(Place::Delayed(10), 4, 4, 0));
+    let k = put_task(k, 4, task(waiting(0, Wake::At(20)), 4, 4, 0));
+    let k = put_task(k, 5, task(waiting(1, Wake::Never), 2, 2, 0));
+    let k = put_task(k, 6, task(waiting(2, Wake::At(30)), 5, 5, 0));
+    let k = put_task(k, 7, task(Place::Suspended, 6, 6, 3));
+    listed_too(
+        listed_too(
+            listed_too(listed_too(listed_too(listed_too(k, 1), 2), 3), 4),
+            5,
+        ),
+        6,
+    )
+}
+
+fn say(label: &[u8], k: Kernel) {
+    io::write_all(libc::STDOUT_FILENO, label);
+    if k.sound() {
+        io::write_all(libc::STDOUT_FILENO, b": sound\n");
+    } else {
+        io::write_all(libc::STDOUT_FILENO, b": not sound\n");
+    }
+}
+
+fn good() {
+    say(b"fresh", Kernel::fresh());
+    say(b"a suspended task that the order does not list", parlour());
+    let mut k = put_task(parlour(), 2, task(Place::Ready, 6, 6, 0));
+    k.hold = 1;
+    k.pended = 3;
+    say(b"with a hold: a higher line, and ticks pended", k);
+}
+
+fn main() {
+    good();
+    tasks::idle();
+    tasks::priorities();
+    tasks::values();
+    orders::listing();
+    orders::many();
+    orders::running();
+    objects::waits();
+    objects::holders();
+    objects::rings();
+}

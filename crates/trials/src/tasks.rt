@@ -1,0 +1,69 @@
+// Tasks with a value that no sound kernel has.
+use crate::held_by;
+use crate::parlour;
+use crate::put_kind;
+use crate::put_task;
+use crate::say;
+use crate::task;
+use crate::unlisted;
+use crate::waiting;
+use slots::Place;
+use slots::Wake;
+
+pub fn idle() {
+    say(
+        b"idle suspended",
+        unlisted(put_task(parlour(), 0, task(Place::Suspended, 0, 0, 0)), 0),
+    );
+    say(
+        b"idle at priority 1",
+        put_task(parlour(), 0, task(Place::Ready, 1, 1, 0)),
+    );
+    say(b"idle holds a mutex", put_kind(parlour(), 3, held_by(0)));
+}
+
+pub fn priorities() {
+    say(
+        b"effective below own",
+        put_task(parlour(), 1, task(Place::Ready, 6, 5, 0)),
+    );
+    say(
+        b"effective above own, no mutex held",
+        put_task(parlour(), 2, task(Place::Ready, 2, 3, 1)),
+    );
+    say(
+        b"priority 32",
+        put_task(parlour(), 7, task(Place::Suspended, 32, 32, 3)),
+    );
+}
+
+pub fn values() {
+    let mut k = parlour();
+    k.tick = 10;
+    say(b"a delay's wake tick is the tick count", k);
+    k.tick = 20;
+    say(b"a wait's wake tick is the tick count", k);
+    say(
+        b"outcome 4",
+        put_task(parlour(), 2, task(Place::Ready, 3, 3, 4)),
+    );
+    say(
+        b"outcome 1 while delayed",
+        put_task(parlour(), 3, task(Place::Delayed(10), 4, 4, 1)),
+    );
+    say(
+        b"outcome 2 while waiting",
+        put_task(parlour(), 4, task(waiting(0, Wake::At(20)), 4, 4, 2)),
+    );
+    say(
+        b"a free slot with a priority",
+        put_task(parlour(), 8, task(Place::Free, 1, 1, 0)),
+    );
+    say(
+        b"a free slot with an outcome",
+        put_task(parlour(), 8, task(Place::Free, 0, 0, 1)),
+    );
+    let mut k = parlour();
+    k.pended = 1;
+    say(b"a tick pended with no hold", k);
+}
