@@ -7,7 +7,7 @@ use native.Mathlib.Omega.{arith}
 use lib.Dec.{eqb, ltb}
 use borrow.Author.Tests.{ltb-true, ltb-false, lt-ltb, le-ltb, eq-eqb, ne-eqb}
 use Rattle.lists.specs.Choice.{if_then_else_}
-use Rattle.lists.specs.Lists.{larger, foldl, kept, head}
+use Rattle.lists.specs.Lists.{larger, foldl, kept, head, isNone}
 use Rattle.order.specs.Order.{listed}
 use Rattle.slots.specs.Places.{isReady}
 use Rattle.slots.specs.Tasks.{inLine}
@@ -17,6 +17,10 @@ use Rattle.kernel.specs.Tables.{taskAt}
 use Rattle.kernel.specs.Lines.{line, those, level, highest, leader, first}
 
 module _ (ts : List Task) where
+  none-highest : highest ts [] ≤ 0
+  unfolding highest
+  none-highest = omega arith
+
   -- who stands in front leads, unless one behind has a higher priority
   pub leader-cons : (t : TaskNo) (l : List TaskNo) → leader ts (t ∷ l) ≡ (if ltb (level ts t) (highest ts l) then leader ts l else t ∷ [])
   unfolding leader highest kept
@@ -26,6 +30,17 @@ module _ (ts : List Task) where
           → head (kept (λ u. eqb (level ts u) (if b then highest ts l else level ts t)) (t ∷ l)) ≡ (if b then leader ts l else t ∷ [])
       go true e = rw (ne-eqb (level ts t) (highest ts l) (λ q. omega (arith, ltb-true (level ts t) (highest ts l) e)))
       go false e = rw (eq-eqb (level ts t) (level ts t) refl)
+
+  -- someone leads, unless there is none
+  pub leader-none : (l : List TaskNo) → isNone (leader ts l) ≡ isNone l
+  unfolding leader kept
+  leader-none [] = refl
+  leader-none (t ∷ l) = rw (leader-cons t l) (go l (ltb (level ts t) (highest ts l)) refl (leader-none l))
+    where
+      go : (m : List TaskNo) (b : Bool) → ltb (level ts t) (highest ts m) ≡ b → isNone (leader ts m) ≡ isNone m → isNone (if b then leader ts m else t ∷ []) ≡ false
+      go m false e ih = refl
+      go [] true e ih = absurd (omega (arith, ltb-true (level ts t) (highest ts []) e, none-highest))
+      go (u ∷ m) true e ih = ih
 
   module _ (w : Who) where
     abbrev step : Lead → TaskNo → Lead

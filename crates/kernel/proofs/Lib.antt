@@ -3,3 +3,7 @@ pub mod Leads
 pub mod Moves
 pub mod Quicks
 pub mod Says
+pub mod Within
+pub mod Passes
+pub mod Ends
+pub mod Asks

@@ -6,7 +6,7 @@ use lib.Dec.{eqb}
 use Rattle.lists.specs.Choice.{if_then_else_}
 use Rattle.calls.specs.Numbers.{task, object}
 use Rattle.slots.specs.Places.{isBlocked, isListed}
-use Rattle.slots.specs.Tasks.{freeTask, readyAt, placed}
+use Rattle.slots.specs.Tasks.{freeTask, readyAt, placed, brokenOff}
 use Rattle.kernel.specs.Types.{TaskNo, ObjNo, Place, Delayed, Suspended, Task, Ring, Holder, Nobody, By, Kind, Unused, Queue, Mutex, WaitersOf, Kernel, Call, Create, Delete, Suspend, Resume, SetPriority, Delay, Yield, Hold, Release, MakeQueue, MakeMutex, Remove, Send, Receive, Take, Give, Tick}
 use Rattle.kernel.specs.Tables.{taskAt, kindAt, freeSlot, freeObject, withTask, withObject}
 use Rattle.kernel.specs.Lines.{first, toTail, leaves}
@@ -24,9 +24,6 @@ unfoldable pub deleted : Kernel → TaskNo → Kernel
 deleted k t = leaves (withTask k t freeTask) t
 
 -- 3: "if delayed or waiting, leaves that with outcome 3; if ready, outcome stays; already suspended: nothing changes"
-abbrev pub brokenOff : Task → Task
-brokenOff x = placed x Suspended (if isBlocked (x .place) then 3 else x .outcome)
-
 unfoldable pub suspended : Kernel → TaskNo → Kernel
 suspended k t =
     if isListed (taskAt (k .tasks) t .place) then leaves (withTask k t (brokenOff (taskAt (k .tasks) t))) t else k

@@ -5,7 +5,7 @@ use mathlib.Core.List.{List, [], _∷_}
 use lib.Dec.{eqb, ltb}
 use Rattle.lists.specs.Choice.{if_then_else_}
 use Rattle.items.specs.Bytes.{bytesAt, putAt}
-use Rattle.kernel.specs.Types.{TaskNo, ObjNo, Ring, Kind, Unused, Queue, Mutex, WaitersOf, Kernel}
+use Rattle.kernel.specs.Types.{TaskNo, ObjNo, Ring, Kind, Unused, Queue, Mutex, WaitersOf, Outlet, toWaiter, toQueue, toCaller, Kernel}
 use Rattle.kernel.specs.Tables.{withObject}
 use Rattle.kernel.specs.Lines.{first}
 use Rattle.kernel.specs.Waits.{readied, waitFor}
@@ -26,10 +26,6 @@ abbrev pub oneLess : Ring → Ring
 oneLess q = record { capacity = q .capacity; size = q .size; first = (q .first + 1) % q .capacity; count = q .count - 1 }
 
 -- where a sent item goes: "If a receiver waits, the first waiter gets the item"; "Else, if there is room, the item is appended. Else the item goes to the caller's slip and the caller waits."
-pub data Outlet : Type 0 where
-  toWaiter : TaskNo → Outlet
-  toQueue toCaller : Outlet
-
 abbrev pub roomOr : Ring → Outlet
 roomOr q = if ltb (q .count) (q .capacity) then toQueue else toCaller
 

@@ -12,3 +12,4 @@ pub mod Ticks
 pub mod Items
 pub mod Effects
 pub mod Step
+pub mod Promises

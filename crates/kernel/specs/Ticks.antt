@@ -1,26 +1,17 @@
 -- The tick: count and wakes, the turn of the line; and the release that runs pended ticks.
 use Prim.Native.Nat.{ℕ, _+_, _-_}
 use mathlib.Core.Bool.{Bool, true, false}
-use mathlib.Core.List.{List, [], _∷_}
 use lib.Dec.{eqb, ltb}
 use Rattle.lists.specs.Choice.{if_then_else_}
 use Rattle.lists.specs.Lists.{upTo}
 use Rattle.calls.specs.Numbers.{task}
 use Rattle.order.specs.Order.{listed}
-use Rattle.slots.specs.Places.{isBlocked, wakesAt}
-use Rattle.kernel.specs.Types.{TaskNo, Place, Free, Ready, Delayed, Waiting, Suspended, Kernel}
+use Rattle.slots.specs.Places.{wakesAt, outcomeDue}
+use Rattle.kernel.specs.Types.{Kernel}
 use Rattle.kernel.specs.Tables.{taskAt, withTick, withHold}
 use Rattle.kernel.specs.Lines.{level, toTail}
 use Rattle.kernel.specs.Sound.{noHigher}
 use Rattle.kernel.specs.Waits.{later, readied}
-
--- "a delayed one with outcome 1, a waiting one leaving its object with outcome 2"
-abbrev pub outcomeDue : Place → ℕ
-outcomeDue Free = 0
-outcomeDue Ready = 0
-outcomeDue (Delayed w) = 1
-outcomeDue (Waiting o w) = 2
-outcomeDue Suspended = 0
 
 -- the task of slot n, made ready if it is due
 unfoldable pub wokenIfDue : Kernel → ℕ → Kernel

@@ -25,3 +25,6 @@ pub use Rattle.slots.specs.declared.Found.the-variants.{NoOne, Someone}
 pub use Rattle.slots.specs.declared.Lead.{Lead}
 pub use Rattle.slots.specs.declared.Lead.the-variants.{Open, Best}
 pub use Rattle.kernel.specs.declared.Kernel.{Kernel}
+pub use Rattle.kernel.specs.declared.Step.{Step}
+pub use Rattle.kernel.specs.declared.Outlet.{Outlet}
+pub use Rattle.kernel.specs.declared.Outlet.the-variants.{Waiter as toWaiter, Ring as toQueue, Caller as toCaller}

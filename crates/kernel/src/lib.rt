@@ -1,8 +1,19 @@
 // The kernel: a value that goes in with a call, and comes back with the next state, the running task and an answer.
+mod asking;
+mod endings;
 mod lines;
+mod loans;
+mod queues;
+mod refusals;
+mod rings;
+mod serving;
 mod sound;
+mod stepping;
 mod tables;
+mod ticks;
+mod waits;
 
+use calls::Answer;
 use calls::TaskNo;
 use order::Order;
 use slots::Object;
@@ -16,4 +27,17 @@ pub struct Kernel {
     pub tick: u32,
     pub hold: u8,
     pub pended: u16,
+}
+
+// What comes of a call: the next kernel, with the task that then runs, and the answer.
+pub struct Step {
+    pub kernel: Kernel,
+    pub answer: Answer,
+}
+
+// Where a sent item goes: to the first waiting receiver, into the queue, or to the slip of the caller, who waits.
+pub enum Outlet {
+    Waiter(TaskNo),
+    Ring,
+    Caller,
 }

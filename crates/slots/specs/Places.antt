@@ -67,3 +67,11 @@ wakesAt n Ready = false
 wakesAt n (Delayed w) = eqb w n
 wakesAt n (Waiting o w) = isAt n w
 wakesAt n Suspended = false
+
+-- "a delayed one with outcome 1, a waiting one leaving its object with outcome 2"
+abbrev pub outcomeDue : Place → ℕ
+outcomeDue Free = 0
+outcomeDue Ready = 0
+outcomeDue (Delayed w) = 1
+outcomeDue (Waiting o w) = 2
+outcomeDue Suspended = 0

@@ -1,5 +1,7 @@
 // The best of the tasks looked at so far.
 ghost use mathlib.Core.Path.{_≡_};
+ghost use mathlib.Core.Bool.{not};
+ghost use Rattle.lists.specs.Lists.{isNone};
 ghost use Rattle.slots.specs.Leads.{isWho, whom, leadOver, better, leads};
 use crate::Found;
 use crate::Lead;
@@ -53,6 +55,17 @@ impl Lead {
         match self {
             Lead::Open => Found::NoOne,
             Lead::Best(t, _) => Found::Someone(t),
+        }
+    }
+}
+
+impl Found {
+    pub fn is_some(self) -> bool
+        ensures { λ r. ⌜ r ≡ not (isNone (whom self)) ⌝ }
+    {
+        match self {
+            Found::NoOne => false,
+            Found::Someone(_) => true,
         }
     }
 }

@@ -1,6 +1,6 @@
 // Where a task stands.
 ghost use mathlib.Core.Path.{_≡_};
-ghost use Rattle.slots.specs.Places.{isFree, isReady, isSuspended, isBlocked, isListed, waitsOn, waited, isAt, wakesAt};
+ghost use Rattle.slots.specs.Places.{isFree, isReady, isSuspended, isBlocked, isListed, waitsOn, waited, isAt, wakesAt, outcomeDue};
 use crate::Place;
 use crate::Wake;
 use calls::ObjNo;
@@ -106,6 +106,19 @@ impl Place {
             Place::Delayed(w) => w == n,
             Place::Waiting(_, w) => w.is_at(n),
             Place::Suspended => false,
+        }
+    }
+
+    // The outcome of a delay or wait that ends because it is due.
+    pub fn outcome_due(self) -> u8
+        ensures { λ r. ⌜ r ≡ outcomeDue self ⌝ }
+    {
+        match self {
+            Place::Free => 0,
+            Place::Ready => 0,
+            Place::Delayed(_) => 1,
+            Place::Waiting(_, _) => 2,
+            Place::Suspended => 0,
         }
     }
 }

@@ -1,0 +1,51 @@
+use borrow.Author.Needs.{needs}
+use Rattle.calls.specs.Asked.{asked}
+use Rattle.kernel.proofs.Ends.{makes}
+use Rattle.kernel.specs.Effects.{created, effect}
+use Rattle.kernel.specs.Step.{answered}
+use Rattle.kernel.specs.Types.{Create}
+use mathlib.Core.Path.{_∙_}
+use Rattle.kernel.proofs.Kernel.create.Statement.{statement}
+use Rattle.kernel.proofs.Kernel.create.Tie as tie
+use Rattle.kernel.proofs.Kernel.create.Reads as reads
+use Rattle.kernel.proofs.Kernel.create.Lts as lts
+use Rattle.calls.proofs.TaskNo.of.Reads as of-reads
+use Rattle.kernel.proofs.Kernel.free_slot.Reads as free-slot-reads
+use Rattle.kernel.proofs.Kernel.made.Reads as made-reads
+use Rattle.kernel.proofs.Kernel.to_tail.Reads as to-tail-reads
+use Rattle.kernel.proofs.Kernel.with_task.Reads as with-task-reads
+use Rattle.slots.proofs.Task.ready_at.Reads as ready-at-reads
+
+free-slot-requires : tie.Need-free-slot-requires
+free-slot-requires c κs = search needs
+
+of-requires : tie.Need-of-requires
+of-requires c κs = search needs
+
+ready-at-requires : tie.Need-ready-at-requires
+ready-at-requires c κs = search needs
+
+with-task-requires : tie.Need-with-task-requires
+with-task-requires c κs = search needs
+
+to-tail-requires : tie.Need-to-tail-requires
+to-tail-requires c κs = search needs
+
+made-requires : tie.Need-made-requires
+made-requires c κs = search needs
+
+returns : tie.Need-returns
+unfolding effect created asked answered
+returns c = makes (c .before .before .before .before .before .before .args .self) (Create (c .before .before .before .before .before .before .args .p)) (c .before .to-tail .ensures ∙ rw (c .before .before .with-task .ensures, c .before .before .before .ready-at .ensures, c .before .before .before .before .of .ensures, c .before .before .before .before .before .free-slot .ensures)) (λ next. rw (c .before .before .before .before .before .free-slot .ensures)) (c .made .ensures)
+
+pub create-spec : {M : Type 1} → statement M
+create-spec =
+    tie.close
+    (tie.spec
+    free-slot-requires
+    of-requires
+    ready-at-requires
+    with-task-requires
+    to-tail-requires
+    made-requires
+    returns)

@@ -1,0 +1,49 @@
+use borrow.Author.Needs.{needs}
+use Rattle.kernel.specs.Effects.{handedOn}
+use mathlib.Core.Path.{_∙_}
+use Rattle.kernel.proofs.Kernel.handed_on.Statement.{statement}
+use Rattle.kernel.proofs.Kernel.handed_on.Tie as tie
+use Rattle.kernel.proofs.Kernel.handed_on.Reads as reads
+use Rattle.kernel.proofs.Kernel.handed_on.Lts as lts
+use Rattle.kernel.proofs.Kernel.first.Reads as first-reads
+use Rattle.kernel.proofs.Kernel.readied.Reads as readied-reads
+use Rattle.kernel.proofs.Kernel.with_object.Reads as with-object-reads
+
+first-requires : tie.Need-first-requires
+first-requires c κs = search needs
+
+enum-told : tie.Need-enum-told
+enum-told c = search needs
+
+with-object-requires : tie.Need-with-object-requires
+with-object-requires c κs = search needs
+
+enum-known-t : tie.Need-enum-known-t
+enum-known-t c = search needs
+
+readied-requires : tie.Need-readied-requires
+readied-requires c κs = search needs
+
+with-object-requires-2 : tie.Need-with-object-requires-2
+with-object-requires-2 c κs = search needs
+
+returns : tie.Need-returns
+unfolding handedOn
+returns c = rw (← c .before .before .before .first .ensures, c .before .enum-told .given .1) (c .with-object .ensures)
+
+returns-2 : tie.Need-returns-2
+unfolding handedOn
+returns-2 c = rw (← c .before .before .before .before .before .first .ensures, c .before .before .before .t .given .1) (c .with-object2 .ensures ∙ rw (c .before .readied .ensures))
+
+pub handed-on-spec : {M : Type 1} → statement M
+handed-on-spec =
+    tie.close
+    (tie.spec
+    first-requires
+    enum-told
+    with-object-requires
+    enum-known-t
+    readied-requires
+    with-object-requires-2
+    returns
+    returns-2)

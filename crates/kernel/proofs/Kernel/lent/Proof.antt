@@ -1,0 +1,30 @@
+use borrow.Author.Needs.{needs}
+use Rattle.kernel.specs.Loans.{lent}
+use mathlib.Core.Path.{_∙_}
+use Rattle.kernel.proofs.Kernel.lent.Statement.{statement}
+use Rattle.kernel.proofs.Kernel.lent.Tie as tie
+use Rattle.kernel.proofs.Kernel.lent.Reads as reads
+use Rattle.kernel.proofs.Kernel.lent.Lts as lts
+use Rattle.kernel.proofs.Kernel.prioritized.Reads as prioritized-reads
+use Rattle.kernel.proofs.Kernel.task.Reads as task-reads
+use Rattle.kernel.proofs.loans.larger.Reads as larger-reads
+
+task-requires : tie.Need-task-requires
+task-requires c κs = search needs
+
+task-requires-2 : tie.Need-task-requires-2
+task-requires-2 c κs = search needs
+
+larger-requires : tie.Need-larger-requires
+larger-requires c κs = search needs
+
+prioritized-requires : tie.Need-prioritized-requires
+prioritized-requires c κs = search needs
+
+returns : tie.Need-returns
+unfolding lent
+returns c = c .prioritized .ensures ∙ rw (c .before .larger .ensures, c .before .before .task2 .ensures, c .before .before .before .task .ensures)
+
+pub lent-spec : {M : Type 1} → statement M
+lent-spec =
+    tie.close (tie.spec task-requires task-requires-2 larger-requires prioritized-requires returns)

@@ -1,0 +1,29 @@
+use borrow.Author.Needs.{needs}
+use Rattle.kernel.specs.Loans.{moved}
+use Rattle.kernel.proofs.Kernel.moved.Statement.{statement}
+use Rattle.kernel.proofs.Kernel.moved.Tie as tie
+use Rattle.kernel.proofs.Kernel.moved.Reads as reads
+use Rattle.kernel.proofs.Kernel.moved.Lts as lts
+use Rattle.calls.proofs.TaskNo.same.Reads as same-reads
+use Rattle.kernel.proofs.Kernel.to_head.Reads as to-head-reads
+use Rattle.kernel.proofs.Kernel.to_tail.Reads as to-tail-reads
+
+same-requires : tie.Need-same-requires
+same-requires c κs = search needs
+
+to-head-requires : tie.Need-to-head-requires
+to-head-requires c κs = search needs
+
+to-tail-requires : tie.Need-to-tail-requires
+to-tail-requires c κs = search needs
+
+returns : tie.Need-returns
+unfolding moved
+returns c = rw (← c .before .before .same .ensures, c .before .if1 .taken) (c .to-head .ensures)
+
+returns-2 : tie.Need-returns-2
+unfolding moved
+returns-2 c = rw (← c .before .before .same .ensures, c .before .if1 .left) (c .to-tail .ensures)
+
+pub moved-spec : {M : Type 1} → statement M
+moved-spec = tie.close (tie.spec same-requires to-head-requires to-tail-requires returns returns-2)

@@ -1,0 +1,46 @@
+use borrow.Author.Needs.{needs}
+use Rattle.kernel.specs.Loans.{newPriority}
+use mathlib.Core.Path.{_∙_}
+use Rattle.kernel.proofs.Kernel.new_priority.Statement.{statement}
+use Rattle.kernel.proofs.Kernel.new_priority.Tie as tie
+use Rattle.kernel.proofs.Kernel.new_priority.Reads as reads
+use Rattle.kernel.proofs.Kernel.new_priority.Lts as lts
+use Rattle.kernel.proofs.Kernel.holds.Reads as holds-reads
+use Rattle.kernel.proofs.Kernel.prioritized.Reads as prioritized-reads
+use Rattle.kernel.proofs.Kernel.task.Reads as task-reads
+use Rattle.kernel.proofs.loans.larger.Reads as larger-reads
+
+holds-requires : tie.Need-holds-requires
+holds-requires c κs = search needs
+
+task-requires : tie.Need-task-requires
+task-requires c κs = search needs
+
+larger-requires : tie.Need-larger-requires
+larger-requires c κs = search needs
+
+prioritized-requires : tie.Need-prioritized-requires
+prioritized-requires c κs = search needs
+
+prioritized-requires-2 : tie.Need-prioritized-requires-2
+prioritized-requires-2 c κs = search needs
+
+returns : tie.Need-returns
+unfolding newPriority
+returns c = rw (← c .before .before .before .before .holds .ensures, c .before .before .before .if1 .taken) (c .prioritized .ensures ∙ rw (c .before .larger .ensures, c .before .before .task .ensures))
+
+returns-2 : tie.Need-returns-2
+unfolding newPriority
+returns-2 c = rw (← c .before .before .holds .ensures, c .before .if1 .left) (c .prioritized2 .ensures)
+
+pub new-priority-spec : {M : Type 1} → statement M
+new-priority-spec =
+    tie.close
+    (tie.spec
+    holds-requires
+    task-requires
+    larger-requires
+    prioritized-requires
+    prioritized-requires-2
+    returns
+    returns-2)

@@ -1,0 +1,34 @@
+use borrow.Author.Needs.{needs}
+use Rattle.kernel.specs.Refusals.{noDepth}
+use mathlib.Core.Path.{_∙_}
+use Rattle.kernel.proofs.Kernel.no_depth.Statement.{statement}
+use Rattle.kernel.proofs.Kernel.no_depth.Tie as tie
+use Rattle.kernel.proofs.Kernel.no_depth.Reads as reads
+use Rattle.kernel.proofs.Kernel.no_depth.Lts as lts
+use Rattle.kernel.proofs.asking.is.Reads as is-reads
+use Rattle.lists.proofs.both.Reads as both-reads
+use Rattle.lists.proofs.either.Reads as either-reads
+
+is-requires : tie.Need-is-requires
+is-requires c κs = search needs
+
+both-requires : tie.Need-both-requires
+both-requires c κs = search needs
+
+is-requires-2 : tie.Need-is-requires-2
+is-requires-2 c κs = search needs
+
+both-requires-2 : tie.Need-both-requires-2
+both-requires-2 c κs = search needs
+
+either-requires : tie.Need-either-requires
+either-requires c κs = search needs
+
+returns : tie.Need-returns
+unfolding noDepth
+returns c = c .either .ensures ∙ rw (c .before .both2 .ensures, c .before .before .is2 .ensures, c .before .before .before .both .ensures, c .before .before .before .before .is .ensures)
+
+pub no-depth-spec : {M : Type 1} → statement M
+no-depth-spec =
+    tie.close
+    (tie.spec is-requires both-requires is-requires-2 both-requires-2 either-requires returns)

@@ -1,0 +1,25 @@
+use borrow.Author.Needs.{needs}
+use Rattle.kernel.specs.Refusals.{noTick}
+use mathlib.Core.Path.{_∙_}
+use Rattle.kernel.proofs.Kernel.no_tick.Statement.{statement}
+use Rattle.kernel.proofs.Kernel.no_tick.Tie as tie
+use Rattle.kernel.proofs.Kernel.no_tick.Reads as reads
+use Rattle.kernel.proofs.Kernel.no_tick.Lts as lts
+use Rattle.kernel.proofs.asking.is.Reads as is-reads
+use Rattle.lists.proofs.both.Reads as both-reads
+
+is-requires : tie.Need-is-requires
+is-requires c κs = search needs
+
+both-requires : tie.Need-both-requires
+both-requires c κs = search needs
+
+both-requires-2 : tie.Need-both-requires-2
+both-requires-2 c κs = search needs
+
+returns : tie.Need-returns
+unfolding noTick
+returns c = c .both2 .ensures ∙ rw (c .before .both .ensures, c .before .before .before .before .is .ensures)
+
+pub no-tick-spec : {M : Type 1} → statement M
+no-tick-spec = tie.close (tie.spec is-requires both-requires both-requires-2 returns)

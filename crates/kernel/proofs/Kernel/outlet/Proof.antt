@@ -1,0 +1,49 @@
+use borrow.Author.Needs.{needs}
+use Rattle.kernel.specs.Items.{outlet}
+use borrow.Author.Tests.{eq-eqb, ne-eqb}
+use Rattle.kernel.proofs.Kernel.outlet.Statement.{statement}
+use Rattle.kernel.proofs.Kernel.outlet.Tie as tie
+use Rattle.kernel.proofs.Kernel.outlet.Reads as reads
+use Rattle.kernel.proofs.Kernel.outlet.Lts as lts
+use Rattle.kernel.proofs.Kernel.first.Reads as first-reads
+use Rattle.kernel.proofs.rings.room_or.Reads as room-or-reads
+
+first-requires : tie.Need-first-requires
+first-requires c κs = search needs
+
+enum-told : tie.Need-enum-told
+enum-told c = search needs
+
+room-or-requires : tie.Need-room-or-requires
+room-or-requires c κs = search needs
+
+enum-known-t : tie.Need-enum-known-t
+enum-known-t c = search needs
+
+returns : tie.Need-returns
+unfolding outlet
+returns c = rw (← c .before .before .before .before .before .first .ensures, c .before .before .before .t .given .1, eq-eqb _ _ (c .if1 .taken))
+
+room-or-requires-2 : tie.Need-room-or-requires-2
+room-or-requires-2 c κs = search needs
+
+returns-2 : tie.Need-returns-2
+unfolding outlet
+returns-2 c = rw (← c .before .before .before .first .ensures, c .before .enum-told .given .1) (c .room-or .ensures)
+
+returns-3 : tie.Need-returns-3
+unfolding outlet
+returns-3 c = rw (← c .before .before .before .before .before .before .first .ensures, c .before .before .before .before .t .given .1, ne-eqb _ _ (c .before .if1 .left)) (c .room-or2 .ensures)
+
+pub outlet-spec : {M : Type 1} → statement M
+outlet-spec =
+    tie.close
+    (tie.spec
+    first-requires
+    enum-told
+    room-or-requires
+    enum-known-t
+    returns
+    room-or-requires-2
+    returns-2
+    returns-3)

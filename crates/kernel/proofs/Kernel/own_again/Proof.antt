@@ -1,0 +1,31 @@
+use borrow.Author.Needs.{needs}
+use Rattle.kernel.specs.Loans.{ownAgain}
+use mathlib.Core.Path.{_∙_}
+use Rattle.kernel.proofs.Kernel.own_again.Statement.{statement}
+use Rattle.kernel.proofs.Kernel.own_again.Tie as tie
+use Rattle.kernel.proofs.Kernel.own_again.Reads as reads
+use Rattle.kernel.proofs.Kernel.own_again.Lts as lts
+use Rattle.kernel.proofs.Kernel.holds.Reads as holds-reads
+use Rattle.kernel.proofs.Kernel.prioritized.Reads as prioritized-reads
+use Rattle.kernel.proofs.Kernel.task.Reads as task-reads
+
+holds-requires : tie.Need-holds-requires
+holds-requires c κs = search needs
+
+task-requires : tie.Need-task-requires
+task-requires c κs = search needs
+
+prioritized-requires : tie.Need-prioritized-requires
+prioritized-requires c κs = search needs
+
+returns : tie.Need-returns
+unfolding ownAgain
+returns c = rw (← c .before .holds .ensures, c .if1 .taken)
+
+returns-2 : tie.Need-returns-2
+unfolding ownAgain
+returns-2 c = rw (← c .before .before .before .holds .ensures, c .before .before .if1 .left) (c .prioritized .ensures ∙ rw (c .before .task .ensures))
+
+pub own-again-spec : {M : Type 1} → statement M
+own-again-spec =
+    tie.close (tie.spec holds-requires task-requires prioritized-requires returns returns-2)

@@ -1,0 +1,42 @@
+use borrow.Author.Needs.{needs}
+use Rattle.kernel.specs.Loans.{prioritized}
+use mathlib.Core.Path.{_∙_}
+use Rattle.kernel.proofs.Kernel.prioritized.Statement.{statement}
+use Rattle.kernel.proofs.Kernel.prioritized.Tie as tie
+use Rattle.kernel.proofs.Kernel.prioritized.Reads as reads
+use Rattle.kernel.proofs.Kernel.prioritized.Lts as lts
+use Rattle.kernel.proofs.Kernel.moved_if.Reads as moved-if-reads
+use Rattle.kernel.proofs.Kernel.task.Reads as task-reads
+use Rattle.kernel.proofs.Kernel.with_task.Reads as with-task-reads
+use Rattle.slots.proofs.Place.is_ready.Reads as is-ready-reads
+use Rattle.slots.proofs.Task.ranked.Reads as ranked-reads
+
+task-requires : tie.Need-task-requires
+task-requires c κs = search needs
+
+ranked-requires : tie.Need-ranked-requires
+ranked-requires c κs = search needs
+
+with-task-requires : tie.Need-with-task-requires
+with-task-requires c κs = search needs
+
+is-ready-requires : tie.Need-is-ready-requires
+is-ready-requires c κs = search needs
+
+moved-if-requires : tie.Need-moved-if-requires
+moved-if-requires c κs = search needs
+
+returns : tie.Need-returns
+unfolding prioritized
+returns c = c .moved-if .ensures ∙ rw (c .before .before .is-ready .ensures, c .before .before .before .with-task .ensures, c .before .before .before .before .ranked .ensures, c .before .before .before .before .before .task .ensures)
+
+pub prioritized-spec : {M : Type 1} → statement M
+prioritized-spec =
+    tie.close
+    (tie.spec
+    task-requires
+    ranked-requires
+    with-task-requires
+    is-ready-requires
+    moved-if-requires
+    returns)

@@ -1,0 +1,46 @@
+use borrow.Author.Needs.{needs}
+use mathlib.Core.Path.{_∙_}
+use Rattle.kernel.proofs.Kernel.refilled_by.Statement.{statement}
+use Rattle.kernel.proofs.Kernel.refilled_by.Tie as tie
+use Rattle.kernel.proofs.Kernel.refilled_by.Reads as reads
+use Rattle.kernel.proofs.Kernel.refilled_by.Lts as lts
+use Rattle.kernel.proofs.Kernel.readied.Reads as readied-reads
+use Rattle.kernel.proofs.Kernel.with_object.Reads as with-object-reads
+use Rattle.kernel.proofs.rings.one_more.Reads as one-more-reads
+
+enum-told : tie.Need-enum-told
+enum-told c = search needs
+
+with-object-requires : tie.Need-with-object-requires
+with-object-requires c κs = search needs
+
+enum-known-f : tie.Need-enum-known-f
+enum-known-f c = search needs
+
+one-more-requires : tie.Need-one-more-requires
+one-more-requires c κs = search needs
+
+with-object-requires-2 : tie.Need-with-object-requires-2
+with-object-requires-2 c κs = search needs
+
+readied-requires : tie.Need-readied-requires
+readied-requires c κs = search needs
+
+returns : tie.Need-returns
+returns c = rw (c .before .enum-told .given .1) (c .with-object .ensures)
+
+returns-2 : tie.Need-returns-2
+returns-2 c = rw (c .before .before .before .before .f .given .1) (c .readied .ensures ∙ rw (c .before .with-object2 .ensures, c .before .before .one-more .ensures))
+
+pub refilled-by-spec : {M : Type 1} → statement M
+refilled-by-spec =
+    tie.close
+    (tie.spec
+    enum-told
+    with-object-requires
+    enum-known-f
+    one-more-requires
+    with-object-requires-2
+    readied-requires
+    returns
+    returns-2)

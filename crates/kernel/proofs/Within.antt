@@ -1,0 +1,103 @@
+-- Where items lie: within the store. Who is found, and what is a queue, has a number within its table.
+use Prim.Native.Nat.{ℕ, _+_, _*_, _%_, _<_, _≤_}
+use mathlib.Core.Path.{_≡_, refl, sym, ap, _∙_}
+use mathlib.Core.Bool.{Bool, true, false, _&&_, false≢true}
+use mathlib.Core.List.{List, [], _∷_}
+use native.Mathlib.Nat.{mul-le-mul-right, mod-lt}
+use native.Mathlib.Omega.{arith}
+use lib.Dec.{eqb, ltb, leb}
+use lib.ListN.{length, getD}
+use borrow.Author.Tests.{leb-true, leb-false, eqb-true}
+use Rattle.lists.specs.Choice.{if_then_else_}
+use Rattle.lists.specs.Lists.{kept, head}
+use Rattle.lists.proofs.Bools.{and-left}
+use Rattle.calls.specs.Numbers.{idle}
+use Rattle.order.specs.Order.{listed}
+use Rattle.slots.specs.Leads.{isWho}
+use Rattle.kernel.specs.Types.{TaskNo, ObjNo, Task, Ring, Kind, Unused, Queue, Object, Who, AllReady, WaitersOf, Outlet, toWaiter, toQueue, toCaller, Kernel}
+use Rattle.kernel.specs.Tables.{taskAt, kindAt}
+use Rattle.kernel.specs.Lines.{those, level, highest, leader, first}
+use Rattle.kernel.specs.Items.{oneLess, roomOr, outletFor, outlet}
+use Rattle.kernel.specs.Sentences.{RingFits}
+use Rattle.kernel.proofs.Slots.{past-tasks, past-objects}
+use Rattle.kernel.proofs.Leads.{kept-kept}
+
+-- an item of a queue lies within the object's part
+pub place-within : (p c s : ℕ) → p < c → c * s ≤ 512 → p * s + s ≤ 512
+place-within p c s h w =
+    let a : (p + 1) * s ≤ c * s = mul-le-mul-right s (omega arith) in
+    let b : (p + 1) * s ≡ p * s + s = omega arith in
+    omega arith
+
+no-one : {t : TaskNo} → [] ≡ t ∷ [] → ⊥
+no-one e = let z : _≡_ {A = ℕ} 0 1 = cc in omega arith
+
+-- the first that passes passes
+kept-head : (p : TaskNo → Bool) (l : List TaskNo) (t : TaskNo) → head (kept p l) ≡ t ∷ [] → p t ≡ true
+unfolding kept
+kept-head p [] t e = absurd (no-one e)
+kept-head p (x ∷ l) t e = go (p x) refl (kept-head p l t) e
+  where
+    go : (b : Bool) → p x ≡ b → (head (kept p l) ≡ t ∷ [] → p t ≡ true) → head (if b then x ∷ kept p l else kept p l) ≡ t ∷ [] → p t ≡ true
+    go true q ih f = let z : x ≡ t = cc in rw (← z) q
+    go false q ih f = ih f
+
+-- who is first is one of those meant
+pub first-meant : (k : Kernel) (w : Who) (t : TaskNo) → first k w ≡ t ∷ [] → isWho w (taskAt (k .tasks) t .place) ≡ true
+unfolding first leader those
+first-meant k w t e =
+    and-left (isWho w (taskAt (k .tasks) t .place)) _
+    (kept-head _ (listed (k .order)) t (sym (ap head (kept-kept (λ u. isWho w (taskAt (k .tasks) u .place)) (λ u. eqb (level (k .tasks) u) (highest (k .tasks) (those (k .tasks) w (listed (k .order))))) (listed (k .order)))) ∙ e))
+
+no-free : (w : Who) (ts : List Task) (t : TaskNo) → length ts ≤ t .0 → isWho w (taskAt ts t .place) ≡ true → ⊥
+no-free AllReady ts t h e = false≢true (rw (past-tasks ts t h) at e)
+no-free (WaitersOf o) ts t h e = false≢true (rw (past-tasks ts t h) at e)
+
+pub first-within : (k : Kernel) (w : Who) (t : TaskNo) → first k w ≡ t ∷ [] → t .0 < length (k .tasks)
+first-within k w t e = go (leb (length (k .tasks)) (t .0)) refl
+  where
+    go : (b : Bool) → leb (length (k .tasks)) (t .0) ≡ b → t .0 < length (k .tasks)
+    go true h = absurd (no-free w (k .tasks) t (leb-true (length (k .tasks)) (t .0) h) (first-meant k w t e))
+    go false h = leb-false (length (k .tasks)) (t .0) h
+
+pub queue-within : (os : List Object) (o : ObjNo) (q : Ring) → kindAt os o ≡ Queue q → o .0 < length os
+queue-within os o q e = go (leb (length os) (o .0)) refl
+  where
+    go : (c : Bool) → leb (length os) (o .0) ≡ c → o .0 < length os
+    go true h =
+        let u : kindAt os o ≡ Unused = past-objects os o (leb-true (length os) (o .0) h) in
+        let z : _≡_ {A = ℕ} 0 1 = cc in
+        omega arith
+    go false h = leb-false (length os) (o .0) h
+
+-- a list of at most one
+first-one : (l : List TaskNo) (t : TaskNo) (r : List TaskNo) → head l ≡ t ∷ r → head l ≡ t ∷ []
+first-one [] t r e = absurd (let z : _≡_ {A = ℕ} 0 1 = cc in omega arith)
+first-one (x ∷ l) t r e = let z : x ≡ t = cc in rw z
+
+pub waiter-within : (k : Kernel) (o : ObjNo) (q : Ring) (t : TaskNo) → outlet k o q ≡ toWaiter t → t .0 < length (k .tasks)
+unfolding outlet first leader
+waiter-within k o q t e = go (first k (WaitersOf o)) refl e
+  where
+    not-room : (b : Bool) → (if b then toQueue else toCaller) ≡ toWaiter t → t .0 < length (k .tasks)
+    not-room true h = let z : _≡_ {A = ℕ} 0 1 = cc in omega arith
+    not-room false h = let z : _≡_ {A = ℕ} 0 1 = cc in omega arith
+
+    told : (u : TaskNo) (r : List TaskNo) → first k (WaitersOf o) ≡ u ∷ r → (b : Bool) → (if b then toWaiter u else roomOr q) ≡ toWaiter t → t .0 < length (k .tasks)
+    told u r e true h = let z : u ≡ t = cc in rw z at (first-within k (WaitersOf o) u (first-one (kept (λ v. eqb (level (k .tasks) v) (highest (k .tasks) (those (k .tasks) (WaitersOf o) (listed (k .order))))) (those (k .tasks) (WaitersOf o) (listed (k .order)))) u r e))
+    told u r e false h = not-room (ltb (q .count) (q .capacity)) h
+
+    go : (f : List TaskNo) → first k (WaitersOf o) ≡ f → outletFor q f ≡ toWaiter t → t .0 < length (k .tasks)
+    go [] e h = not-room (ltb (q .count) (q .capacity)) h
+    go (u ∷ r) e h = told u r e (eqb (q .count) 0) h
+
+pub less-fits : (q : Ring) → RingFits q → RingFits (oneLess q)
+less-fits q f =
+    record {
+      some = f .some;
+      few = f .few;
+      small = f .small;
+      whole = f .whole;
+      starts = mod-lt (q .first + 1) (f .some);
+      counts = omega arith;
+    }

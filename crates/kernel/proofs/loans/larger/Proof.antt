@@ -1,0 +1,15 @@
+use borrow.Author.Needs.{needs}
+use borrow.Author.Tests.{lt-ltb, le-ltb}
+use Rattle.kernel.proofs.loans.larger.Statement.{statement}
+use Rattle.kernel.proofs.loans.larger.Tie as tie
+use Rattle.kernel.proofs.loans.larger.Reads as reads
+use Rattle.kernel.proofs.loans.larger.Lts as lts
+
+returns : tie.Need-returns
+returns c = rw (lt-ltb _ _ (c .if1 .taken))
+
+returns-2 : tie.Need-returns-2
+returns-2 c = rw (le-ltb _ _ (c .if1 .left))
+
+pub larger-spec : {M : Type 1} → statement M
+larger-spec = tie.close (tie.spec returns returns-2)

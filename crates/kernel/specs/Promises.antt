@@ -1,0 +1,54 @@
+-- What the functions promise, as propositions that contracts and theorems cite.
+use Prim.Native.Nat.{ℕ, _<_}
+use mathlib.Core.Path.{_≡_}
+use mathlib.Core.Bool.{Bool, true, false}
+use mathlib.Core.List.{List}
+use lib.ListN.{length}
+use Rattle.lists.specs.Choice.{if_then_else_}
+use Rattle.calls.specs.Asked.{asked}
+use Rattle.calls.specs.Said.{Saying, says, said, done, made, waiting}
+use Rattle.slots.specs.Places.{isBlocked}
+use Rattle.kernel.specs.Types.{TaskNo, ObjNo, Ring, Queue, Object, Call, Kernel, Step}
+use Rattle.kernel.specs.Tables.{taskAt, kindAt}
+use Rattle.kernel.specs.Lines.{chosen}
+use Rattle.kernel.specs.Sentences.{RingFits}
+use Rattle.kernel.specs.Refusals.{laterRow}
+use Rattle.kernel.specs.Effects.{effect}
+use Rattle.kernel.specs.Step.{Stepped, answered, steppedBy, step}
+
+-- waiting, exactly if the caller is now delayed or waits on an object
+abbrev pub doneOrWaiting : Kernel → TaskNo → Saying
+doneOrWaiting next u = if isBlocked (taskAt (next .tasks) u .place) then says waiting 0 else says done 0
+
+-- the step r ends with choose, from k, and answers the caller u
+pub record Ended (k : Kernel) (u : TaskNo) (r : Step) : Type 0 where
+  pub kernel : r .kernel ≡ chosen k
+  pub answer : said (r .answer) ≡ doneOrWaiting (chosen k) u
+
+pub record Makes (k : Kernel) (n : ℕ) (r : Step) : Type 0 where
+  pub kernel : r .kernel ≡ chosen k
+  pub answer : said (r .answer) ≡ says made n
+
+-- the step r does what the call table says of the call c
+pub record Accepts (k : Kernel) (c : Call) (r : Step) : Type 0 where
+  pub kernel : r .kernel ≡ chosen (effect k c)
+  pub answer : said (r .answer) ≡ answered k (asked c) (chosen (effect k c))
+
+-- what a step leans on beside the refusals, both of which soundness gives: the caller has a slot, and each queue obeys the ranges
+pub record Steady (k : Kernel) : Type 0 where
+  pub runs : k .running .0 < 16
+  pub fit : (o : ObjNo) (q : Ring) → kindAt (k .objects) o ≡ Queue q → RingFits q
+
+-- the step r, with the store s afterwards, is what the definition d says
+pub record Is (d : Stepped) (r : Step) (s : List ℕ) : Type 0 where
+  pub kernel : r .kernel ≡ d .kernel
+  pub answer : said (r .answer) ≡ d .answer
+  pub store : s ≡ d .store
+
+-- the step of a sound kernel: rows 2 to 16 of the table decide
+abbrev pub SoundSteps : Kernel → Call → List ℕ → List ℕ → Step → List ℕ → Type 0
+SoundSteps k c item s r after = Is (steppedBy (laterRow k (asked c) (length item) (length s)) k c item s) r after
+
+-- the step of any kernel value
+abbrev pub Steps : Kernel → Call → List ℕ → List ℕ → Step → List ℕ → Type 0
+Steps k c item s r after = Is (step k c item s) r after

@@ -1,0 +1,22 @@
+// What a call asks, as the rows of the refusal table speak of it.
+ghost use mathlib.Core.Path.{_≡_};
+ghost use Rattle.kernel.specs.Asking.{is, stops, waits};
+use calls::Asked;
+
+pub(crate) fn is(a: Asked, n: u32) -> bool
+    ensures { λ r. ⌜ r ≡ is n a ⌝ }
+{
+    a.number == n
+}
+
+pub(crate) fn stops(a: Asked) -> bool
+    ensures { λ r. ⌜ r ≡ stops a ⌝ }
+{
+    lists::either(is(a, 2), is(a, 3))
+}
+
+pub(crate) fn waits(a: Asked) -> bool
+    ensures { λ r. ⌜ r ≡ waits a ⌝ }
+{
+    a.wait != 0
+}
