@@ -1,9 +1,8 @@
 -- No two answers say the same.
 use Prim.Native.Nat.{ℕ}
 use mathlib.Core.Path.{_≡_, refl, sym, ap, _∙_}
-use native.Mathlib.Omega.{arith}
 use Rattle.calls.specs.Types.{Answer, Done, Made, Waiting, Refused}
-use Rattle.calls.specs.Said.{Word, done, made, waiting, refused, Saying, says, said}
+use Rattle.calls.specs.Said.{Word, done, made, waiting, refused, Saying, said}
 
 -- an answer read off its saying
 back : Saying → Answer

@@ -3,7 +3,7 @@ use Prim.Native.Nat.{ℕ}
 use mathlib.Core.List.{List, [], _∷_}
 use Rattle.calls.specs.Types.{TaskNo, ObjNo, Call, Names, Nothing, ATask, AnObject, AQueue, AMutex, Asked}
 use Rattle.calls.specs.Numbers.{task, object}
-use Rattle.calls.specs.Table.{Argument, aTask, anObject, aQueue, aMutex, priority, ticks, capacity, size, wait, item, Row, called}
+use Rattle.calls.specs.Table.{Argument, aTask, anObject, aQueue, aMutex, priority, ticks, capacity, size, wait, item, called}
 
 abbrev pub asks : ℕ → Names → TaskNo → ObjNo → ℕ → ℕ → ℕ → ℕ → ℕ → Asked
 asks n m t o p d c s w = record { number = n; names = m; task = t; object = o; priority = p; ticks = d; capacity = c; size = s; wait = w }

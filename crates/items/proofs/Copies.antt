@@ -1,5 +1,5 @@
 -- The copying loop, for every length; and a part of the store that is lent and comes back.
-use Prim.Native.Nat.{ℕ, zero, suc, _+_, _-_, _<_, _≤_, min}
+use Prim.Native.Nat.{ℕ, suc, _+_, _-_, _<_, _≤_, min}
 use mathlib.Core.Path.{_≡_, refl, sym, ap, _∙_}
 use mathlib.Core.Bool.{Bool, true, false}
 use mathlib.Core.List.{List, [], _∷_, _++_, append-nil}
@@ -10,7 +10,6 @@ use lib.Dec.{ltb, leb}
 use lib.ListN.{length, getD, set, take, drop, replicate, length-take, length-drop, length-set, take-append-drop, drop-of-length-le}
 use lib.Seq.{sets, length-sets, take-suc, take-all, take-add, set-out, sets-eq, take-at}
 use borrow.Author.Tests.{ltb-true, ltb-false, leb-true, le-leb}
-use Rattle.lists.specs.Choice.{if_then_else_}
 use Rattle.lists.proofs.Bools.{and-left, and-right, same-test}
 use Rattle.items.specs.Bytes.{bytesAt, putAt, standsIn, carried}
 

@@ -1,9 +1,9 @@
 -- How an accepted call ends: what its effect is, and what it answers.
 use Prim.Native.Nat.{ℕ}
-use mathlib.Core.Path.{_≡_, refl, sym, ap, _∙_}
+use mathlib.Core.Path.{_≡_, sym, ap, _∙_}
 use Rattle.calls.specs.Asked.{asked}
 use Rattle.calls.specs.Said.{says, made}
-use Rattle.kernel.specs.Types.{TaskNo, Call, Kernel, Step}
+use Rattle.kernel.specs.Types.{Call, Kernel, Step}
 use Rattle.kernel.specs.Lines.{chosen}
 use Rattle.kernel.specs.Effects.{effect}
 use Rattle.kernel.specs.Step.{answered}

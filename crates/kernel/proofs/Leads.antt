@@ -1,5 +1,5 @@
 -- Whom the one pass finds is the first of the highest effective priority; of the ready, the head of the highest occupied line.
-use Prim.Native.Nat.{ℕ, _<_, _≤_}
+use Prim.Native.Nat.{ℕ, _≤_}
 use mathlib.Core.Path.{_≡_, refl, sym, ap, _∙_}
 use mathlib.Core.Bool.{Bool, true, false, _&&_}
 use mathlib.Core.List.{List, [], _∷_}
@@ -7,11 +7,9 @@ use native.Mathlib.Omega.{arith}
 use lib.Dec.{eqb, ltb}
 use borrow.Author.Tests.{ltb-true, ltb-false, lt-ltb, le-ltb, eq-eqb, ne-eqb}
 use Rattle.lists.specs.Choice.{if_then_else_}
-use Rattle.lists.specs.Lists.{larger, foldl, kept, head, isNone}
+use Rattle.lists.specs.Lists.{foldl, kept, head, isNone}
 use Rattle.order.specs.Order.{listed}
-use Rattle.slots.specs.Places.{isReady}
-use Rattle.slots.specs.Tasks.{inLine}
-use Rattle.slots.specs.Leads.{isWho, leadOver, better, leads}
+use Rattle.slots.specs.Leads.{isWho, better, leads}
 use Rattle.kernel.specs.Types.{TaskNo, Task, Who, AllReady, Lead, Open, Best, Kernel}
 use Rattle.kernel.specs.Tables.{taskAt}
 use Rattle.kernel.specs.Lines.{line, those, level, highest, leader, first}

@@ -1,15 +1,12 @@
 -- What a move does to a line or a list, for any test on tasks: to a line (`inLine p`), to an object's waiters (`waitsOn o`), to the delayed and waiting.
-use Prim.Native.Nat.{ℕ}
-use mathlib.Core.Path.{_≡_, refl, sym, ap, _∙_}
-use mathlib.Core.Bool.{Bool, true, false}
+use mathlib.Core.Path.{_≡_, ap, _∙_}
+use mathlib.Core.Bool.{Bool, false}
 use mathlib.Core.List.{List, [], _∷_, _++_, append-nil}
-use lib.ListN.{length, set}
 use Rattle.lists.specs.Choice.{if_then_else_}
 use Rattle.lists.specs.Lists.{kept}
 use Rattle.order.specs.Order.{without}
 use Rattle.order.specs.Tidy.{count}
-use Rattle.order.proofs.Lines.{kept-append, kept-without, kept-tail, kept-front, kept-not}
-use Rattle.order.proofs.Counts.{without-none}
+use Rattle.order.proofs.Lines.{kept-without, kept-tail, kept-front, kept-not}
 use Rattle.kernel.specs.Types.{TaskNo, Task}
 use Rattle.kernel.specs.Tables.{taskAt}
 

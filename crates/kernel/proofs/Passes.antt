@@ -9,8 +9,7 @@ use borrow.Author.Tests.{eqb-true, eqb-false, ltb-false, ltb-true, lt-ltb, not-f
 use Rattle.lists.specs.Choice.{if_then_else_}
 use Rattle.calls.specs.Asked.{asked}
 use Rattle.slots.specs.Places.{isReady}
-use Rattle.kernel.specs.Types.{TaskNo, ObjNo, Task, Ring, Queue, Call, Create, SetPriority, MakeQueue, Hold, Release, Tick, Asked, Kernel}
-use Rattle.kernel.specs.Tables.{taskAt, kindAt}
+use Rattle.kernel.specs.Types.{TaskNo, Task, Call, Create, SetPriority, MakeQueue, Hold, Release, Tick, Asked, Kernel}
 use Rattle.kernel.specs.Sound.{sound}
 use Rattle.kernel.specs.Refusals.{outOfRange, namesNone, wrongSize, notForIdle, notWithHold, noSlot, inUse, notHis, hisAlready, notSuspended, mustWait, noDepth, noTick, table, laterRow}
 use Rattle.kernel.specs.Promises.{Steady}

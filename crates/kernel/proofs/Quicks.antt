@@ -1,25 +1,24 @@
 -- The quick test, one pass over each table, is the plain one.
 use Prim.Native.Nat.{ℕ, _<_}
-use mathlib.Core.Path.{_≡_, refl, sym, ap, _∙_}
+use mathlib.Core.Path.{_≡_}
 use mathlib.Core.Bool.{Bool, true, false, not, _&&_, _||_}
 use mathlib.Core.List.{List}
 use native.Mathlib.Omega.{arith}
 use lib.Dec.{eqb, ltb}
 use lib.ListN.{getD}
-use Rattle.lists.specs.Lists.{every, allBelow}
 use Rattle.lists.proofs.Bools.{and-left, and-right, and-intro, same-test, at, also, none, all-below, below-all}
-use Rattle.calls.specs.Numbers.{task, object, idle}
+use Rattle.calls.specs.Numbers.{task}
 use Rattle.order.specs.Order.{listed}
 use Rattle.order.specs.Tidy.{count, tidy, talliesOf}
 use Rattle.order.proofs.Tallies.{tallies-count}
 use Rattle.slots.specs.Places.{waited}
-use Rattle.slots.specs.Objects.{holderOf, marksOf}
-use Rattle.slots.specs.Fine.{idleFine, standsFine, prioritiesFine}
+use Rattle.slots.specs.Objects.{marksOf}
+use Rattle.slots.specs.Fine.{idleFine}
 use Rattle.slots.proofs.Marks.{marks-hold}
 use Rattle.slots.proofs.Parts.{TaskParts, task-parts, task-whole, kind-parts, kind-whole}
 use Rattle.kernel.specs.Types.{Kernel}
-use Rattle.kernel.specs.Tables.{taskAt, kindAt, holds}
-use Rattle.kernel.specs.Sound.{sixteen, slotTask, slotKind, runsFine, counted, sound}
+use Rattle.kernel.specs.Tables.{kindAt, holds}
+use Rattle.kernel.specs.Sound.{sixteen, slotTask, runsFine, sound}
 use Rattle.kernel.specs.Quick.{shaped, taskFineAt, tasksFine, objectFineAt, objectsFine}
 
 module _ (k : Kernel) where

@@ -7,9 +7,9 @@ use native.Mathlib.Omega.{arith}
 use lib.Dec.{eqb, ltb, leb}
 use lib.ListN.{length, getD, length-take}
 use lib.Seq.{getD-take}
-use borrow.Author.Tests.{eqb-true, eqb-false, eq-eqb, ne-eqb, ltb-true, ltb-false, lt-ltb, le-ltb, leb-true, le-leb}
+use borrow.Author.Tests.{eqb-true, eqb-false, eq-eqb, ne-eqb, ltb-true, ltb-false, lt-ltb, leb-true, le-leb}
 use Rattle.lists.specs.Choice.{if_then_else_}
-use Rattle.lists.specs.Lists.{every, allBelow, any, kept, head, isNone}
+use Rattle.lists.specs.Lists.{every, allBelow, kept, head}
 use Rattle.lists.proofs.Tests.{any-at, any-none, kept-none}
 use Rattle.lists.proofs.Bools.{and-left, and-right, and-intro, or-left, or-right, or-second, off, on, not-off, untrue, at, also, none, all-below, below-all}
 use Rattle.calls.specs.Numbers.{task, object, idle, sameTask}
@@ -18,15 +18,15 @@ use Rattle.order.specs.Tidy.{count, tidy}
 use Rattle.order.proofs.Lines.{one-number}
 use Rattle.order.proofs.Rooms.{tidy-few, tidy-zeros, tidy-none, tidy-from, count-some}
 use Rattle.order.proofs.Tests.{count-kept}
-use Rattle.slots.specs.Places.{isFree, isReady, isBlocked, isListed, waitsOn, waited, wakesAt}
+use Rattle.slots.specs.Places.{isFree, isReady, isBlocked, isListed, waitsOn, waited}
 use Rattle.slots.specs.Tasks.{freeTask, inLine, inHigher}
-use Rattle.slots.specs.Objects.{unused, isBy, isTaken, heldBy, holderOf}
-use Rattle.slots.specs.Fine.{idleFine, standsFine, mayWait, waitsFine, prioritiesFine, holderIn, wakesInRange, notDue, ringFine, ringInRange, outcomeFine, freshIfFree}
-use Rattle.kernel.specs.Types.{TaskNo, ObjNo, Wake, Never, At, Place, Free, Ready, Delayed, Waiting, Suspended, Task, Ring, Holder, Nobody, By, Kind, Unused, Queue, Mutex, Object, WaitersOf, Kernel}
+use Rattle.slots.specs.Objects.{unused, heldBy, holderOf}
+use Rattle.slots.specs.Fine.{idleFine, standsFine, mayWait, waitsFine, prioritiesFine, holderIn, notDue, ringFine, ringInRange, outcomeFine, freshIfFree}
+use Rattle.kernel.specs.Types.{TaskNo, ObjNo, Never, At, Place, Free, Ready, Delayed, Waiting, Suspended, Task, Ring, Nobody, By, Kind, Unused, Queue, Mutex, Object, WaitersOf, Kernel}
 use Rattle.kernel.specs.Tables.{taskAt, kindAt, holds}
 use Rattle.kernel.specs.Lines.{line, those, level}
-use Rattle.kernel.specs.Sound.{sixteen, slotTask, slotKind, heads, noHigher, runsFine, counted, sound}
-use Rattle.kernel.specs.Sentences.{Holds, Exists, MayWait, receiver, sender, taker, RingFits, Listing, Sound}
+use Rattle.kernel.specs.Sound.{heads, noHigher, runsFine, counted, sound}
+use Rattle.kernel.specs.Sentences.{Holds, MayWait, receiver, sender, taker, RingFits, Sound}
 use Rattle.kernel.proofs.Slots.{past-tasks, past-objects}
 
 -- ── what holds of each slot holds of each number, since past the slots all is free

@@ -1,6 +1,6 @@
 -- A number past a table names a free slot, and what is stored there is lost.
-use Prim.Native.Nat.{ℕ, _≤_}
-use mathlib.Core.Path.{_≡_, refl, sym, ap, _∙_}
+use Prim.Native.Nat.{_≤_}
+use mathlib.Core.Path.{_≡_, refl, sym, ap}
 use mathlib.Core.List.{List}
 use lib.ListN.{length, List·getD-eq-default}
 use lib.Seq.{set-out}

@@ -1,20 +1,19 @@
 -- Where items lie: within the store. Who is found, and what is a queue, has a number within its table.
-use Prim.Native.Nat.{ℕ, _+_, _*_, _%_, _<_, _≤_}
+use Prim.Native.Nat.{ℕ, _+_, _*_, _<_, _≤_}
 use mathlib.Core.Path.{_≡_, refl, sym, ap, _∙_}
-use mathlib.Core.Bool.{Bool, true, false, _&&_, false≢true}
+use mathlib.Core.Bool.{Bool, true, false, false≢true}
 use mathlib.Core.List.{List, [], _∷_}
 use native.Mathlib.Nat.{mul-le-mul-right, mod-lt}
 use native.Mathlib.Omega.{arith}
 use lib.Dec.{eqb, ltb, leb}
-use lib.ListN.{length, getD}
-use borrow.Author.Tests.{leb-true, leb-false, eqb-true}
+use lib.ListN.{length}
+use borrow.Author.Tests.{leb-true, leb-false}
 use Rattle.lists.specs.Choice.{if_then_else_}
 use Rattle.lists.specs.Lists.{kept, head}
 use Rattle.lists.proofs.Bools.{and-left}
-use Rattle.calls.specs.Numbers.{idle}
 use Rattle.order.specs.Order.{listed}
 use Rattle.slots.specs.Leads.{isWho}
-use Rattle.kernel.specs.Types.{TaskNo, ObjNo, Task, Ring, Kind, Unused, Queue, Object, Who, AllReady, WaitersOf, Outlet, toWaiter, toQueue, toCaller, Kernel}
+use Rattle.kernel.specs.Types.{TaskNo, ObjNo, Task, Ring, Unused, Queue, Object, Who, AllReady, WaitersOf, toWaiter, toQueue, toCaller, Kernel}
 use Rattle.kernel.specs.Tables.{taskAt, kindAt}
 use Rattle.kernel.specs.Lines.{those, level, highest, leader, first}
 use Rattle.kernel.specs.Items.{oneLess, roomOr, outletFor, outlet}

@@ -1,19 +1,18 @@
 -- "No. | Call | Effect": what each accepted call does to the kernel, before choose.
 use Prim.Native.Nat.{ℕ}
-use mathlib.Core.Bool.{Bool, true, false}
 use mathlib.Core.List.{List, [], _∷_}
 use lib.Dec.{eqb}
 use Rattle.lists.specs.Choice.{if_then_else_}
 use Rattle.calls.specs.Numbers.{task, object}
-use Rattle.slots.specs.Places.{isBlocked, isListed}
-use Rattle.slots.specs.Tasks.{freeTask, readyAt, placed, brokenOff}
-use Rattle.kernel.specs.Types.{TaskNo, ObjNo, Place, Delayed, Suspended, Task, Ring, Holder, Nobody, By, Kind, Unused, Queue, Mutex, WaitersOf, Kernel, Call, Create, Delete, Suspend, Resume, SetPriority, Delay, Yield, Hold, Release, MakeQueue, MakeMutex, Remove, Send, Receive, Take, Give, Tick}
+use Rattle.slots.specs.Places.{isListed}
+use Rattle.slots.specs.Tasks.{freeTask, readyAt, brokenOff}
+use Rattle.kernel.specs.Types.{TaskNo, ObjNo, Delayed, Nobody, By, Kind, Unused, Queue, Mutex, WaitersOf, Kernel, Call, Create, Delete, Suspend, Resume, SetPriority, Delay, Yield, Hold, Release, MakeQueue, MakeMutex, Remove, Send, Receive, Take, Give, Tick}
 use Rattle.kernel.specs.Tables.{taskAt, kindAt, freeSlot, freeObject, withTask, withObject}
 use Rattle.kernel.specs.Lines.{first, toTail, leaves}
 use Rattle.kernel.specs.Waits.{later, readied, blocked, waitFor}
 use Rattle.kernel.specs.Loans.{newPriority, lent, ownAgain}
 use Rattle.kernel.specs.Ticks.{ticked, held, released}
-use Rattle.kernel.specs.Items.{sentTo, storeSentTo, receivedFrom, storeReceivedFrom}
+use Rattle.kernel.specs.Items.{sentTo, receivedFrom}
 
 -- 1: "lowest free slot; ready"
 unfoldable pub created : Kernel → ℕ → Kernel

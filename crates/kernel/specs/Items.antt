@@ -1,6 +1,5 @@
 -- Send and receive: what they do to the kernel, and what to the lent store.
 use Prim.Native.Nat.{ℕ, _+_, _-_, _*_, _%_}
-use mathlib.Core.Bool.{Bool, true, false}
 use mathlib.Core.List.{List, [], _∷_}
 use lib.Dec.{eqb, ltb}
 use Rattle.lists.specs.Choice.{if_then_else_}

@@ -1,6 +1,5 @@
 -- Lines and lists of waiters: the one order, passed through a test. Who stands first, and who runs.
 use Prim.Native.Nat.{ℕ}
-use mathlib.Core.Bool.{Bool, true, false}
 use mathlib.Core.List.{List, [], _∷_, _++_}
 use lib.Dec.{eqb}
 use Rattle.lists.specs.Choice.{if_then_else_}
@@ -9,7 +8,7 @@ use Rattle.order.specs.Order.{listed, ordered, without}
 use Rattle.slots.specs.Places.{isBlocked}
 use Rattle.slots.specs.Tasks.{inLine}
 use Rattle.slots.specs.Leads.{isWho}
-use Rattle.kernel.specs.Types.{TaskNo, ObjNo, Task, Who, AllReady, WaitersOf, Kernel}
+use Rattle.kernel.specs.Types.{TaskNo, Task, Who, AllReady, Kernel}
 use Rattle.kernel.specs.Tables.{taskAt, withOrder, withRunning}
 
 -- "Each priority has a line of its ready tasks": the line of p, of the tasks that l lists

@@ -1,13 +1,13 @@
 -- How a priority comes about: given, lent, paid back.
 use Prim.Native.Nat.{ℕ}
-use mathlib.Core.Bool.{Bool, true, false}
+use mathlib.Core.Bool.{Bool}
 use lib.Dec.{eqb}
 use Rattle.lists.specs.Choice.{if_then_else_}
 use Rattle.lists.specs.Lists.{larger}
 use Rattle.calls.specs.Numbers.{sameTask}
 use Rattle.slots.specs.Places.{isReady}
 use Rattle.slots.specs.Tasks.{ranked}
-use Rattle.kernel.specs.Types.{TaskNo, Task, Kernel}
+use Rattle.kernel.specs.Types.{TaskNo, Kernel}
 use Rattle.kernel.specs.Tables.{taskAt, holds, withTask}
 use Rattle.kernel.specs.Lines.{level, toTail, toHead}
 

@@ -1,14 +1,13 @@
 -- What the functions promise, as propositions that contracts and theorems cite.
 use Prim.Native.Nat.{ℕ, _<_}
 use mathlib.Core.Path.{_≡_}
-use mathlib.Core.Bool.{Bool, true, false}
 use mathlib.Core.List.{List}
 use lib.ListN.{length}
 use Rattle.lists.specs.Choice.{if_then_else_}
 use Rattle.calls.specs.Asked.{asked}
 use Rattle.calls.specs.Said.{Saying, says, said, done, made, waiting}
 use Rattle.slots.specs.Places.{isBlocked}
-use Rattle.kernel.specs.Types.{TaskNo, ObjNo, Ring, Queue, Object, Call, Kernel, Step}
+use Rattle.kernel.specs.Types.{TaskNo, ObjNo, Ring, Queue, Call, Kernel, Step}
 use Rattle.kernel.specs.Tables.{taskAt, kindAt}
 use Rattle.kernel.specs.Lines.{chosen}
 use Rattle.kernel.specs.Sentences.{RingFits}

@@ -4,7 +4,7 @@ use mathlib.Core.Bool.{Bool, false, _&&_}
 use mathlib.Core.List.{List}
 use lib.ListN.{getD}
 use Rattle.lists.specs.Lists.{allBelow}
-use Rattle.calls.specs.Numbers.{task, object}
+use Rattle.calls.specs.Numbers.{task}
 use Rattle.slots.specs.Places.{waited}
 use Rattle.slots.specs.Objects.{holderOf}
 use Rattle.slots.specs.Fine.{taskFine, kindFine}

@@ -1,6 +1,6 @@
 -- "What is turned away": the table, a row for each number, in its order. "Of the numbers that apply, the one that stands first in this table is given, and none otherwise."
 use Prim.Native.Nat.{ℕ, _*_}
-use mathlib.Core.Bool.{Bool, true, false, not, _&&_, _||_}
+use mathlib.Core.Bool.{Bool, false, not, _&&_, _||_}
 use mathlib.Core.List.{List, [], _∷_}
 use lib.Dec.{eqb, ltb, leb}
 use Rattle.lists.specs.Choice.{if_then_else_}

@@ -1,7 +1,6 @@
 -- "A kernel value is sound when", as propositions: for each task, each object, each line and each list what the sentence says, in document 01's order.
 use Prim.Native.Nat.{ℕ, _*_, _<_, _≤_}
 use mathlib.Core.Path.{_≡_}
-use mathlib.Core.Bool.{Bool, true, false}
 use mathlib.Core.List.{List, [], _∷_}
 use lib.ListN.{length, getD}
 use Rattle.lists.specs.Choice.{if_then_else_}
@@ -11,7 +10,7 @@ use Rattle.order.specs.Order.{listed}
 use Rattle.order.specs.Tidy.{count}
 use Rattle.slots.specs.Places.{isListed, waitsOn}
 use Rattle.slots.specs.Tasks.{freeTask, inLine}
-use Rattle.kernel.specs.Types.{TaskNo, ObjNo, Wake, At, Place, Free, Ready, Delayed, Waiting, Task, Ring, Holder, By, Kind, Queue, Mutex, Object, WaitersOf, Kernel}
+use Rattle.kernel.specs.Types.{TaskNo, ObjNo, Wake, At, Free, Ready, Delayed, Waiting, Task, Ring, By, Kind, Queue, Mutex, Object, WaitersOf, Kernel}
 use Rattle.kernel.specs.Tables.{taskAt, kindAt}
 use Rattle.kernel.specs.Lines.{line, those, level}
 

@@ -1,6 +1,6 @@
 -- "A kernel value is sound when": a test for each sentence, in document 01's order. (Sentences.antt has the same as propositions.)
 use Prim.Native.Nat.{ℕ}
-use mathlib.Core.Bool.{Bool, true, false, not, _&&_, _||_}
+use mathlib.Core.Bool.{Bool, false, not, _&&_, _||_}
 use mathlib.Core.List.{List, [], _∷_}
 use lib.Dec.{eqb, ltb, leb}
 use lib.ListN.{length}
@@ -12,7 +12,7 @@ use Rattle.slots.specs.Places.{isReady, waited}
 use Rattle.slots.specs.Tasks.{inHigher}
 use Rattle.slots.specs.Objects.{holderOf}
 use Rattle.slots.specs.Fine.{idleFine, standsFine, waitsFine, prioritiesFine, holderIn, notDue, ringInRange, outcomeFine, freshIfFree}
-use Rattle.kernel.specs.Types.{TaskNo, Task, Object, Kind, Order, Kernel}
+use Rattle.kernel.specs.Types.{TaskNo, Task, Object, Kind, Kernel}
 use Rattle.kernel.specs.Tables.{taskAt, kindAt, holds}
 use Rattle.kernel.specs.Lines.{line, level}
 

@@ -1,6 +1,6 @@
 -- A step: a kernel, a call, the item lent with it and the lent store give the next kernel, the answer and the store afterwards.
 use Prim.Native.Nat.{ℕ}
-use mathlib.Core.Bool.{Bool, true, false, _||_}
+use mathlib.Core.Bool.{_||_}
 use mathlib.Core.List.{List}
 use lib.Dec.{eqb}
 use lib.ListN.{length}

@@ -1,10 +1,9 @@
 -- Waits: how a task is made ready, and how the caller begins to wait.
 use Prim.Native.Nat.{ℕ, _+_, _%_, _^_}
-use mathlib.Core.Bool.{Bool, true, false}
 use lib.Dec.{leb}
 use Rattle.lists.specs.Choice.{if_then_else_}
 use Rattle.slots.specs.Tasks.{placed}
-use Rattle.kernel.specs.Types.{TaskNo, ObjNo, Wake, Never, At, Place, Ready, Waiting, Task, Kernel}
+use Rattle.kernel.specs.Types.{TaskNo, ObjNo, Wake, Never, At, Place, Ready, Waiting, Kernel}
 use Rattle.kernel.specs.Tables.{taskAt, withTask}
 use Rattle.kernel.specs.Lines.{toTail}
 

@@ -1,17 +1,15 @@
 -- How often a number stands in a list: the laws of `without` and of the moves.
-use Prim.Native.Nat.{ℕ, zero, suc, _+_, _<_, _≤_}
-use mathlib.Core.Path.{_≡_, refl, sym, ap, _∙_}
+use Prim.Native.Nat.{ℕ, suc, _+_}
+use mathlib.Core.Path.{_≡_, refl, sym, _∙_}
 use mathlib.Core.Bool.{Bool, true, false}
 use mathlib.Core.List.{List, [], _∷_, _++_}
 use native.Mathlib.Omega.{arith}
-use native.Mathlib.Nat.{zero-add}
 use lib.Dec.{eqb}
-use lib.ListN.{length, getD}
+use lib.ListN.{length}
 use borrow.Author.Tests.{eqb-true, eqb-false, eq-eqb, ne-eqb}
 use Rattle.calls.specs.declared.TaskNo.{TaskNo}
 use Rattle.lists.specs.Choice.{if_then_else_}
-use Rattle.lists.specs.Lists.{kept}
-use Rattle.calls.specs.Numbers.{task, idle, sameTask}
+use Rattle.calls.specs.Numbers.{sameTask}
 use Rattle.order.specs.Order.{without}
 use Rattle.order.specs.Tidy.{count}
 

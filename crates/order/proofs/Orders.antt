@@ -1,15 +1,13 @@
 -- The order that the code makes lists what it should: one more at the end, and all but one.
-use Prim.Native.Nat.{ℕ, zero, suc, _+_, _<_, _≤_, min}
+use Prim.Native.Nat.{ℕ, _+_, _<_, _≤_, min}
 use mathlib.Core.Path.{_≡_, refl, sym, ap, _∙_}
 use mathlib.Core.Bool.{Bool, true, false}
 use mathlib.Core.List.{List, [], _∷_, _++_, append-assoc, append-nil}
-use native.Mathlib.Numerals.{add-one}
 use native.Mathlib.Omega.{arith}
-use lib.Dec.{eqb, ltb}
-use lib.ListN.{length, getD, set, take, drop, replicate, length-take, length-append}
+use lib.Dec.{ltb}
+use lib.ListN.{length, set, take, replicate, length-append}
 use lib.Seq.{take-set-lt, take-append-le, take-take, take-append-seam, set-append-seam}
 use borrow.Author.Tests.{ltb-true, ltb-false}
-use Rattle.order.specs.declared.Order.{Order}
 use Rattle.calls.specs.declared.TaskNo.{TaskNo}
 use Rattle.lists.specs.Choice.{if_then_else_}
 use Rattle.lists.specs.Lists.{foldl}

@@ -1,8 +1,7 @@
 -- One list of tasks, and what becomes of it. A line or a list of waiters is this list, passed through a test.
-use Prim.Native.Nat.{ℕ, suc, _+_, min}
-use mathlib.Core.Bool.{Bool, true, false}
+use Prim.Native.Nat.{ℕ, _+_, min}
 use mathlib.Core.List.{List, [], _∷_, _++_}
-use lib.Dec.{eqb, ltb}
+use lib.Dec.{ltb}
 use lib.ListN.{length, set, take, replicate}
 use Rattle.lists.specs.Choice.{if_then_else_}
 use Rattle.calls.specs.declared.TaskNo.{TaskNo}

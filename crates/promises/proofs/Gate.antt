@@ -1,6 +1,6 @@
 -- P1 to P12: one claim over the whole list, computed.
 use mathlib.Core.Path.{_≡_, refl}
-use mathlib.Core.List.{List, map}
+use mathlib.Core.List.{map}
 use Rattle.lists.specs.Lists.{every, allBelow, foldl, upTo, index, any, kept}
 use Rattle.calls.specs.Asked.{asked}
 use Rattle.order.specs.Order.{ordered, without}
@@ -16,7 +16,7 @@ use Rattle.kernel.specs.Step.{stored, answered, accepted, step}
 use Rattle.kernel.specs.Tables.{fresh, taskAt, kindAt, holds, freeSlot, freeObject}
 use Rattle.kernel.specs.Ticks.{wokenIfDue, wakes, oneTick, turned, ticked, ticks, released, held}
 use Rattle.kernel.specs.Waits.{readied, blocked, waitFor}
-use Rattle.promises.specs.Cases.{Case, Seen, run, ran, p1, p2, p3, p4, p5, p6, p7, p8, p9, p10, p11, p12, cases}
+use Rattle.promises.specs.Cases.{Case, run, ran, p1, p2, p3, p4, p5, p6, p7, p8, p9, p10, p11, p12, cases}
 
 pub both-sides-of-the-gate : map ran cases ≡ map (λ (c : Case). c .expected) cases
 unfolding cases p1 p2 p3 p4 p5 p6 p7 p8 p9 p10 p11 p12 run every allBelow foldl upTo index any kept asked ordered without count tidy putAt created deleted suspended resumed yielded delayed queueMade mutexMade removed taken handedOn given effect itemAt outlet sent storeSent received storeReceived line those highest leader first chosen toTail toHead leaves moved movedIf prioritized newPriority lent ownAgain outOfRange namesNone wrongSize notForIdle notWithHold noSlot inUse notHis hisAlready notSuspended mustWait noDepth noTick table laterRow refusal noHigher runsFine sound stored answered accepted step fresh taskAt kindAt holds freeSlot freeObject wokenIfDue wakes oneTick turned ticked ticks released held readied blocked waitFor

@@ -1,19 +1,17 @@
 -- The marks by slot say who holds a mutex.
 use Prim.Native.Nat.{ℕ, _+_, _<_, _≤_}
-use mathlib.Core.Path.{_≡_, refl, sym, ap, _∙_}
+use mathlib.Core.Path.{_≡_, refl, sym, _∙_}
 use mathlib.Core.Bool.{Bool, true, false, _||_}
 use mathlib.Core.List.{List, [], _∷_}
 use native.Mathlib.Omega.{arith}
 use lib.Dec.{eqb}
-use lib.ListN.{length, getD, set, replicate, length-set, getD-replicate}
+use lib.ListN.{length, getD, replicate, length-set, getD-replicate}
 use lib.Seq.{getD-set-same, getD-set-other, set-out, take-all}
-use borrow.Author.Tests.{eqb-true, eqb-false, ne-eqb, eq-eqb}
-use Rattle.lists.specs.Choice.{if_then_else_}
+use borrow.Author.Tests.{eqb-true, eqb-false, ne-eqb}
 use Rattle.lists.specs.Lists.{foldl, any}
 use Rattle.lists.proofs.Loops.{Rest, begin, turn, done}
-use Rattle.calls.specs.declared.TaskNo.{TaskNo}
 use Rattle.calls.specs.Numbers.{task}
-use Rattle.slots.specs.Types.{Holder, Nobody, By, Kind, Unused, Queue, Mutex, Object}
+use Rattle.slots.specs.Types.{Nobody, By, Kind, Unused, Queue, Mutex, Object}
 use Rattle.slots.specs.Objects.{unused, heldBy, holderOf, mark, marksOf}
 
 -- who holds an object is its holder

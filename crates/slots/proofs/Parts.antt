@@ -1,7 +1,7 @@
 -- What is asked of a task and of an object, taken apart and put together.
 use Prim.Native.Nat.{ℕ}
 use mathlib.Core.Path.{_≡_}
-use mathlib.Core.Bool.{Bool, true, _&&_}
+use mathlib.Core.Bool.{Bool, true}
 use Rattle.lists.proofs.Bools.{and-left, and-right, and-intro}
 use Rattle.calls.specs.declared.TaskNo.{TaskNo}
 use Rattle.slots.specs.Types.{Place, Task, Kind}

@@ -1,12 +1,10 @@
 -- The sentences of soundness that speak of one slot, in document 01's order.
 use Prim.Native.Nat.{ℕ, _*_}
 use mathlib.Core.Bool.{Bool, true, false, not, _&&_, _||_}
-use mathlib.Core.List.{List, [], _∷_}
 use lib.Dec.{eqb, ltb, leb}
 use Rattle.lists.specs.Choice.{if_then_else_}
-use Rattle.lists.specs.Lists.{every}
 use Rattle.calls.specs.declared.TaskNo.{TaskNo}
-use Rattle.slots.specs.Types.{Wake, Never, At, Place, Free, Ready, Delayed, Waiting, Suspended, Task, Ring, Holder, Nobody, By, Kind, Unused, Queue, Mutex}
+use Rattle.slots.specs.Types.{Wake, Never, At, Place, Free, Ready, Delayed, Waiting, Suspended, Task, Ring, Nobody, By, Kind, Unused, Queue, Mutex}
 use Rattle.slots.specs.Places.{isFree, isReady, isBlocked, isListed, wakesAt}
 use Rattle.slots.specs.Objects.{isBy, isTaken}
 

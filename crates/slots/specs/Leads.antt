@@ -1,6 +1,6 @@
 -- Which tasks are meant, and the best of those looked at so far.
 use Prim.Native.Nat.{ℕ}
-use mathlib.Core.Bool.{Bool, true, false}
+use mathlib.Core.Bool.{Bool}
 use mathlib.Core.List.{List, [], _∷_}
 use lib.Dec.{ltb}
 use Rattle.lists.specs.Choice.{if_then_else_}

@@ -1,12 +1,11 @@
 -- "16 object slots, each free, a queue or a mutex."
-use Prim.Native.Nat.{ℕ}
 use mathlib.Core.Bool.{Bool, true, false}
 use mathlib.Core.List.{List}
 use lib.ListN.{set, replicate}
 use Rattle.lists.specs.Lists.{foldl}
 use Rattle.calls.specs.declared.TaskNo.{TaskNo}
 use Rattle.calls.specs.Numbers.{task, sameTask}
-use Rattle.slots.specs.Types.{Ring, Holder, Nobody, By, Kind, Unused, Queue, Mutex, Object}
+use Rattle.slots.specs.Types.{Holder, Nobody, By, Kind, Unused, Queue, Mutex, Object}
 
 -- a free slot
 abbrev pub unused : Object

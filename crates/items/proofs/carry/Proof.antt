@@ -10,11 +10,6 @@ use mathlib.Core.Path.{sym, _∙_}
 use native.Mathlib.Omega.{arith}
 use Rattle.items.proofs.carry.Statement.{statement}
 use Rattle.items.proofs.carry.Tie as tie
-use Rattle.items.proofs.carry.Reads as reads
-use Rattle.items.proofs.carry.Lts as lts
-use Rattle.items.proofs.fetch.Reads as fetch-reads
-use Rattle.items.proofs.put_at.Reads as put-at-reads
-use Rattle.items.proofs.stands.Reads as stands-reads
 
 stands-requires : tie.Need-stands-requires
 stands-requires c κs = search needs

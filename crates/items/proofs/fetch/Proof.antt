@@ -5,9 +5,6 @@ use lib.ListN.{replicate}
 use mathlib.Core.Path.{refl, _∙_}
 use Rattle.items.proofs.fetch.Statement.{statement}
 use Rattle.items.proofs.fetch.Tie as tie
-use Rattle.items.proofs.fetch.Reads as reads
-use Rattle.items.proofs.fetch.Lts as lts
-use Rattle.items.proofs.least.Reads as least-reads
 
 abbrev Inv-loop : tie.InvT-loop
 Inv-loop part n out₀ e i₀ out i = Copying (replicate 64 0) part n out e i

@@ -4,9 +4,6 @@ use Rattle.items.proofs.Copies.{Copying, copy-begin, copy-turn, copy-do
 use mathlib.Core.Path.{refl, _∙_}
 use Rattle.items.proofs.put.Statement.{statement}
 use Rattle.items.proofs.put.Tie as tie
-use Rattle.items.proofs.put.Reads as reads
-use Rattle.items.proofs.put.Lts as lts
-use Rattle.items.proofs.least.Reads as least-reads
 
 abbrev Inv-loop : tie.InvT-loop
 Inv-loop part₀ item n e i₀ part i = Copying part₀ item n part e i

@@ -6,9 +6,6 @@ use mathlib.Core.Path.{sym}
 use native.Mathlib.Omega.{arith}
 use Rattle.items.proofs.put_at.Statement.{statement}
 use Rattle.items.proofs.put_at.Tie as tie
-use Rattle.items.proofs.put_at.Reads as reads
-use Rattle.items.proofs.put_at.Lts as lts
-use Rattle.items.proofs.put.Reads as put-reads
 
 sub-put : tie.Need-sub-put
 sub-put c = search needs

@@ -1,12 +1,9 @@
-use borrow.Author.Needs.{needs}
 use Prim.Native.Nat.{_+_, _<_}
 use Rattle.items.proofs.Copies.{less-or-sum}
 use borrow.Author.Tests.{le-leb, lt-leb}
 use native.Mathlib.Omega.{arith}
 use Rattle.items.proofs.stands.Statement.{statement}
 use Rattle.items.proofs.stands.Tie as tie
-use Rattle.items.proofs.stands.Reads as reads
-use Rattle.items.proofs.stands.Lts as lts
 
 returns : tie.Need-returns
 returns c = rw (lt-leb _ _ (c .if1 .taken))

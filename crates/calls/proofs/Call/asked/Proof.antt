@@ -2,11 +2,6 @@ use borrow.Author.Needs.{needs}
 use Rattle.calls.specs.Asked.{asked}
 use Rattle.calls.proofs.Call.asked.Statement.{statement}
 use Rattle.calls.proofs.Call.asked.Tie as tie
-use Rattle.calls.proofs.Call.asked.Reads as reads
-use Rattle.calls.proofs.Call.asked.Lts as lts
-use Rattle.calls.proofs.Asked.nothing.Reads as nothing-reads
-use Rattle.calls.proofs.Asked.on_object.Reads as on-object-reads
-use Rattle.calls.proofs.Asked.on_task.Reads as on-task-reads
 
 enum-known-self : tie.Need-enum-known-self
 enum-known-self c = search needs

@@ -3,10 +3,6 @@ use Rattle.kernel.specs.Lines.{chosen}
 use borrow.Author.Tests.{eq-eqb, ne-eqb}
 use Rattle.kernel.proofs.Kernel.chosen.Statement.{statement}
 use Rattle.kernel.proofs.Kernel.chosen.Tie as tie
-use Rattle.kernel.proofs.Kernel.chosen.Reads as reads
-use Rattle.kernel.proofs.Kernel.chosen.Lts as lts
-use Rattle.kernel.proofs.Kernel.first.Reads as first-reads
-use Rattle.kernel.proofs.Kernel.runs.Reads as runs-reads
 
 first-requires : tie.Need-first-requires
 first-requires c κs = search needs

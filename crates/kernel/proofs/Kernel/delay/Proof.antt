@@ -8,12 +8,6 @@ use borrow.Author.Tests.{eq-eqb, ne-eqb}
 use mathlib.Core.Path.{refl, _∙_}
 use Rattle.kernel.proofs.Kernel.delay.Statement.{statement}
 use Rattle.kernel.proofs.Kernel.delay.Tie as tie
-use Rattle.kernel.proofs.Kernel.delay.Reads as reads
-use Rattle.kernel.proofs.Kernel.delay.Lts as lts
-use Rattle.kernel.proofs.Kernel.blocked.Reads as blocked-reads
-use Rattle.kernel.proofs.Kernel.ended.Reads as ended-reads
-use Rattle.kernel.proofs.Kernel.to_tail.Reads as to-tail-reads
-use Rattle.std.proofs.num.wrapping_add_u32.Reads as wrapping-add-u32-reads
 
 to-tail-requires : tie.Need-to-tail-requires
 to-tail-requires c κs = search needs

@@ -7,12 +7,6 @@ use Rattle.kernel.specs.Types.{Delete}
 use mathlib.Core.Path.{refl, _∙_}
 use Rattle.kernel.proofs.Kernel.delete.Statement.{statement}
 use Rattle.kernel.proofs.Kernel.delete.Tie as tie
-use Rattle.kernel.proofs.Kernel.delete.Reads as reads
-use Rattle.kernel.proofs.Kernel.delete.Lts as lts
-use Rattle.kernel.proofs.Kernel.ended.Reads as ended-reads
-use Rattle.kernel.proofs.Kernel.leaves.Reads as leaves-reads
-use Rattle.kernel.proofs.Kernel.with_task.Reads as with-task-reads
-use Rattle.slots.proofs.Task.free.Reads as free-reads
 
 free-requires : tie.Need-free-requires
 free-requires c κs = search needs

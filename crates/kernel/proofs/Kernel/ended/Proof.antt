@@ -1,11 +1,6 @@
 use borrow.Author.Needs.{needs}
 use Rattle.kernel.proofs.Kernel.ended.Statement.{statement}
 use Rattle.kernel.proofs.Kernel.ended.Tie as tie
-use Rattle.kernel.proofs.Kernel.ended.Reads as reads
-use Rattle.kernel.proofs.Kernel.ended.Lts as lts
-use Rattle.kernel.proofs.Kernel.chosen.Reads as chosen-reads
-use Rattle.kernel.proofs.Kernel.task.Reads as task-reads
-use Rattle.slots.proofs.Place.is_blocked.Reads as is-blocked-reads
 
 chosen-requires : tie.Need-chosen-requires
 chosen-requires c κs = search needs

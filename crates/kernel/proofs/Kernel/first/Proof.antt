@@ -14,12 +14,6 @@ use mathlib.Core.Path.{_≡_, ap, _∙_}
 use native.Mathlib.Omega.{arith}
 use Rattle.kernel.proofs.Kernel.first.Statement.{statement}
 use Rattle.kernel.proofs.Kernel.first.Tie as tie
-use Rattle.kernel.proofs.Kernel.first.Reads as reads
-use Rattle.kernel.proofs.Kernel.first.Lts as lts
-use Rattle.calls.proofs.TaskNo.slot.Reads as slot-reads
-use Rattle.order.proofs.Order.reach.Reads as reach-reads
-use Rattle.slots.proofs.Lead.better.Reads as better-reads
-use Rattle.slots.proofs.Lead.found.Reads as found-reads
 
 abbrev Inv-loop : tie.InvT-loop
 Inv-loop w self best₀ i₀ o n best i = Rest (λ b t. better w b t (taskAt (self .tasks) t)) (o .living) (o .places) n best₀ best i

@@ -10,9 +10,6 @@ use mathlib.Core.Path.{_≡_, sym, _∙_}
 use native.Mathlib.Omega.{arith}
 use Rattle.kernel.proofs.Kernel.free_object.Statement.{statement}
 use Rattle.kernel.proofs.Kernel.free_object.Tie as tie
-use Rattle.kernel.proofs.Kernel.free_object.Reads as reads
-use Rattle.kernel.proofs.Kernel.free_object.Lts as lts
-use Rattle.slots.proofs.Kind.is_unused.Reads as is-unused-reads
 
 abbrev Inv-loop : tie.InvT-loop
 Inv-loop self i₀ i = Ahead (λ (x : Object). isUnused (x .kind)) (self .objects) i × (i ≤ 16)

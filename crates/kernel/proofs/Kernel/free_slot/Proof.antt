@@ -10,9 +10,6 @@ use mathlib.Core.Path.{_≡_, sym, _∙_}
 use native.Mathlib.Omega.{arith}
 use Rattle.kernel.proofs.Kernel.free_slot.Statement.{statement}
 use Rattle.kernel.proofs.Kernel.free_slot.Tie as tie
-use Rattle.kernel.proofs.Kernel.free_slot.Reads as reads
-use Rattle.kernel.proofs.Kernel.free_slot.Lts as lts
-use Rattle.slots.proofs.Place.is_free.Reads as is-free-reads
 
 abbrev Inv-loop : tie.InvT-loop
 Inv-loop self i₀ i = Ahead (λ (x : Task). isFree (x .place)) (self .tasks) i × (i ≤ 16)

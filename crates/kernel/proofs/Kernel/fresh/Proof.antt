@@ -3,13 +3,6 @@ use Rattle.kernel.specs.Tables.{fresh}
 use Rattle.order.specs.Order.{ordered}
 use Rattle.kernel.proofs.Kernel.fresh.Statement.{statement}
 use Rattle.kernel.proofs.Kernel.fresh.Tie as tie
-use Rattle.kernel.proofs.Kernel.fresh.Reads as reads
-use Rattle.kernel.proofs.Kernel.fresh.Lts as lts
-use Rattle.calls.proofs.TaskNo.of.Reads as of-reads
-use Rattle.order.proofs.Order.appended.Reads as appended-reads
-use Rattle.order.proofs.Order.empty.Reads as empty-reads
-use Rattle.slots.proofs.Task.free.Reads as free-reads
-use Rattle.slots.proofs.Task.ready_at.Reads as ready-at-reads
 
 free-requires : tie.Need-free-requires
 free-requires c κs = search needs

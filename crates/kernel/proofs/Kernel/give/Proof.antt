@@ -7,11 +7,6 @@ use Rattle.kernel.specs.Types.{Give}
 use mathlib.Core.Path.{refl, _∙_}
 use Rattle.kernel.proofs.Kernel.give.Statement.{statement}
 use Rattle.kernel.proofs.Kernel.give.Tie as tie
-use Rattle.kernel.proofs.Kernel.give.Reads as reads
-use Rattle.kernel.proofs.Kernel.give.Lts as lts
-use Rattle.kernel.proofs.Kernel.ended.Reads as ended-reads
-use Rattle.kernel.proofs.Kernel.handed_on.Reads as handed-on-reads
-use Rattle.kernel.proofs.Kernel.own_again.Reads as own-again-reads
 
 handed-on-requires : tie.Need-handed-on-requires
 handed-on-requires c κs = search needs

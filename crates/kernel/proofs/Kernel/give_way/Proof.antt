@@ -7,10 +7,6 @@ use Rattle.kernel.specs.Types.{Yield}
 use mathlib.Core.Path.{refl}
 use Rattle.kernel.proofs.Kernel.give_way.Statement.{statement}
 use Rattle.kernel.proofs.Kernel.give_way.Tie as tie
-use Rattle.kernel.proofs.Kernel.give_way.Reads as reads
-use Rattle.kernel.proofs.Kernel.give_way.Lts as lts
-use Rattle.kernel.proofs.Kernel.ended.Reads as ended-reads
-use Rattle.kernel.proofs.Kernel.to_tail.Reads as to-tail-reads
 
 to-tail-requires : tie.Need-to-tail-requires
 to-tail-requires c κs = search needs

@@ -3,11 +3,6 @@ use Rattle.kernel.specs.Effects.{handedOn}
 use mathlib.Core.Path.{_∙_}
 use Rattle.kernel.proofs.Kernel.handed_on.Statement.{statement}
 use Rattle.kernel.proofs.Kernel.handed_on.Tie as tie
-use Rattle.kernel.proofs.Kernel.handed_on.Reads as reads
-use Rattle.kernel.proofs.Kernel.handed_on.Lts as lts
-use Rattle.kernel.proofs.Kernel.first.Reads as first-reads
-use Rattle.kernel.proofs.Kernel.readied.Reads as readied-reads
-use Rattle.kernel.proofs.Kernel.with_object.Reads as with-object-reads
 
 first-requires : tie.Need-first-requires
 first-requires c κs = search needs

@@ -12,12 +12,6 @@ use mathlib.Core.Path.{_≡_, _∙_}
 use native.Mathlib.Omega.{arith}
 use Rattle.kernel.proofs.Kernel.heads_line.Statement.{statement}
 use Rattle.kernel.proofs.Kernel.heads_line.Tie as tie
-use Rattle.kernel.proofs.Kernel.heads_line.Reads as reads
-use Rattle.kernel.proofs.Kernel.heads_line.Lts as lts
-use Rattle.calls.proofs.TaskNo.same.Reads as same-reads
-use Rattle.calls.proofs.TaskNo.slot.Reads as slot-reads
-use Rattle.order.proofs.Order.reach.Reads as reach-reads
-use Rattle.slots.proofs.Task.in_line.Reads as in-line-reads
 
 abbrev Inv-loop : tie.InvT-loop
 Inv-loop p self u o n i₀ i = Skipped (λ t. inLine p (taskAt (self .tasks) t)) (o .living) (o .places) n i

@@ -10,10 +10,6 @@ use mathlib.Core.Path.{refl}
 use native.Mathlib.Omega.{arith}
 use Rattle.kernel.proofs.Kernel.hold.Statement.{statement}
 use Rattle.kernel.proofs.Kernel.hold.Tie as tie
-use Rattle.kernel.proofs.Kernel.hold.Reads as reads
-use Rattle.kernel.proofs.Kernel.hold.Lts as lts
-use Rattle.kernel.proofs.Kernel.ended.Reads as ended-reads
-use Rattle.kernel.proofs.Kernel.with_hold.Reads as with-hold-reads
 
 add-with-hold : tie.Need-add-with-hold
 add-with-hold c = omega (arith, below-255 (c .before .before .args .self .hold) (omega arith) (c .before .before .pre))

@@ -10,10 +10,6 @@ use mathlib.Core.Path.{_≡_, _∙_}
 use native.Mathlib.Omega.{arith}
 use Rattle.kernel.proofs.Kernel.holders.Statement.{statement}
 use Rattle.kernel.proofs.Kernel.holders.Tie as tie
-use Rattle.kernel.proofs.Kernel.holders.Reads as reads
-use Rattle.kernel.proofs.Kernel.holders.Lts as lts
-use Rattle.calls.proofs.TaskNo.slot.Reads as slot-reads
-use Rattle.slots.proofs.Kind.holder.Reads as holder-reads
 
 abbrev Inv-loop : tie.InvT-loop
 Inv-loop self held₀ i₀ held i = Marking (self .objects) held₀ held i × (i ≤ 16)

@@ -9,9 +9,6 @@ use mathlib.Core.Path.{_≡_, sym, _∙_}
 use native.Mathlib.Omega.{arith}
 use Rattle.kernel.proofs.Kernel.holds.Statement.{statement}
 use Rattle.kernel.proofs.Kernel.holds.Tie as tie
-use Rattle.kernel.proofs.Kernel.holds.Reads as reads
-use Rattle.kernel.proofs.Kernel.holds.Lts as lts
-use Rattle.slots.proofs.Kind.held_by.Reads as held-by-reads
 
 abbrev Inv-loop : tie.InvT-loop
 Inv-loop t self i₀ i = Sought (λ (x : Object). heldBy t (x .kind)) (self .objects) i × (i ≤ 16)

@@ -9,15 +9,6 @@ use mathlib.Core.Path.{_≡_, sym, _∙_}
 use native.Mathlib.Omega.{arith}
 use Rattle.kernel.proofs.Kernel.in_use.Statement.{statement}
 use Rattle.kernel.proofs.Kernel.in_use.Tie as tie
-use Rattle.kernel.proofs.Kernel.in_use.Reads as reads
-use Rattle.kernel.proofs.Kernel.in_use.Lts as lts
-use Rattle.kernel.proofs.Kernel.first.Reads as first-reads
-use Rattle.kernel.proofs.Kernel.holds.Reads as holds-reads
-use Rattle.kernel.proofs.Kernel.kind.Reads as kind-reads
-use Rattle.kernel.proofs.asking.is.Reads as is-reads
-use Rattle.lists.proofs.either.Reads as either-reads
-use Rattle.slots.proofs.Found.is_some.Reads as is-some-reads
-use Rattle.slots.proofs.Kind.is_held.Reads as is-held-reads
 
 is-requires : tie.Need-is-requires
 is-requires c κs = search needs

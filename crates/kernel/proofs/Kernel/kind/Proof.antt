@@ -7,9 +7,6 @@ use mathlib.Core.Path.{_≡_, sym}
 use native.Mathlib.Omega.{arith}
 use Rattle.kernel.proofs.Kernel.kind.Statement.{statement}
 use Rattle.kernel.proofs.Kernel.kind.Tie as tie
-use Rattle.kernel.proofs.Kernel.kind.Reads as reads
-use Rattle.kernel.proofs.Kernel.kind.Lts as lts
-use Rattle.calls.proofs.ObjNo.slot.Reads as slot-reads
 
 slot-requires : tie.Need-slot-requires
 slot-requires c κs = search needs

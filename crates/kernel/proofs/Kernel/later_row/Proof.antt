@@ -3,21 +3,6 @@ use Rattle.kernel.specs.Refusals.{table, laterRow}
 use borrow.Author.Tests.{eq-eqb, ne-eqb}
 use Rattle.kernel.proofs.Kernel.later_row.Statement.{statement}
 use Rattle.kernel.proofs.Kernel.later_row.Tie as tie
-use Rattle.kernel.proofs.Kernel.later_row.Reads as reads
-use Rattle.kernel.proofs.Kernel.later_row.Lts as lts
-use Rattle.kernel.proofs.Kernel.his_already.Reads as his-already-reads
-use Rattle.kernel.proofs.Kernel.in_use.Reads as in-use-reads
-use Rattle.kernel.proofs.Kernel.must_wait.Reads as must-wait-reads
-use Rattle.kernel.proofs.Kernel.names_none.Reads as names-none-reads
-use Rattle.kernel.proofs.Kernel.no_depth.Reads as no-depth-reads
-use Rattle.kernel.proofs.Kernel.no_slot.Reads as no-slot-reads
-use Rattle.kernel.proofs.Kernel.no_tick.Reads as no-tick-reads
-use Rattle.kernel.proofs.Kernel.not_for_idle.Reads as not-for-idle-reads
-use Rattle.kernel.proofs.Kernel.not_his.Reads as not-his-reads
-use Rattle.kernel.proofs.Kernel.not_suspended.Reads as not-suspended-reads
-use Rattle.kernel.proofs.Kernel.not_with_hold.Reads as not-with-hold-reads
-use Rattle.kernel.proofs.Kernel.wrong_size.Reads as wrong-size-reads
-use Rattle.kernel.proofs.refusals.out_of_range.Reads as out-of-range-reads
 
 returns : tie.Need-returns
 unfolding laterRow table

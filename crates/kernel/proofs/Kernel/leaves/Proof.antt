@@ -3,10 +3,6 @@ use Rattle.kernel.specs.Lines.{leaves}
 use mathlib.Core.Path.{_∙_}
 use Rattle.kernel.proofs.Kernel.leaves.Statement.{statement}
 use Rattle.kernel.proofs.Kernel.leaves.Tie as tie
-use Rattle.kernel.proofs.Kernel.leaves.Reads as reads
-use Rattle.kernel.proofs.Kernel.leaves.Lts as lts
-use Rattle.kernel.proofs.Kernel.with_order.Reads as with-order-reads
-use Rattle.order.proofs.Order.without.Reads as without-reads
 
 without-requires : tie.Need-without-requires
 without-requires c κs = search needs

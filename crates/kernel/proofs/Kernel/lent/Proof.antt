@@ -3,11 +3,6 @@ use Rattle.kernel.specs.Loans.{lent}
 use mathlib.Core.Path.{_∙_}
 use Rattle.kernel.proofs.Kernel.lent.Statement.{statement}
 use Rattle.kernel.proofs.Kernel.lent.Tie as tie
-use Rattle.kernel.proofs.Kernel.lent.Reads as reads
-use Rattle.kernel.proofs.Kernel.lent.Lts as lts
-use Rattle.kernel.proofs.Kernel.prioritized.Reads as prioritized-reads
-use Rattle.kernel.proofs.Kernel.task.Reads as task-reads
-use Rattle.kernel.proofs.loans.larger.Reads as larger-reads
 
 task-requires : tie.Need-task-requires
 task-requires c κs = search needs

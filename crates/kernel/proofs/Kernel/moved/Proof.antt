@@ -2,11 +2,6 @@ use borrow.Author.Needs.{needs}
 use Rattle.kernel.specs.Loans.{moved}
 use Rattle.kernel.proofs.Kernel.moved.Statement.{statement}
 use Rattle.kernel.proofs.Kernel.moved.Tie as tie
-use Rattle.kernel.proofs.Kernel.moved.Reads as reads
-use Rattle.kernel.proofs.Kernel.moved.Lts as lts
-use Rattle.calls.proofs.TaskNo.same.Reads as same-reads
-use Rattle.kernel.proofs.Kernel.to_head.Reads as to-head-reads
-use Rattle.kernel.proofs.Kernel.to_tail.Reads as to-tail-reads
 
 same-requires : tie.Need-same-requires
 same-requires c κs = search needs

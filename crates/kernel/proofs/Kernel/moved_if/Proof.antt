@@ -2,9 +2,6 @@ use borrow.Author.Needs.{needs}
 use Rattle.kernel.specs.Loans.{movedIf}
 use Rattle.kernel.proofs.Kernel.moved_if.Statement.{statement}
 use Rattle.kernel.proofs.Kernel.moved_if.Tie as tie
-use Rattle.kernel.proofs.Kernel.moved_if.Reads as reads
-use Rattle.kernel.proofs.Kernel.moved_if.Lts as lts
-use Rattle.kernel.proofs.Kernel.moved.Reads as moved-reads
 
 returns : tie.Need-returns
 unfolding movedIf

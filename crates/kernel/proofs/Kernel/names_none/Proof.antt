@@ -3,14 +3,6 @@ use Rattle.kernel.specs.Refusals.{namesNone}
 use mathlib.Core.Path.{_∙_}
 use Rattle.kernel.proofs.Kernel.names_none.Statement.{statement}
 use Rattle.kernel.proofs.Kernel.names_none.Tie as tie
-use Rattle.kernel.proofs.Kernel.names_none.Reads as reads
-use Rattle.kernel.proofs.Kernel.names_none.Lts as lts
-use Rattle.kernel.proofs.Kernel.kind.Reads as kind-reads
-use Rattle.kernel.proofs.Kernel.task.Reads as task-reads
-use Rattle.slots.proofs.Kind.is_mutex.Reads as is-mutex-reads
-use Rattle.slots.proofs.Kind.is_queue.Reads as is-queue-reads
-use Rattle.slots.proofs.Kind.is_unused.Reads as is-unused-reads
-use Rattle.slots.proofs.Place.is_free.Reads as is-free-reads
 
 enum-told : tie.Need-enum-told
 enum-told c = search needs

@@ -3,12 +3,6 @@ use Rattle.kernel.specs.Loans.{newPriority}
 use mathlib.Core.Path.{_∙_}
 use Rattle.kernel.proofs.Kernel.new_priority.Statement.{statement}
 use Rattle.kernel.proofs.Kernel.new_priority.Tie as tie
-use Rattle.kernel.proofs.Kernel.new_priority.Reads as reads
-use Rattle.kernel.proofs.Kernel.new_priority.Lts as lts
-use Rattle.kernel.proofs.Kernel.holds.Reads as holds-reads
-use Rattle.kernel.proofs.Kernel.prioritized.Reads as prioritized-reads
-use Rattle.kernel.proofs.Kernel.task.Reads as task-reads
-use Rattle.kernel.proofs.loans.larger.Reads as larger-reads
 
 holds-requires : tie.Need-holds-requires
 holds-requires c κs = search needs

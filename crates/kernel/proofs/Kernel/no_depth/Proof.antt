@@ -3,11 +3,6 @@ use Rattle.kernel.specs.Refusals.{noDepth}
 use mathlib.Core.Path.{_∙_}
 use Rattle.kernel.proofs.Kernel.no_depth.Statement.{statement}
 use Rattle.kernel.proofs.Kernel.no_depth.Tie as tie
-use Rattle.kernel.proofs.Kernel.no_depth.Reads as reads
-use Rattle.kernel.proofs.Kernel.no_depth.Lts as lts
-use Rattle.kernel.proofs.asking.is.Reads as is-reads
-use Rattle.lists.proofs.both.Reads as both-reads
-use Rattle.lists.proofs.either.Reads as either-reads
 
 is-requires : tie.Need-is-requires
 is-requires c κs = search needs

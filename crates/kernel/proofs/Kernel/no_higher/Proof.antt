@@ -12,11 +12,6 @@ use mathlib.Core.Path.{_≡_}
 use native.Mathlib.Omega.{arith}
 use Rattle.kernel.proofs.Kernel.no_higher.Statement.{statement}
 use Rattle.kernel.proofs.Kernel.no_higher.Tie as tie
-use Rattle.kernel.proofs.Kernel.no_higher.Reads as reads
-use Rattle.kernel.proofs.Kernel.no_higher.Lts as lts
-use Rattle.calls.proofs.TaskNo.slot.Reads as slot-reads
-use Rattle.order.proofs.Order.reach.Reads as reach-reads
-use Rattle.slots.proofs.Task.in_higher.Reads as in-higher-reads
 
 abbrev Inv-loop : tie.InvT-loop
 Inv-loop p self o n i₀ i = Skipped (λ t. inHigher p (taskAt (self .tasks) t)) (o .living) (o .places) n i

@@ -7,12 +7,6 @@ use mathlib.Core.Path.{_≡_, sym, _∙_}
 use native.Mathlib.Omega.{arith}
 use Rattle.kernel.proofs.Kernel.no_slot.Statement.{statement}
 use Rattle.kernel.proofs.Kernel.no_slot.Tie as tie
-use Rattle.kernel.proofs.Kernel.no_slot.Reads as reads
-use Rattle.kernel.proofs.Kernel.no_slot.Lts as lts
-use Rattle.kernel.proofs.Kernel.free_object.Reads as free-object-reads
-use Rattle.kernel.proofs.Kernel.free_slot.Reads as free-slot-reads
-use Rattle.kernel.proofs.asking.is.Reads as is-reads
-use Rattle.lists.proofs.either.Reads as either-reads
 
 is-requires : tie.Need-is-requires
 is-requires c κs = search needs

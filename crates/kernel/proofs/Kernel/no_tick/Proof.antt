@@ -3,10 +3,6 @@ use Rattle.kernel.specs.Refusals.{noTick}
 use mathlib.Core.Path.{_∙_}
 use Rattle.kernel.proofs.Kernel.no_tick.Statement.{statement}
 use Rattle.kernel.proofs.Kernel.no_tick.Tie as tie
-use Rattle.kernel.proofs.Kernel.no_tick.Reads as reads
-use Rattle.kernel.proofs.Kernel.no_tick.Lts as lts
-use Rattle.kernel.proofs.asking.is.Reads as is-reads
-use Rattle.lists.proofs.both.Reads as both-reads
 
 is-requires : tie.Need-is-requires
 is-requires c κs = search needs

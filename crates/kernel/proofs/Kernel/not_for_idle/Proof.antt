@@ -3,14 +3,6 @@ use Rattle.kernel.specs.Refusals.{notForIdle}
 use mathlib.Core.Path.{_∙_}
 use Rattle.kernel.proofs.Kernel.not_for_idle.Statement.{statement}
 use Rattle.kernel.proofs.Kernel.not_for_idle.Tie as tie
-use Rattle.kernel.proofs.Kernel.not_for_idle.Reads as reads
-use Rattle.kernel.proofs.Kernel.not_for_idle.Lts as lts
-use Rattle.calls.proofs.TaskNo.is_idle.Reads as is-idle-reads
-use Rattle.kernel.proofs.asking.is.Reads as is-reads
-use Rattle.kernel.proofs.asking.stops.Reads as stops-reads
-use Rattle.kernel.proofs.asking.waits.Reads as waits-reads
-use Rattle.lists.proofs.both.Reads as both-reads
-use Rattle.lists.proofs.either.Reads as either-reads
 
 is-idle-requires : tie.Need-is-idle-requires
 is-idle-requires c κs = search needs

@@ -3,14 +3,6 @@ use Rattle.kernel.specs.Refusals.{notWithHold}
 use mathlib.Core.Path.{_∙_}
 use Rattle.kernel.proofs.Kernel.not_with_hold.Statement.{statement}
 use Rattle.kernel.proofs.Kernel.not_with_hold.Tie as tie
-use Rattle.kernel.proofs.Kernel.not_with_hold.Reads as reads
-use Rattle.kernel.proofs.Kernel.not_with_hold.Lts as lts
-use Rattle.calls.proofs.TaskNo.same.Reads as same-reads
-use Rattle.kernel.proofs.asking.is.Reads as is-reads
-use Rattle.kernel.proofs.asking.stops.Reads as stops-reads
-use Rattle.kernel.proofs.asking.waits.Reads as waits-reads
-use Rattle.lists.proofs.both.Reads as both-reads
-use Rattle.lists.proofs.either.Reads as either-reads
 
 stops-requires : tie.Need-stops-requires
 stops-requires c κs = search needs

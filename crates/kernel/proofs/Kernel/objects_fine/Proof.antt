@@ -12,12 +12,6 @@ use mathlib.Core.Path.{_≡_, refl, _∙_}
 use native.Mathlib.Omega.{arith}
 use Rattle.kernel.proofs.Kernel.objects_fine.Statement.{statement}
 use Rattle.kernel.proofs.Kernel.objects_fine.Tie as tie
-use Rattle.kernel.proofs.Kernel.objects_fine.Reads as reads
-use Rattle.kernel.proofs.Kernel.objects_fine.Lts as lts
-use Rattle.calls.proofs.TaskNo.slot.Reads as slot-reads
-use Rattle.lists.proofs.both.Reads as both-reads
-use Rattle.slots.proofs.Kind.fine.Reads as fine-reads
-use Rattle.slots.proofs.Kind.holder.Reads as holder-reads
 
 abbrev Inv-loop : tie.InvT-loop
 Inv-loop self ok₀ i₀ ok i = Held (objectFineAt (self .tasks) (self .objects)) true ok i × (i ≤ 16)

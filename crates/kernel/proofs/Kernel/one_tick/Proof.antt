@@ -3,11 +3,6 @@ use Rattle.kernel.specs.Ticks.{oneTick}
 use mathlib.Core.Path.{_∙_}
 use Rattle.kernel.proofs.Kernel.one_tick.Statement.{statement}
 use Rattle.kernel.proofs.Kernel.one_tick.Tie as tie
-use Rattle.kernel.proofs.Kernel.one_tick.Reads as reads
-use Rattle.kernel.proofs.Kernel.one_tick.Lts as lts
-use Rattle.kernel.proofs.Kernel.wakes.Reads as wakes-reads
-use Rattle.kernel.proofs.Kernel.with_tick.Reads as with-tick-reads
-use Rattle.std.proofs.num.wrapping_add_u32.Reads as wrapping-add-u32-reads
 
 wrapping-add-u32-requires : tie.Need-wrapping-add-u32-requires
 wrapping-add-u32-requires c κs = search needs

@@ -3,10 +3,6 @@ use Rattle.kernel.specs.Items.{outlet}
 use borrow.Author.Tests.{eq-eqb, ne-eqb}
 use Rattle.kernel.proofs.Kernel.outlet.Statement.{statement}
 use Rattle.kernel.proofs.Kernel.outlet.Tie as tie
-use Rattle.kernel.proofs.Kernel.outlet.Reads as reads
-use Rattle.kernel.proofs.Kernel.outlet.Lts as lts
-use Rattle.kernel.proofs.Kernel.first.Reads as first-reads
-use Rattle.kernel.proofs.rings.room_or.Reads as room-or-reads
 
 first-requires : tie.Need-first-requires
 first-requires c κs = search needs

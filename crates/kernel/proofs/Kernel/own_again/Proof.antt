@@ -3,11 +3,6 @@ use Rattle.kernel.specs.Loans.{ownAgain}
 use mathlib.Core.Path.{_∙_}
 use Rattle.kernel.proofs.Kernel.own_again.Statement.{statement}
 use Rattle.kernel.proofs.Kernel.own_again.Tie as tie
-use Rattle.kernel.proofs.Kernel.own_again.Reads as reads
-use Rattle.kernel.proofs.Kernel.own_again.Lts as lts
-use Rattle.kernel.proofs.Kernel.holds.Reads as holds-reads
-use Rattle.kernel.proofs.Kernel.prioritized.Reads as prioritized-reads
-use Rattle.kernel.proofs.Kernel.task.Reads as task-reads
 
 holds-requires : tie.Need-holds-requires
 holds-requires c κs = search needs

@@ -2,10 +2,6 @@ use borrow.Author.Needs.{needs}
 use native.Mathlib.Omega.{arith}
 use Rattle.kernel.proofs.Kernel.place_by.Statement.{statement}
 use Rattle.kernel.proofs.Kernel.place_by.Tie as tie
-use Rattle.kernel.proofs.Kernel.place_by.Reads as reads
-use Rattle.kernel.proofs.Kernel.place_by.Lts as lts
-use Rattle.kernel.proofs.rings.item_at.Reads as item-at-reads
-use Rattle.kernel.proofs.rings.slip_of.Reads as slip-of-reads
 
 enum-known-x : tie.Need-enum-known-x
 enum-known-x c = search needs

@@ -3,13 +3,6 @@ use Rattle.kernel.specs.Loans.{prioritized}
 use mathlib.Core.Path.{_∙_}
 use Rattle.kernel.proofs.Kernel.prioritized.Statement.{statement}
 use Rattle.kernel.proofs.Kernel.prioritized.Tie as tie
-use Rattle.kernel.proofs.Kernel.prioritized.Reads as reads
-use Rattle.kernel.proofs.Kernel.prioritized.Lts as lts
-use Rattle.kernel.proofs.Kernel.moved_if.Reads as moved-if-reads
-use Rattle.kernel.proofs.Kernel.task.Reads as task-reads
-use Rattle.kernel.proofs.Kernel.with_task.Reads as with-task-reads
-use Rattle.slots.proofs.Place.is_ready.Reads as is-ready-reads
-use Rattle.slots.proofs.Task.ranked.Reads as ranked-reads
 
 task-requires : tie.Need-task-requires
 task-requires c κs = search needs

@@ -3,12 +3,6 @@ use Rattle.kernel.specs.Waits.{readied}
 use mathlib.Core.Path.{_∙_}
 use Rattle.kernel.proofs.Kernel.readied.Statement.{statement}
 use Rattle.kernel.proofs.Kernel.readied.Tie as tie
-use Rattle.kernel.proofs.Kernel.readied.Reads as reads
-use Rattle.kernel.proofs.Kernel.readied.Lts as lts
-use Rattle.kernel.proofs.Kernel.task.Reads as task-reads
-use Rattle.kernel.proofs.Kernel.to_tail.Reads as to-tail-reads
-use Rattle.kernel.proofs.Kernel.with_task.Reads as with-task-reads
-use Rattle.slots.proofs.Task.placed.Reads as placed-reads
 
 task-requires : tie.Need-task-requires
 task-requires c κs = search needs

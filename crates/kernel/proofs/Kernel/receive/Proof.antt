@@ -11,11 +11,6 @@ use mathlib.Core.Path.{_≡_, refl, sym, _∙_}
 use native.Mathlib.Omega.{arith}
 use Rattle.kernel.proofs.Kernel.receive.Statement.{statement}
 use Rattle.kernel.proofs.Kernel.receive.Tie as tie
-use Rattle.kernel.proofs.Kernel.receive.Reads as reads
-use Rattle.kernel.proofs.Kernel.receive.Lts as lts
-use Rattle.kernel.proofs.Kernel.ended.Reads as ended-reads
-use Rattle.kernel.proofs.Kernel.kind.Reads as kind-reads
-use Rattle.kernel.proofs.Kernel.receive_from.Reads as receive-from-reads
 
 kind-requires : tie.Need-kind-requires
 kind-requires c κs = search needs

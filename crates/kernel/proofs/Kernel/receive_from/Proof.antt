@@ -7,16 +7,6 @@ use mathlib.Core.Path.{refl, _∙_}
 use native.Mathlib.Omega.{arith}
 use Rattle.kernel.proofs.Kernel.receive_from.Statement.{statement}
 use Rattle.kernel.proofs.Kernel.receive_from.Tie as tie
-use Rattle.kernel.proofs.Kernel.receive_from.Reads as reads
-use Rattle.kernel.proofs.Kernel.receive_from.Lts as lts
-use Rattle.items.proofs.carry.Reads as carry-reads
-use Rattle.kernel.proofs.Kernel.refill.Reads as refill-reads
-use Rattle.kernel.proofs.Kernel.refilled_by.Reads as refilled-by-reads
-use Rattle.kernel.proofs.Kernel.wait_for.Reads as wait-for-reads
-use Rattle.kernel.proofs.Kernel.waiter.Reads as waiter-reads
-use Rattle.kernel.proofs.rings.item_at.Reads as item-at-reads
-use Rattle.kernel.proofs.rings.one_less.Reads as one-less-reads
-use Rattle.kernel.proofs.rings.slip_of.Reads as slip-of-reads
 
 wait-for-requires : tie.Need-wait-for-requires
 wait-for-requires c κs = search needs

@@ -5,11 +5,6 @@ use mathlib.Core.Path.{ap, _∙_}
 use native.Mathlib.Omega.{arith}
 use Rattle.kernel.proofs.Kernel.refill.Statement.{statement}
 use Rattle.kernel.proofs.Kernel.refill.Tie as tie
-use Rattle.kernel.proofs.Kernel.refill.Reads as reads
-use Rattle.kernel.proofs.Kernel.refill.Lts as lts
-use Rattle.items.proofs.carry.Reads as carry-reads
-use Rattle.kernel.proofs.rings.item_at.Reads as item-at-reads
-use Rattle.kernel.proofs.rings.slip_of.Reads as slip-of-reads
 
 cast-n : tie.Need-cast-n
 cast-n c = search needs

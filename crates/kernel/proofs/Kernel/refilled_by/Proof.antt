@@ -2,11 +2,6 @@ use borrow.Author.Needs.{needs}
 use mathlib.Core.Path.{_∙_}
 use Rattle.kernel.proofs.Kernel.refilled_by.Statement.{statement}
 use Rattle.kernel.proofs.Kernel.refilled_by.Tie as tie
-use Rattle.kernel.proofs.Kernel.refilled_by.Reads as reads
-use Rattle.kernel.proofs.Kernel.refilled_by.Lts as lts
-use Rattle.kernel.proofs.Kernel.readied.Reads as readied-reads
-use Rattle.kernel.proofs.Kernel.with_object.Reads as with-object-reads
-use Rattle.kernel.proofs.rings.one_more.Reads as one-more-reads
 
 enum-told : tie.Need-enum-told
 enum-told c = search needs

@@ -11,11 +11,6 @@ use mathlib.Core.Path.{refl, _∙_}
 use native.Mathlib.Omega.{arith}
 use Rattle.kernel.proofs.Kernel.release.Statement.{statement}
 use Rattle.kernel.proofs.Kernel.release.Tie as tie
-use Rattle.kernel.proofs.Kernel.release.Reads as reads
-use Rattle.kernel.proofs.Kernel.release.Lts as lts
-use Rattle.kernel.proofs.Kernel.ended.Reads as ended-reads
-use Rattle.kernel.proofs.Kernel.ticks.Reads as ticks-reads
-use Rattle.kernel.proofs.Kernel.with_hold.Reads as with-hold-reads
 
 with-hold-requires : tie.Need-with-hold-requires
 with-hold-requires c κs = search needs

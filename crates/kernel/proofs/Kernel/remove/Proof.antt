@@ -7,10 +7,6 @@ use Rattle.kernel.specs.Types.{Remove}
 use mathlib.Core.Path.{refl}
 use Rattle.kernel.proofs.Kernel.remove.Statement.{statement}
 use Rattle.kernel.proofs.Kernel.remove.Tie as tie
-use Rattle.kernel.proofs.Kernel.remove.Reads as reads
-use Rattle.kernel.proofs.Kernel.remove.Lts as lts
-use Rattle.kernel.proofs.Kernel.ended.Reads as ended-reads
-use Rattle.kernel.proofs.Kernel.with_object.Reads as with-object-reads
 
 with-object-requires : tie.Need-with-object-requires
 with-object-requires c κs = search needs

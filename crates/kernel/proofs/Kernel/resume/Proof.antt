@@ -7,11 +7,6 @@ use Rattle.kernel.specs.Types.{Resume}
 use mathlib.Core.Path.{refl, _∙_}
 use Rattle.kernel.proofs.Kernel.resume.Statement.{statement}
 use Rattle.kernel.proofs.Kernel.resume.Tie as tie
-use Rattle.kernel.proofs.Kernel.resume.Reads as reads
-use Rattle.kernel.proofs.Kernel.resume.Lts as lts
-use Rattle.kernel.proofs.Kernel.ended.Reads as ended-reads
-use Rattle.kernel.proofs.Kernel.readied.Reads as readied-reads
-use Rattle.kernel.proofs.Kernel.task.Reads as task-reads
 
 task-requires : tie.Need-task-requires
 task-requires c κs = search needs

@@ -3,14 +3,6 @@ use Rattle.kernel.specs.Sound.{runsFine}
 use mathlib.Core.Path.{_∙_}
 use Rattle.kernel.proofs.Kernel.runs_fine.Statement.{statement}
 use Rattle.kernel.proofs.Kernel.runs_fine.Tie as tie
-use Rattle.kernel.proofs.Kernel.runs_fine.Reads as reads
-use Rattle.kernel.proofs.Kernel.runs_fine.Lts as lts
-use Rattle.kernel.proofs.Kernel.heads_line.Reads as heads-line-reads
-use Rattle.kernel.proofs.Kernel.no_higher.Reads as no-higher-reads
-use Rattle.kernel.proofs.Kernel.task.Reads as task-reads
-use Rattle.lists.proofs.both.Reads as both-reads
-use Rattle.lists.proofs.either.Reads as either-reads
-use Rattle.slots.proofs.Place.is_ready.Reads as is-ready-reads
 
 task-requires : tie.Need-task-requires
 task-requires c κs = search needs

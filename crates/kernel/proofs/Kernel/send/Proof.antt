@@ -11,11 +11,6 @@ use mathlib.Core.Path.{_≡_, refl, sym, _∙_}
 use native.Mathlib.Omega.{arith}
 use Rattle.kernel.proofs.Kernel.send.Statement.{statement}
 use Rattle.kernel.proofs.Kernel.send.Tie as tie
-use Rattle.kernel.proofs.Kernel.send.Reads as reads
-use Rattle.kernel.proofs.Kernel.send.Lts as lts
-use Rattle.kernel.proofs.Kernel.ended.Reads as ended-reads
-use Rattle.kernel.proofs.Kernel.kind.Reads as kind-reads
-use Rattle.kernel.proofs.Kernel.send_to.Reads as send-to-reads
 
 kind-requires : tie.Need-kind-requires
 kind-requires c κs = search needs

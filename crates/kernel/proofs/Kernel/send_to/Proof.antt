@@ -8,12 +8,6 @@ use mathlib.Core.Path.{_≡_, sym, _∙_}
 use native.Mathlib.Omega.{arith}
 use Rattle.kernel.proofs.Kernel.send_to.Statement.{statement}
 use Rattle.kernel.proofs.Kernel.send_to.Tie as tie
-use Rattle.kernel.proofs.Kernel.send_to.Reads as reads
-use Rattle.kernel.proofs.Kernel.send_to.Lts as lts
-use Rattle.items.proofs.put_at.Reads as put-at-reads
-use Rattle.kernel.proofs.Kernel.outlet.Reads as outlet-reads
-use Rattle.kernel.proofs.Kernel.place_by.Reads as place-by-reads
-use Rattle.kernel.proofs.Kernel.sent_by.Reads as sent-by-reads
 
 outlet-requires : tie.Need-outlet-requires
 outlet-requires c κs = search needs

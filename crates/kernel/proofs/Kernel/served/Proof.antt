@@ -7,25 +7,6 @@ use mathlib.Core.Path.{refl}
 use native.Mathlib.Omega.{arith}
 use Rattle.kernel.proofs.Kernel.served.Statement.{statement}
 use Rattle.kernel.proofs.Kernel.served.Tie as tie
-use Rattle.kernel.proofs.Kernel.served.Reads as reads
-use Rattle.kernel.proofs.Kernel.served.Lts as lts
-use Rattle.kernel.proofs.Kernel.create.Reads as create-reads
-use Rattle.kernel.proofs.Kernel.delay.Reads as delay-reads
-use Rattle.kernel.proofs.Kernel.delete.Reads as delete-reads
-use Rattle.kernel.proofs.Kernel.give.Reads as give-reads
-use Rattle.kernel.proofs.Kernel.give_way.Reads as give-way-reads
-use Rattle.kernel.proofs.Kernel.hold.Reads as hold-reads
-use Rattle.kernel.proofs.Kernel.make_mutex.Reads as make-mutex-reads
-use Rattle.kernel.proofs.Kernel.make_queue.Reads as make-queue-reads
-use Rattle.kernel.proofs.Kernel.receive.Reads as receive-reads
-use Rattle.kernel.proofs.Kernel.release.Reads as release-reads
-use Rattle.kernel.proofs.Kernel.remove.Reads as remove-reads
-use Rattle.kernel.proofs.Kernel.resume.Reads as resume-reads
-use Rattle.kernel.proofs.Kernel.send.Reads as send-reads
-use Rattle.kernel.proofs.Kernel.set_priority.Reads as set-priority-reads
-use Rattle.kernel.proofs.Kernel.suspend.Reads as suspend-reads
-use Rattle.kernel.proofs.Kernel.take.Reads as take-reads
-use Rattle.kernel.proofs.Kernel.tick.Reads as tick-reads
 
 enum-known-call : tie.Need-enum-known-call
 enum-known-call c = search needs

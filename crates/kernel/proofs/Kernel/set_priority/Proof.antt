@@ -7,10 +7,6 @@ use Rattle.kernel.specs.Types.{SetPriority}
 use mathlib.Core.Path.{refl}
 use Rattle.kernel.proofs.Kernel.set_priority.Statement.{statement}
 use Rattle.kernel.proofs.Kernel.set_priority.Tie as tie
-use Rattle.kernel.proofs.Kernel.set_priority.Reads as reads
-use Rattle.kernel.proofs.Kernel.set_priority.Lts as lts
-use Rattle.kernel.proofs.Kernel.ended.Reads as ended-reads
-use Rattle.kernel.proofs.Kernel.new_priority.Reads as new-priority-reads
 
 new-priority-requires : tie.Need-new-priority-requires
 new-priority-requires c κs = search needs

@@ -1,4 +1,3 @@
-use borrow.Author.Needs.{needs}
 use Rattle.kernel.specs.Quick.{shaped}
 use Rattle.lists.proofs.Loops.{length-mapped}
 use borrow.Author.Tests.{le-leb, eq-eqb}
@@ -7,8 +6,6 @@ use mathlib.Core.Path.{_≡_}
 use native.Mathlib.Omega.{arith}
 use Rattle.kernel.proofs.Kernel.shaped.Statement.{statement}
 use Rattle.kernel.proofs.Kernel.shaped.Tie as tie
-use Rattle.kernel.proofs.Kernel.shaped.Reads as reads
-use Rattle.kernel.proofs.Kernel.shaped.Lts as lts
 
 returns : tie.Need-returns
 unfolding shaped

@@ -3,20 +3,6 @@ use Rattle.kernel.proofs.Quicks.{quick-is}
 use mathlib.Core.Path.{_∙_}
 use Rattle.kernel.proofs.Kernel.sound.Statement.{statement}
 use Rattle.kernel.proofs.Kernel.sound.Tie as tie
-use Rattle.kernel.proofs.Kernel.sound.Reads as reads
-use Rattle.kernel.proofs.Kernel.sound.Lts as lts
-use Rattle.calls.proofs.TaskNo.of.Reads as of-reads
-use Rattle.kernel.proofs.Kernel.holders.Reads as holders-reads
-use Rattle.kernel.proofs.Kernel.objects_fine.Reads as objects-fine-reads
-use Rattle.kernel.proofs.Kernel.runs_fine.Reads as runs-fine-reads
-use Rattle.kernel.proofs.Kernel.shaped.Reads as shaped-reads
-use Rattle.kernel.proofs.Kernel.task.Reads as task-reads
-use Rattle.kernel.proofs.Kernel.tasks_fine.Reads as tasks-fine-reads
-use Rattle.lists.proofs.both.Reads as both-reads
-use Rattle.lists.proofs.either.Reads as either-reads
-use Rattle.order.proofs.Order.tallies.Reads as tallies-reads
-use Rattle.order.proofs.Order.tidy.Reads as tidy-reads
-use Rattle.slots.proofs.Task.idle_fine.Reads as idle-fine-reads
 
 holders-requires : tie.Need-holders-requires
 holders-requires c κs = search needs

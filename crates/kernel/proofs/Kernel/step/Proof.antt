@@ -4,10 +4,6 @@ use Rattle.kernel.specs.Step.{step}
 use mathlib.Core.Path.{refl, sym, _∙_}
 use Rattle.kernel.proofs.Kernel.step.Statement.{statement}
 use Rattle.kernel.proofs.Kernel.step.Tie as tie
-use Rattle.kernel.proofs.Kernel.step.Reads as reads
-use Rattle.kernel.proofs.Kernel.step.Lts as lts
-use Rattle.kernel.proofs.Kernel.sound.Reads as sound-reads
-use Rattle.kernel.proofs.Kernel.step_sound.Reads as step-sound-reads
 
 sound-requires : tie.Need-sound-requires
 sound-requires c κs = search needs

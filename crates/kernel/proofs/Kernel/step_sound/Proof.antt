@@ -8,11 +8,6 @@ use lib.ListN.{length}
 use mathlib.Core.Path.{_≡_, refl, sym, _∙_}
 use Rattle.kernel.proofs.Kernel.step_sound.Statement.{statement}
 use Rattle.kernel.proofs.Kernel.step_sound.Tie as tie
-use Rattle.kernel.proofs.Kernel.step_sound.Reads as reads
-use Rattle.kernel.proofs.Kernel.step_sound.Lts as lts
-use Rattle.calls.proofs.Call.asked.Reads as asked-reads
-use Rattle.kernel.proofs.Kernel.later_row.Reads as later-row-reads
-use Rattle.kernel.proofs.Kernel.served.Reads as served-reads
 
 asked-requires : tie.Need-asked-requires
 asked-requires c κs = search needs

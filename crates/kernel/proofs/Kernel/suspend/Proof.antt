@@ -7,14 +7,6 @@ use Rattle.kernel.specs.Types.{Suspend}
 use mathlib.Core.Path.{refl, _∙_}
 use Rattle.kernel.proofs.Kernel.suspend.Statement.{statement}
 use Rattle.kernel.proofs.Kernel.suspend.Tie as tie
-use Rattle.kernel.proofs.Kernel.suspend.Reads as reads
-use Rattle.kernel.proofs.Kernel.suspend.Lts as lts
-use Rattle.kernel.proofs.Kernel.ended.Reads as ended-reads
-use Rattle.kernel.proofs.Kernel.leaves.Reads as leaves-reads
-use Rattle.kernel.proofs.Kernel.task.Reads as task-reads
-use Rattle.kernel.proofs.Kernel.with_task.Reads as with-task-reads
-use Rattle.slots.proofs.Place.is_listed.Reads as is-listed-reads
-use Rattle.slots.proofs.Task.broken_off.Reads as broken-off-reads
 
 task-requires : tie.Need-task-requires
 task-requires c κs = search needs

@@ -7,13 +7,6 @@ use Rattle.kernel.specs.Types.{Take}
 use mathlib.Core.Path.{refl, _∙_}
 use Rattle.kernel.proofs.Kernel.take.Statement.{statement}
 use Rattle.kernel.proofs.Kernel.take.Tie as tie
-use Rattle.kernel.proofs.Kernel.take.Reads as reads
-use Rattle.kernel.proofs.Kernel.take.Lts as lts
-use Rattle.kernel.proofs.Kernel.ended.Reads as ended-reads
-use Rattle.kernel.proofs.Kernel.kind.Reads as kind-reads
-use Rattle.kernel.proofs.Kernel.lent.Reads as lent-reads
-use Rattle.kernel.proofs.Kernel.wait_for.Reads as wait-for-reads
-use Rattle.kernel.proofs.Kernel.with_object.Reads as with-object-reads
 
 kind-requires : tie.Need-kind-requires
 kind-requires c κs = search needs

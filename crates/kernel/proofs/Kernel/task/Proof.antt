@@ -7,10 +7,6 @@ use mathlib.Core.Path.{_≡_, sym, _∙_}
 use native.Mathlib.Omega.{arith}
 use Rattle.kernel.proofs.Kernel.task.Statement.{statement}
 use Rattle.kernel.proofs.Kernel.task.Tie as tie
-use Rattle.kernel.proofs.Kernel.task.Reads as reads
-use Rattle.kernel.proofs.Kernel.task.Lts as lts
-use Rattle.calls.proofs.TaskNo.slot.Reads as slot-reads
-use Rattle.slots.proofs.Task.free.Reads as free-reads
 
 slot-requires : tie.Need-slot-requires
 slot-requires c κs = search needs

@@ -13,13 +13,6 @@ use mathlib.Core.Path.{_≡_, refl, _∙_}
 use native.Mathlib.Omega.{arith}
 use Rattle.kernel.proofs.Kernel.tasks_fine.Statement.{statement}
 use Rattle.kernel.proofs.Kernel.tasks_fine.Tie as tie
-use Rattle.kernel.proofs.Kernel.tasks_fine.Reads as reads
-use Rattle.kernel.proofs.Kernel.tasks_fine.Lts as lts
-use Rattle.calls.proofs.ObjNo.slot.Reads as slot-reads
-use Rattle.calls.proofs.TaskNo.of.Reads as of-reads
-use Rattle.lists.proofs.both.Reads as both-reads
-use Rattle.slots.proofs.Place.waited.Reads as waited-reads
-use Rattle.slots.proofs.Task.fine.Reads as fine-reads
 
 abbrev Inv-loop : tie.InvT-loop
 Inv-loop self stands holds ok₀ i₀ ok i = Held (taskFineAt (self .tick) (self .objects) (self .tasks) stands holds) true ok i × (i ≤ 16)

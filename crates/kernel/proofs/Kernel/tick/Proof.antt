@@ -11,12 +11,6 @@ use mathlib.Core.Path.{refl, _∙_}
 use native.Mathlib.Omega.{arith}
 use Rattle.kernel.proofs.Kernel.tick.Statement.{statement}
 use Rattle.kernel.proofs.Kernel.tick.Tie as tie
-use Rattle.kernel.proofs.Kernel.tick.Reads as reads
-use Rattle.kernel.proofs.Kernel.tick.Lts as lts
-use Rattle.kernel.proofs.Kernel.ended.Reads as ended-reads
-use Rattle.kernel.proofs.Kernel.one_tick.Reads as one-tick-reads
-use Rattle.kernel.proofs.Kernel.turned.Reads as turned-reads
-use Rattle.kernel.proofs.Kernel.with_hold.Reads as with-hold-reads
 
 add-with-hold : tie.Need-add-with-hold
 add-with-hold c = let h = tick-room (c .before .before .before .before .args .self .hold) (c .before .before .before .before .args .self .pended) (c .before .if1 .taken) (omega arith) (c .before .before .before .before .pre) in omega arith

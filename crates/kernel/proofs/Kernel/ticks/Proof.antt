@@ -4,9 +4,6 @@ use Rattle.kernel.specs.Ticks.{oneTick, ticks}
 use Rattle.lists.proofs.Loops.{Upto, start, next, ended}
 use Rattle.kernel.proofs.Kernel.ticks.Statement.{statement}
 use Rattle.kernel.proofs.Kernel.ticks.Tie as tie
-use Rattle.kernel.proofs.Kernel.ticks.Reads as reads
-use Rattle.kernel.proofs.Kernel.ticks.Lts as lts
-use Rattle.kernel.proofs.Kernel.one_tick.Reads as one-tick-reads
 
 abbrev Inv-loop : tie.InvT-loop
 Inv-loop n k₀ i₀ k i = Upto (λ x j. oneTick x) k₀ k i × (i ≤ n)

@@ -3,10 +3,6 @@ use Rattle.kernel.specs.Lines.{toHead}
 use mathlib.Core.Path.{_∙_}
 use Rattle.kernel.proofs.Kernel.to_head.Statement.{statement}
 use Rattle.kernel.proofs.Kernel.to_head.Tie as tie
-use Rattle.kernel.proofs.Kernel.to_head.Reads as reads
-use Rattle.kernel.proofs.Kernel.to_head.Lts as lts
-use Rattle.kernel.proofs.Kernel.with_order.Reads as with-order-reads
-use Rattle.order.proofs.Order.to_front.Reads as to-front-reads
 
 to-front-requires : tie.Need-to-front-requires
 to-front-requires c κs = search needs

@@ -6,11 +6,6 @@ use Rattle.order.specs.Order.{listed}
 use mathlib.Core.Path.{_≡_, _∙_}
 use Rattle.kernel.proofs.Kernel.turned.Statement.{statement}
 use Rattle.kernel.proofs.Kernel.turned.Tie as tie
-use Rattle.kernel.proofs.Kernel.turned.Reads as reads
-use Rattle.kernel.proofs.Kernel.turned.Lts as lts
-use Rattle.kernel.proofs.Kernel.no_higher.Reads as no-higher-reads
-use Rattle.kernel.proofs.Kernel.task.Reads as task-reads
-use Rattle.kernel.proofs.Kernel.to_tail.Reads as to-tail-reads
 
 task-requires : tie.Need-task-requires
 task-requires c κs = search needs

@@ -3,10 +3,6 @@ use Rattle.kernel.specs.Waits.{waitFor}
 use mathlib.Core.Path.{_∙_}
 use Rattle.kernel.proofs.Kernel.wait_for.Statement.{statement}
 use Rattle.kernel.proofs.Kernel.wait_for.Tie as tie
-use Rattle.kernel.proofs.Kernel.wait_for.Reads as reads
-use Rattle.kernel.proofs.Kernel.wait_for.Lts as lts
-use Rattle.kernel.proofs.Kernel.blocked.Reads as blocked-reads
-use Rattle.kernel.proofs.waits.wake_of.Reads as wake-of-reads
 
 wake-of-requires : tie.Need-wake-of-requires
 wake-of-requires c κs = search needs

@@ -7,9 +7,6 @@ use mathlib.Core.Path.{_≡_, sym, _∙_}
 use native.Mathlib.Omega.{arith}
 use Rattle.kernel.proofs.Kernel.waiter.Statement.{statement}
 use Rattle.kernel.proofs.Kernel.waiter.Tie as tie
-use Rattle.kernel.proofs.Kernel.waiter.Reads as reads
-use Rattle.kernel.proofs.Kernel.waiter.Lts as lts
-use Rattle.kernel.proofs.Kernel.first.Reads as first-reads
 
 first-requires : tie.Need-first-requires
 first-requires c κs = search needs

@@ -7,12 +7,6 @@ use mathlib.Core.Logic.{⊎-elim}
 use mathlib.Core.Path.{_∙_}
 use Rattle.kernel.proofs.Kernel.wakes.Statement.{statement}
 use Rattle.kernel.proofs.Kernel.wakes.Tie as tie
-use Rattle.kernel.proofs.Kernel.wakes.Reads as reads
-use Rattle.kernel.proofs.Kernel.wakes.Lts as lts
-use Rattle.calls.proofs.TaskNo.of.Reads as of-reads
-use Rattle.kernel.proofs.Kernel.readied.Reads as readied-reads
-use Rattle.slots.proofs.Place.outcome_due.Reads as outcome-due-reads
-use Rattle.slots.proofs.Place.wakes_at.Reads as wakes-at-reads
 
 abbrev Inv-loop : tie.InvT-loop
 Inv-loop k₀ i₀ k i = Upto wokenIfDue k₀ k i × (i ≤ 16)

@@ -6,9 +6,6 @@ use mathlib.Core.Path.{_≡_}
 use native.Mathlib.Omega.{arith}
 use Rattle.kernel.proofs.Kernel.with_object.Statement.{statement}
 use Rattle.kernel.proofs.Kernel.with_object.Tie as tie
-use Rattle.kernel.proofs.Kernel.with_object.Reads as reads
-use Rattle.kernel.proofs.Kernel.with_object.Lts as lts
-use Rattle.calls.proofs.ObjNo.slot.Reads as slot-reads
 
 slot-requires : tie.Need-slot-requires
 slot-requires c κs = search needs

@@ -6,9 +6,6 @@ use mathlib.Core.Path.{_≡_}
 use native.Mathlib.Omega.{arith}
 use Rattle.kernel.proofs.Kernel.with_task.Statement.{statement}
 use Rattle.kernel.proofs.Kernel.with_task.Tie as tie
-use Rattle.kernel.proofs.Kernel.with_task.Reads as reads
-use Rattle.kernel.proofs.Kernel.with_task.Lts as lts
-use Rattle.calls.proofs.TaskNo.slot.Reads as slot-reads
 
 slot-requires : tie.Need-slot-requires
 slot-requires c κs = search needs

@@ -2,10 +2,6 @@ use borrow.Author.Needs.{needs}
 use mathlib.Core.Path.{_∙_}
 use Rattle.kernel.proofs.asking.stops.Statement.{statement}
 use Rattle.kernel.proofs.asking.stops.Tie as tie
-use Rattle.kernel.proofs.asking.stops.Reads as reads
-use Rattle.kernel.proofs.asking.stops.Lts as lts
-use Rattle.kernel.proofs.asking.is.Reads as is-reads
-use Rattle.lists.proofs.either.Reads as either-reads
 
 is-requires : tie.Need-is-requires
 is-requires c κs = search needs

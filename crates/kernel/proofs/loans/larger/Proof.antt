@@ -1,9 +1,6 @@
-use borrow.Author.Needs.{needs}
 use borrow.Author.Tests.{lt-ltb, le-ltb}
 use Rattle.kernel.proofs.loans.larger.Statement.{statement}
 use Rattle.kernel.proofs.loans.larger.Tie as tie
-use Rattle.kernel.proofs.loans.larger.Reads as reads
-use Rattle.kernel.proofs.loans.larger.Lts as lts
 
 returns : tie.Need-returns
 returns c = rw (lt-ltb _ _ (c .if1 .taken))

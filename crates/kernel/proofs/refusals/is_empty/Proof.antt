@@ -1,8 +1,6 @@
 use borrow.Author.Needs.{needs}
 use Rattle.kernel.proofs.refusals.is_empty.Statement.{statement}
 use Rattle.kernel.proofs.refusals.is_empty.Tie as tie
-use Rattle.kernel.proofs.refusals.is_empty.Reads as reads
-use Rattle.kernel.proofs.refusals.is_empty.Lts as lts
 
 enum-told : tie.Need-enum-told
 enum-told c = search needs

@@ -1,8 +1,6 @@
 use borrow.Author.Needs.{needs}
 use Rattle.kernel.proofs.refusals.is_full.Statement.{statement}
 use Rattle.kernel.proofs.refusals.is_full.Tie as tie
-use Rattle.kernel.proofs.refusals.is_full.Reads as reads
-use Rattle.kernel.proofs.refusals.is_full.Lts as lts
 
 enum-told : tie.Need-enum-told
 enum-told c = search needs

@@ -1,4 +1,3 @@
-use borrow.Author.Needs.{needs}
 use Prim.Native.Nat.{_*_, _≤_}
 use Rattle.kernel.specs.Refusals.{outOfRange}
 use borrow.Author.Tests.{lt-ltb, le-ltb, le-leb, lt-leb}
@@ -6,8 +5,6 @@ use native.Mathlib.Nat.{mul-le-mul}
 use native.Mathlib.Omega.{arith}
 use Rattle.kernel.proofs.refusals.out_of_range.Statement.{statement}
 use Rattle.kernel.proofs.refusals.out_of_range.Tie as tie
-use Rattle.kernel.proofs.refusals.out_of_range.Reads as reads
-use Rattle.kernel.proofs.refusals.out_of_range.Lts as lts
 
 returns : tie.Need-returns
 unfolding outOfRange

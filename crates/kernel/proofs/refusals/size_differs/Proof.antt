@@ -1,8 +1,6 @@
 use borrow.Author.Needs.{needs}
 use Rattle.kernel.proofs.refusals.size_differs.Statement.{statement}
 use Rattle.kernel.proofs.refusals.size_differs.Tie as tie
-use Rattle.kernel.proofs.refusals.size_differs.Reads as reads
-use Rattle.kernel.proofs.refusals.size_differs.Lts as lts
 
 enum-told : tie.Need-enum-told
 enum-told c = search needs

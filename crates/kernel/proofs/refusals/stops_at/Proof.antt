@@ -2,14 +2,6 @@ use borrow.Author.Needs.{needs}
 use mathlib.Core.Path.{_∙_}
 use Rattle.kernel.proofs.refusals.stops_at.Statement.{statement}
 use Rattle.kernel.proofs.refusals.stops_at.Tie as tie
-use Rattle.kernel.proofs.refusals.stops_at.Reads as reads
-use Rattle.kernel.proofs.refusals.stops_at.Lts as lts
-use Rattle.kernel.proofs.asking.is.Reads as is-reads
-use Rattle.kernel.proofs.refusals.is_empty.Reads as is-empty-reads
-use Rattle.kernel.proofs.refusals.is_full.Reads as is-full-reads
-use Rattle.lists.proofs.both.Reads as both-reads
-use Rattle.lists.proofs.either.Reads as either-reads
-use Rattle.slots.proofs.Kind.is_held.Reads as is-held-reads
 
 is-requires : tie.Need-is-requires
 is-requires c κs = search needs

@@ -4,10 +4,6 @@ use Rattle.kernel.specs.Items.{itemAt}
 use native.Mathlib.Omega.{arith}
 use Rattle.kernel.proofs.rings.item_at.Statement.{statement}
 use Rattle.kernel.proofs.rings.item_at.Tie as tie
-use Rattle.kernel.proofs.rings.item_at.Reads as reads
-use Rattle.kernel.proofs.rings.item_at.Lts as lts
-use Rattle.calls.proofs.ObjNo.slot.Reads as slot-reads
-use Rattle.kernel.proofs.rings.place.Reads as place-reads
 
 place-requires : tie.Need-place-requires
 place-requires c κs = search needs

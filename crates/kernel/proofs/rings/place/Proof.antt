@@ -4,8 +4,6 @@ use mathlib.Core.Path.{refl}
 use native.Mathlib.Nat.{mod-lt}
 use Rattle.kernel.proofs.rings.place.Statement.{statement}
 use Rattle.kernel.proofs.rings.place.Tie as tie
-use Rattle.kernel.proofs.rings.place.Reads as reads
-use Rattle.kernel.proofs.rings.place.Lts as lts
 
 cast-result : tie.Need-cast-result
 cast-result c = search needs

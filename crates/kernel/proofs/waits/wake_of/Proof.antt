@@ -2,9 +2,6 @@ use borrow.Author.Needs.{needs}
 use borrow.Author.Tests.{le-leb, lt-leb}
 use Rattle.kernel.proofs.waits.wake_of.Statement.{statement}
 use Rattle.kernel.proofs.waits.wake_of.Tie as tie
-use Rattle.kernel.proofs.waits.wake_of.Reads as reads
-use Rattle.kernel.proofs.waits.wake_of.Lts as lts
-use Rattle.std.proofs.num.wrapping_add_u32.Reads as wrapping-add-u32-reads
 
 wrapping-add-u32-requires : tie.Need-wrapping-add-u32-requires
 wrapping-add-u32-requires c κs = search needs

@@ -11,10 +11,6 @@ use mathlib.Core.Path.{_≡_}
 use native.Mathlib.Omega.{arith}
 use Rattle.order.proofs.Order.behind.Statement.{statement}
 use Rattle.order.proofs.Order.behind.Tie as tie
-use Rattle.order.proofs.Order.behind.Reads as reads
-use Rattle.order.proofs.Order.behind.Lts as lts
-use Rattle.calls.proofs.TaskNo.same.Reads as same-reads
-use Rattle.order.proofs.Order.reach.Reads as reach-reads
 
 abbrev Inv-loop : tie.InvT-loop
 Inv-loop t self out₀ m₀ i₀ n out m i = Rest (unless t) (self .living) (self .places) n (record { places = out₀; living = m₀ }) (record { places = out; living = m }) i

@@ -10,10 +10,6 @@ use mathlib.Core.Path.{_≡_, _∙_}
 use native.Mathlib.Omega.{arith}
 use Rattle.order.proofs.Order.tallies.Statement.{statement}
 use Rattle.order.proofs.Order.tallies.Tie as tie
-use Rattle.order.proofs.Order.tallies.Reads as reads
-use Rattle.order.proofs.Order.tallies.Lts as lts
-use Rattle.calls.proofs.TaskNo.slot.Reads as slot-reads
-use Rattle.order.proofs.Order.reach.Reads as reach-reads
 
 abbrev Inv-loop : tie.InvT-loop
 Inv-loop self c₀ i₀ n c i = Counting (self .living) (self .places) n c₀ c i

@@ -8,10 +8,6 @@ use lib.ListN.{getD}
 use mathlib.Core.Path.{refl, _∙_}
 use Rattle.order.proofs.Order.tidy.Statement.{statement}
 use Rattle.order.proofs.Order.tidy.Tie as tie
-use Rattle.order.proofs.Order.tidy.Reads as reads
-use Rattle.order.proofs.Order.tidy.Lts as lts
-use Rattle.lists.proofs.both.Reads as both-reads
-use Rattle.order.proofs.tidy.tidy_at.Reads as tidy-at-reads
 
 abbrev Inv-loop : tie.InvT-loop
 Inv-loop self n ok₀ i₀ ok i = Held (λ j. tidyAt (self .living) j (getD (self .places) j idle)) (leb (self .living) 16) ok i × (i ≤ 16)

@@ -2,9 +2,6 @@ use borrow.Author.Needs.{needs}
 use borrow.Author.Tests.{lt-ltb, le-ltb}
 use Rattle.order.proofs.tidy.tidy_at.Statement.{statement}
 use Rattle.order.proofs.tidy.tidy_at.Tie as tie
-use Rattle.order.proofs.tidy.tidy_at.Reads as reads
-use Rattle.order.proofs.tidy.tidy_at.Lts as lts
-use Rattle.calls.proofs.TaskNo.slot.Reads as slot-reads
 
 slot-requires : tie.Need-slot-requires
 slot-requires c κs = search needs

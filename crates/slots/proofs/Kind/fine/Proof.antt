@@ -3,11 +3,6 @@ use Rattle.slots.specs.Fine.{kindFine}
 use mathlib.Core.Path.{_∙_}
 use Rattle.slots.proofs.Kind.fine.Statement.{statement}
 use Rattle.slots.proofs.Kind.fine.Tie as tie
-use Rattle.slots.proofs.Kind.fine.Reads as reads
-use Rattle.slots.proofs.Kind.fine.Lts as lts
-use Rattle.lists.proofs.both.Reads as both-reads
-use Rattle.slots.proofs.Kind.holder_in.Reads as holder-in-reads
-use Rattle.slots.proofs.Kind.ring_in_range.Reads as ring-in-range-reads
 
 holder-in-requires : tie.Need-holder-in-requires
 holder-in-requires c κs = search needs

@@ -1,9 +1,6 @@
 use borrow.Author.Needs.{needs}
 use Rattle.slots.proofs.Kind.ring_in_range.Statement.{statement}
 use Rattle.slots.proofs.Kind.ring_in_range.Tie as tie
-use Rattle.slots.proofs.Kind.ring_in_range.Reads as reads
-use Rattle.slots.proofs.Kind.ring_in_range.Lts as lts
-use Rattle.slots.proofs.Ring.fine.Reads as fine-reads
 
 enum-told : tie.Need-enum-told
 enum-told c = search needs

@@ -2,11 +2,6 @@ use borrow.Author.Needs.{needs}
 use mathlib.Core.Path.{_∙_}
 use Rattle.slots.proofs.Place.not_due.Statement.{statement}
 use Rattle.slots.proofs.Place.not_due.Tie as tie
-use Rattle.slots.proofs.Place.not_due.Reads as reads
-use Rattle.slots.proofs.Place.not_due.Lts as lts
-use Rattle.lists.proofs.both.Reads as both-reads
-use Rattle.slots.proofs.Place.in_range.Reads as in-range-reads
-use Rattle.slots.proofs.Place.wakes_at.Reads as wakes-at-reads
 
 wakes-at-requires : tie.Need-wakes-at-requires
 wakes-at-requires c κs = search needs

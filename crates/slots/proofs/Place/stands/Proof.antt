@@ -1,9 +1,6 @@
 use borrow.Author.Needs.{needs}
 use Rattle.slots.proofs.Place.stands.Statement.{statement}
 use Rattle.slots.proofs.Place.stands.Tie as tie
-use Rattle.slots.proofs.Place.stands.Reads as reads
-use Rattle.slots.proofs.Place.stands.Lts as lts
-use Rattle.slots.proofs.Place.is_listed.Reads as is-listed-reads
 
 is-listed-requires : tie.Need-is-listed-requires
 is-listed-requires c κs = search needs

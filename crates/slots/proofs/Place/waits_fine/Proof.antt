@@ -1,9 +1,6 @@
 use borrow.Author.Needs.{needs}
 use Rattle.slots.proofs.Place.waits_fine.Statement.{statement}
 use Rattle.slots.proofs.Place.waits_fine.Tie as tie
-use Rattle.slots.proofs.Place.waits_fine.Reads as reads
-use Rattle.slots.proofs.Place.waits_fine.Lts as lts
-use Rattle.slots.proofs.Kind.may_wait.Reads as may-wait-reads
 
 enum-told : tie.Need-enum-told
 enum-told c = search needs

@@ -1,9 +1,6 @@
 use borrow.Author.Needs.{needs}
 use Rattle.slots.proofs.Place.wakes_at.Statement.{statement}
 use Rattle.slots.proofs.Place.wakes_at.Tie as tie
-use Rattle.slots.proofs.Place.wakes_at.Reads as reads
-use Rattle.slots.proofs.Place.wakes_at.Lts as lts
-use Rattle.slots.proofs.Wake.is_at.Reads as is-at-reads
 
 enum-told : tie.Need-enum-told
 enum-told c = search needs

@@ -3,15 +3,6 @@ use Rattle.slots.specs.Fine.{taskFine}
 use mathlib.Core.Path.{_∙_}
 use Rattle.slots.proofs.Task.fine.Statement.{statement}
 use Rattle.slots.proofs.Task.fine.Tie as tie
-use Rattle.slots.proofs.Task.fine.Reads as reads
-use Rattle.slots.proofs.Task.fine.Lts as lts
-use Rattle.lists.proofs.both.Reads as both-reads
-use Rattle.slots.proofs.Place.not_due.Reads as not-due-reads
-use Rattle.slots.proofs.Place.stands.Reads as stands-reads
-use Rattle.slots.proofs.Place.waits_fine.Reads as waits-fine-reads
-use Rattle.slots.proofs.Task.fresh_if_free.Reads as fresh-if-free-reads
-use Rattle.slots.proofs.Task.outcome_fine.Reads as outcome-fine-reads
-use Rattle.slots.proofs.Task.priorities_fine.Reads as priorities-fine-reads
 
 outcome-fine-requires : tie.Need-outcome-fine-requires
 outcome-fine-requires c κs = search needs

@@ -2,11 +2,6 @@ use borrow.Author.Needs.{needs}
 use mathlib.Core.Path.{_∙_}
 use Rattle.slots.proofs.Task.fresh_if_free.Statement.{statement}
 use Rattle.slots.proofs.Task.fresh_if_free.Tie as tie
-use Rattle.slots.proofs.Task.fresh_if_free.Reads as reads
-use Rattle.slots.proofs.Task.fresh_if_free.Lts as lts
-use Rattle.lists.proofs.both.Reads as both-reads
-use Rattle.lists.proofs.either.Reads as either-reads
-use Rattle.slots.proofs.Place.is_free.Reads as is-free-reads
 
 is-free-requires : tie.Need-is-free-requires
 is-free-requires c κs = search needs

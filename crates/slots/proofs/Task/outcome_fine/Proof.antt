@@ -2,11 +2,6 @@ use borrow.Author.Needs.{needs}
 use mathlib.Core.Path.{_∙_}
 use Rattle.slots.proofs.Task.outcome_fine.Statement.{statement}
 use Rattle.slots.proofs.Task.outcome_fine.Tie as tie
-use Rattle.slots.proofs.Task.outcome_fine.Reads as reads
-use Rattle.slots.proofs.Task.outcome_fine.Lts as lts
-use Rattle.lists.proofs.both.Reads as both-reads
-use Rattle.lists.proofs.either.Reads as either-reads
-use Rattle.slots.proofs.Place.is_blocked.Reads as is-blocked-reads
 
 is-blocked-requires : tie.Need-is-blocked-requires
 is-blocked-requires c κs = search needs

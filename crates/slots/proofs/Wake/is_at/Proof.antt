@@ -1,8 +1,6 @@
 use borrow.Author.Needs.{needs}
 use Rattle.slots.proofs.Wake.is_at.Statement.{statement}
 use Rattle.slots.proofs.Wake.is_at.Tie as tie
-use Rattle.slots.proofs.Wake.is_at.Reads as reads
-use Rattle.slots.proofs.Wake.is_at.Lts as lts
 
 enum-told : tie.Need-enum-told
 enum-told c = search needs

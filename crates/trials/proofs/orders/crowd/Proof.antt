@@ -2,12 +2,6 @@ use borrow.Author.Needs.{needs}
 use Prim.Native.Nat.{_-_, _≤_}
 use Rattle.trials.proofs.orders.crowd.Statement.{statement}
 use Rattle.trials.proofs.orders.crowd.Tie as tie
-use Rattle.trials.proofs.orders.crowd.Reads as reads
-use Rattle.trials.proofs.orders.crowd.Lts as lts
-use Rattle.kernel.proofs.Kernel.fresh.Reads as fresh-reads
-use Rattle.trials.proofs.listed_too.Reads as listed-too-reads
-use Rattle.trials.proofs.put_task.Reads as put-task-reads
-use Rattle.trials.proofs.task.Reads as task-reads
 
 abbrev Inv-loop : tie.InvT-loop
 Inv-loop k₀ i₀ k i = i ≤ 16
