@@ -1,0 +1,4 @@
+pub mod Places
+pub mod Stores
+pub mod Digits
+pub mod Pairs

@@ -1,0 +1,150 @@
+-- The laws of an item in a line: what the reader takes is the item's digits, and it takes them all.
+use Prim.Native.Nat.{ℕ, zero, suc, _+_, _-_, _*_, _/_, _%_, _<_, _≤_}
+use mathlib.Core.Path.{_≡_, refl, sym, ap, _∙_}
+use mathlib.Core.Logic.{_⊎_, inl, inr, ⊎-elim}
+use mathlib.Core.List.{List, [], _∷_, _++_}
+use native.Mathlib.Omega.{arith}
+use native.Mathlib.Numerals.{add-one}
+use lib.ListN.{length, drop, set, length-drop}
+use lib.Seq.{sets, drop-drop}
+use borrow.Author.Tests.{lt-ltb, le-ltb, le-leb, lt-leb}
+use Rattle.fields.specs.Texts.{texts}
+use Rattle.fields.specs.Hex.{hexDigit, twoDigits, hex, Bytes}
+use Rattle.fields.specs.Item.{nibbleOf, pairOf, byteOf, bytesOf}
+use Rattle.fields.specs.declared.Item.{Item}
+use Rattle.fields.proofs.Places.{below-or}
+
+pub hex-length : (b : List ℕ) → length (hex b) ≡ 2 * length b
+unfolding texts
+hex-length [] = refl
+hex-length (x ∷ b) = omega (arith, hex-length b)
+
+-- ---- the digits
+
+nibble-of : (n : ℕ) → n < 16 → nibbleOf (hexDigit n) ≡ n
+unfolding nibbleOf hexDigit
+nibble-of n h =
+    ⊎-elim (λ (a : n < 10). rw (lt-ltb n 10 a, le-ltb (48 + n) 48 (omega arith), le-leb (48 + n) 57 (omega arith)) (omega arith))
+    (λ (a : 10 ≤ n). rw (le-ltb n 10 a, le-ltb (87 + n) 48 (omega arith), lt-leb (87 + n) 57 (omega arith), le-ltb (87 + n) 97 (omega arith), le-leb (87 + n) 102 (omega arith)) (omega arith))
+    (below-or n 10)
+
+nibble-is : (x : ℕ) → nibbleOf x < 16 → x ≡ hexDigit (nibbleOf x)
+unfolding nibbleOf hexDigit
+nibble-is x = go (below-or x 48) (below-or 57 x) (below-or x 97) (below-or 102 x)
+  where
+    go : (x < 48) ⊎ (48 ≤ x) → (57 < x) ⊎ (x ≤ 57) → (x < 97) ⊎ (97 ≤ x) → (102 < x) ⊎ (x ≤ 102) → nibbleOf x < 16 → x ≡ hexDigit (nibbleOf x)
+    go (inl a) b c d = rw (lt-ltb x 48 a) (λ h. absurd (omega arith))
+    go (inr a) (inr b) c d = rw (le-ltb x 48 a, le-leb x 57 b, lt-ltb (x - 48) 10 (omega arith)) (λ h. omega arith)
+    go (inr a) (inl b) (inl c) d = rw (le-ltb x 48 a, lt-leb x 57 b, lt-ltb x 97 c) (λ h. absurd (omega arith))
+    go (inr a) (inl b) (inr c) (inr d) = rw (le-ltb x 48 a, lt-leb x 57 b, le-ltb x 97 c, le-leb x 102 d, le-ltb (x - 87) 10 (omega arith)) (λ h. omega arith)
+    go (inr a) (inl b) (inr c) (inl d) = rw (le-ltb x 48 a, lt-leb x 57 b, le-ltb x 97 c, lt-leb x 102 d) (λ h. absurd (omega arith))
+
+pair-of : (b : ℕ) → b < 256 → pairOf (hexDigit (b / 16)) (hexDigit (b % 16)) ≡ b
+unfolding pairOf
+pair-of b h =
+    rw (nibble-of (b / 16) (omega arith), nibble-of (b % 16) (omega arith), lt-ltb (b / 16) 16 (omega arith), lt-ltb (b % 16) 16 (omega arith)) (omega arith)
+
+pair-is : (x y : ℕ) → pairOf x y < 256 → (x ≡ hexDigit (pairOf x y / 16)) × (y ≡ hexDigit (pairOf x y % 16))
+unfolding pairOf
+pair-is x y = go (below-or (nibbleOf x) 16) (below-or (nibbleOf y) 16)
+  where
+    go : (nibbleOf x < 16) ⊎ (16 ≤ nibbleOf x) → (nibbleOf y < 16) ⊎ (16 ≤ nibbleOf y) → pairOf x y < 256 → (x ≡ hexDigit (pairOf x y / 16)) × (y ≡ hexDigit (pairOf x y % 16))
+    go (inl a) (inl b) = rw (lt-ltb (nibbleOf x) 16 a, lt-ltb (nibbleOf y) 16 b) (λ h.
+        let q : (nibbleOf x * 16 + nibbleOf y) / 16 ≡ nibbleOf x = omega arith in
+        let r : (nibbleOf x * 16 + nibbleOf y) % 16 ≡ nibbleOf y = omega arith in
+        (nibble-is x a ∙ ap hexDigit (sym q), nibble-is y b ∙ ap hexDigit (sym r)))
+    go (inl a) (inr b) = rw (lt-ltb (nibbleOf x) 16 a, le-ltb (nibbleOf y) 16 b) (λ h. absurd (omega arith))
+    go (inr a) b = rw (le-ltb (nibbleOf x) 16 a) (λ h. absurd (omega arith))
+
+-- the digits of a byte are at the front
+byte-is : (l : List ℕ) → byteOf l < 256 → l ≡ twoDigits (byteOf l) ++ drop 2 l
+byte-is [] h = absurd (omega arith)
+byte-is (x ∷ []) h = absurd (omega arith)
+byte-is (x ∷ y ∷ l) h =
+    let d = pair-is x y h in
+    ap (λ (u : ℕ). u ∷ y ∷ l) (d .0) ∙ ap (λ (u : ℕ). hexDigit (pairOf x y / 16) ∷ u ∷ l) (d .1)
+
+-- so two bytes are left
+pub byte-within : (l : List ℕ) (i : ℕ) → byteOf (drop i l) < 256 → i + 1 < length l
+byte-within l i = go (drop i l) (length-drop i l)
+  where
+    go : (m : List ℕ) → length m ≡ length l - i → byteOf m < 256 → i + 1 < length l
+    go [] e h = absurd (omega arith)
+    go (x ∷ []) e h = absurd (omega arith)
+    go (x ∷ y ∷ m) e h = omega arith
+
+-- ---- what is read is an item's digits
+
+bytes-front : (k : ℕ) (l : List ℕ) → l ≡ hex (bytesOf k l) ++ drop (2 * length (bytesOf k l)) l
+unfolding bytesOf texts
+bytes-front zero l = refl
+bytes-front (suc k) l = go (bytes-front k (drop 2 l)) (below-or (byteOf l) 256)
+  where
+    go : drop 2 l ≡ hex (bytesOf k (drop 2 l)) ++ drop (2 * length (bytesOf k (drop 2 l))) (drop 2 l)
+        → (byteOf l < 256) ⊎ (256 ≤ byteOf l) → l ≡ hex (bytesOf (suc k) l) ++ drop (2 * length (bytesOf (suc k) l)) l
+    go ih (inr a) = rw (le-ltb (byteOf l) 256 a) refl
+    go ih (inl a) =
+        let n : ℕ = length (bytesOf k (drop 2 l)) in
+        let e : 2 + 2 * n ≡ 2 * suc n = omega arith in
+        rw (lt-ltb (byteOf l) 256 a)
+        (byte-is l a ∙ ap (λ (m : List ℕ). twoDigits (byteOf l) ++ m) (ih ∙ ap (λ (m : List ℕ). hex (bytesOf k (drop 2 l)) ++ m) (drop-drop (2 * n) 2 l ∙ ap (λ (m : ℕ). drop m l) e)))
+
+pub item-front : (line : List ℕ) (at : ℕ) → drop at line ≡ hex (bytesOf 64 (drop at line)) ++ drop (at + 2 * length (bytesOf 64 (drop at line))) line
+item-front line at =
+    bytes-front 64 (drop at line)
+    ∙ ap (λ (m : List ℕ). hex (bytesOf 64 (drop at line)) ++ m) (drop-drop (2 * length (bytesOf 64 (drop at line))) at line)
+
+pub bytes-fit : (k : ℕ) (l : List ℕ) → (length (bytesOf k l) ≤ k) × Bytes (bytesOf k l)
+unfolding bytesOf
+bytes-fit zero l = (omega arith, tt)
+bytes-fit (suc k) l = go (bytes-fit k (drop 2 l)) (below-or (byteOf l) 256)
+  where
+    go : (length (bytesOf k (drop 2 l)) ≤ k) × Bytes (bytesOf k (drop 2 l)) → (byteOf l < 256) ⊎ (256 ≤ byteOf l)
+        → (length (bytesOf (suc k) l) ≤ suc k) × Bytes (bytesOf (suc k) l)
+    go ih (inl a) = rw (lt-ltb (byteOf l) 256 a) (omega arith, (a, ih .1))
+    go ih (inr a) = rw (le-ltb (byteOf l) 256 a) (omega arith, tt)
+
+-- ---- an item's digits are read whole
+
+pub bytes-whole : (b : List ℕ) (k : ℕ) (l : List ℕ) → Bytes b → length b ≤ k → byteOf l ≡ 256 → bytesOf k (hex b ++ l) ≡ b
+unfolding bytesOf texts
+bytes-whole [] zero l w h s = refl
+bytes-whole [] (suc k) l w h s = rw s
+bytes-whole (x ∷ b) zero l w h s = absurd (omega arith)
+bytes-whole (x ∷ b) (suc k) l w h s =
+    rw (pair-of x (w .0), lt-ltb x 256 (w .0)) (ap (λ (m : List ℕ). x ∷ m) (bytes-whole b k l (w .1) (omega arith) s))
+
+-- no digit of a byte is a tab
+pub tab-stops : (l : List ℕ) → byteOf (9 ∷ l) ≡ 256
+unfolding pairOf nibbleOf
+tab-stops [] = refl
+tab-stops (y ∷ l) = refl
+
+-- ---- the loop that reads an item: n bytes are in bs, the place is i, l is left, and up to k more are taken
+
+abbrev pub left : ℕ → ℕ → List ℕ → ℕ → List ℕ → Item
+left k n bs i l = record { bytes = sets bs n (bytesOf k l); len = n + length (bytesOf k l); next = i + 2 * length (bytesOf k l) }
+
+abbrev pub so-far : List ℕ → ℕ → ℕ → Item
+so-far bs n i = record { bytes = bs; len = n; next = i }
+
+-- the same record, part by part
+same-item : (bs cs : List ℕ) (m n i j : ℕ) → bs ≡ cs → m ≡ n → i ≡ j → so-far bs m i ≡ so-far cs n j
+same-item bs cs m n i j p q r = ap (λ (b : List ℕ). so-far b m i) p ∙ ap (λ (k : ℕ). so-far cs k i) q ∙ ap (so-far cs n) r
+
+pub left-first : (k : ℕ) (bs : List ℕ) (i : ℕ) (l : List ℕ) → left k 0 bs i l ≡ so-far (sets bs 0 (bytesOf k l)) (length (bytesOf k l)) (i + 2 * length (bytesOf k l))
+left-first k bs i l = same-item _ _ _ _ _ _ refl (omega arith) refl
+
+pub left-last : (n : ℕ) (bs : List ℕ) (i : ℕ) (l : List ℕ) → left 0 n bs i l ≡ so-far bs n i
+unfolding bytesOf
+left-last n bs i l = same-item _ _ _ _ _ _ refl (omega arith) (omega arith)
+
+pub left-stop : (k n : ℕ) (bs : List ℕ) (i : ℕ) (l : List ℕ) → 256 ≤ byteOf l → left (suc k) n bs i l ≡ so-far bs n i
+unfolding bytesOf
+left-stop k n bs i l h = rw (le-ltb (byteOf l) 256 h) (same-item _ _ _ _ _ _ refl (omega arith) (omega arith))
+
+pub left-more : (k n : ℕ) (bs line : List ℕ) (i b : ℕ) → b ≡ byteOf (drop i line) → b < 256
+    → left (suc k) n bs i (drop i line) ≡ left k (n + 1) (set bs n b) (i + 2) (drop (i + 2) line)
+unfolding bytesOf
+left-more k n bs line i b e h =
+    rw (← e, lt-ltb b 256 h, drop-drop 2 i line) (same-item _ _ _ _ _ _ (rw add-one) (omega arith) (omega arith))

@@ -1,0 +1,39 @@
+-- What is read as an item at a place.
+use Prim.Native.Nat.{ℕ, zero, suc, _+_, _-_, _*_}
+use mathlib.Core.List.{List, [], _∷_}
+use lib.ListN.{length, drop, replicate}
+use lib.Seq.{sets}
+use lib.Dec.{ltb, leb}
+use Rattle.lists.specs.Choice.{if_then_else_}
+use Rattle.fields.specs.declared.Item.{Item}
+
+-- a lower-case digit's value, and 16 for any other byte
+unfoldable pub nibbleOf : ℕ → ℕ
+nibbleOf b = if ltb b 48 then 16 else if leb b 57 then b - 48 else if ltb b 97 then 16 else if leb b 102 then b - 87 else 16
+
+-- the byte of two digits, and 256 where they are not both digits
+unfoldable pub pairOf : ℕ → ℕ → ℕ
+pairOf x y = if ltb (nibbleOf x) 16 then if ltb (nibbleOf y) 16 then nibbleOf x * 16 + nibbleOf y else 256 else 256
+
+-- the byte whose digits are at the front, and 256 where there are none
+abbrev pub byteOf : List ℕ → ℕ
+byteOf [] = 256
+byteOf (x ∷ []) = 256
+byteOf (x ∷ y ∷ l) = pairOf x y
+
+-- the bytes of the longest item at the front, up to k of them
+unfoldable pub bytesOf : ℕ → List ℕ → List ℕ
+bytesOf zero l = []
+bytesOf (suc k) l = if ltb (byteOf l) 256 then byteOf l ∷ bytesOf k (drop 2 l) else []
+
+-- the bytes b with zeros after them
+abbrev pub filled : List ℕ → List ℕ
+filled b = sets (replicate 64 0) 0 b
+
+-- the bytes b, whose digits begin at the place i
+abbrev pub itemAt : ℕ → List ℕ → Item
+itemAt i b = record { bytes = filled b; len = length b; next = i + 2 * length b }
+
+-- the longest item at the front of l, which begins at the place i
+abbrev pub item : ℕ → List ℕ → Item
+item i l = itemAt i (bytesOf 64 l)

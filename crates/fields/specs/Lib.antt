@@ -1,0 +1,6 @@
+pub mod Texts
+pub mod Decimal
+pub mod Hex
+pub mod Wrote
+pub mod Number
+pub mod Item

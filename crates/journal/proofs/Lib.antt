@@ -1,0 +1,8 @@
+pub mod Rows
+pub mod Steps
+pub mod Fit
+pub mod Promised
+pub mod Stores
+pub mod Ranges
+pub mod Theorems
+pub mod Newlines

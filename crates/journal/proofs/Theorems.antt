@@ -1,0 +1,127 @@
+-- What follows from the promises: no second result fits, the round trip, one call to a line, and a line's length.
+use Prim.Native.Nat.{ℕ, _+_, _<_, _≤_}
+use mathlib.Core.Path.{_≡_, refl, sym, ap, _∙_}
+use mathlib.Core.Logic.{_⊎_, inl, inr, ⊎-elim}
+use mathlib.Core.List.{List, [], _∷_, map}
+use native.Mathlib.Omega.{arith}
+use lib.ListN.{length, take, drop, replicate}
+use lib.Seq.{sets, sets-eq, take-at}
+use Rattle.calls.specs.Table.{called}
+use Rattle.fields.specs.Item.{filled}
+use Rattle.journal.specs.Types.{Call, Answer, TaskNo, Reading, Says, NoCall, Read, Written, Count, NotWritten}
+use Rattle.journal.specs.Line.{fieldOf, lineOf, HasLine}
+use Rattle.journal.specs.Told.{Told, aCall, refusal, count, reads, writes}
+use Rattle.journal.specs.Promise.{Tells, IsLine, NoLine, ReadsAs, Writes, WritesCall, WritesAnswer}
+use Rattle.journal.specs.Frames.{callOf, numbersIn}
+use Rattle.journal.specs.Steps.{says, readOf}
+use Rattle.journal.proofs.Rows.{call-again}
+use Rattle.journal.proofs.Fit.{item-long}
+use Rattle.journal.proofs.Promised.{line-read, reads-as}
+use Rattle.journal.proofs.Stores.{line-short}
+
+-- ---- the answers by what they say
+
+reading : Told → Reading
+reading (aCall w) = Says (callOf (w .number) (sets (0 ∷ 0 ∷ []) 0 (numbersIn (map fieldOf (w .arguments)))))
+reading (refusal n) = NoCall n
+reading (count n) = NoCall n
+
+reading-again : (x : Reading) → reading (reads x) ≡ x
+unfolding reading
+reading-again (Says c) = ap Says (call-again c .call)
+reading-again (NoCall n) = refl
+
+pub one-reading : (x y : Reading) → reads x ≡ reads y → x ≡ y
+one-reading x y e = sym (reading-again x) ∙ ap reading e ∙ reading-again y
+
+written : Told → Written
+written (aCall w) = Count 0
+written (refusal n) = NotWritten n
+written (count n) = Count n
+
+written-again : (x : Written) → written (writes x) ≡ x
+unfolding written
+written-again (Count n) = refl
+written-again (NotWritten n) = refl
+
+pub one-written : (x y : Written) → writes x ≡ writes y → x ≡ y
+one-written x y e = sym (written-again x) ∙ ap written e ∙ written-again y
+
+-- ---- no second result
+
+abbrev made : Reading → List ℕ → ℕ → Read
+made x b n = record { answer = x; item = b; len = n }
+
+tells-one : (r s : Read) (t : Told) (b : List ℕ) → Tells r t b → Tells s t b → r ≡ s
+tells-one r s t b f g =
+    ap (λ (x : Reading). made x (r .item) (r .len)) (one-reading (r .answer) (s .answer) (f .answer ∙ sym (g .answer)))
+    ∙ ap (λ (x : List ℕ). made (s .answer) x (r .len)) (f .bytes ∙ sym (g .bytes))
+    ∙ ap (made (s .answer) (s .item)) (f .len ∙ sym (g .len))
+
+-- the reader's promise gives the one answer that the steps compute
+pub read-is : (l : List ℕ) (r : Read) → ReadsAs l r → r ≡ readOf l
+read-is l r (inl f) =
+    tells-one r (says (f .call) (filled (f .item)) (length (f .item))) (aCall (called (f .call))) (f .item) (f .tells) record { answer = refl; bytes = refl; len = refl }
+    ∙ sym (line-read (f .call) (f .item) (f .has))
+    ∙ ap readOf (sym (f .line))
+read-is l r (inr f) =
+    ⊎-elim (λ (g : IsLine l (readOf l)). absurd (f .none (g .call) (g .item) (g .has) (g .line)))
+    (λ (g : NoLine l (readOf l)). tells-one r (readOf l) (refusal 3) [] (f .tells) (g .tells))
+    (reads-as l)
+
+pub no-second-reading : (l : List ℕ) (r s : Read) → ReadsAs l r → ReadsAs l s → r ≡ s
+no-second-reading l r s f g = read-is l r f ∙ sym (read-is l s g)
+
+no-second : (n : ℕ) (text l : List ℕ) (w v : Written) (m k : List ℕ) → Writes n text l w m → Writes n text l v k → (w ≡ v) × (m ≡ k)
+no-second n text l w v m k f g = (one-written w v (f .answer ∙ sym (g .answer)), f .line ∙ sym (g .line))
+
+pub no-second-call : (c : Call) (b l : List ℕ) (w v : Written) (m k : List ℕ) → WritesCall c b l w m → WritesCall c b l v k → (w ≡ v) × (m ≡ k)
+no-second-call c b l = no-second _ _ l
+
+pub no-second-answer : (a : Answer) (t : TaskNo) (l : List ℕ) (w v : Written) (m k : List ℕ) → WritesAnswer a t l w m → WritesAnswer a t l v k → (w ≡ v) × (m ≡ k)
+no-second-answer a t l = no-second _ _ l
+
+-- ---- the round trip
+
+-- reading the line of a call gives the call and its item
+pub round-trip : (c : Call) (b : List ℕ) (r : Read) → HasLine c b → ReadsAs (lineOf c b) r → Tells r (aCall (called c)) b
+round-trip c b r h f = rw (read-is (lineOf c b) r f ∙ line-read c b h) record { answer = refl; bytes = refl; len = refl }
+
+taken-back : (z b : List ℕ) → length b ≤ length z → take (length b) (sets z 0 b) ≡ b
+taken-back z b h = ap (take (length b)) (sets-eq b z 0 (omega arith)) ∙ take-at b (drop (0 + length b) z) (length b) refl
+
+-- the item is the first bytes of what was read
+pub told-item : (r : Read) (t : Told) (b : List ℕ) → Tells r t b → length b ≤ 64 → take (r .len) (r .item) ≡ b
+told-item r t b f h = rw (f .len, f .bytes) (taken-back (replicate 64 0) b h)
+
+pub len-within : (l : List ℕ) (r : Read) → ReadsAs l r → r .len ≤ 64
+len-within l r (inl f) = omega (arith, f .tells .len, item-long (f .call) (f .item) (f .has))
+len-within l r (inr f) = omega (arith, f .tells .len)
+
+-- no two calls have one line
+pub one-call : (c d : Call) (a b : List ℕ) → HasLine c a → HasLine d b → lineOf c a ≡ lineOf d b → (c ≡ d) × (a ≡ b)
+one-call c d a b h k e =
+    let r : says c (filled a) (length a) ≡ says d (filled b) (length b) = sym (line-read c a h) ∙ ap readOf e ∙ line-read d b k in
+    let n : length a ≡ length b = ap (λ (x : Read). x .len) r in
+    let f : filled a ≡ filled b = ap (λ (x : Read). x .item) r in
+    let g : Says c ≡ Says d = ap (λ (x : Read). x .answer) r in (
+      ap back g,
+      sym (taken-back (replicate 64 0) a (item-long c a h))
+          ∙ ap (λ (m : ℕ). take m (filled a)) n
+          ∙ ap (take (length b)) f
+          ∙ taken-back (replicate 64 0) b (item-long d b k),
+    )
+  where
+    back : Reading → Call
+    back (Says x) = x
+    back (NoCall n) = c
+
+-- ---- a line's length
+
+pub line-within : (c : Call) (b : List ℕ) → HasLine c b → length (lineOf c b) ≤ 256
+line-within c b h = line-short c b (λ e. item-long c b h)
+
+-- "a longer line is one refusal 3"
+pub long-refused : (l : List ℕ) (r : Read) → 256 < length l → ReadsAs l r → Tells r (refusal 3) []
+long-refused l r n (inl f) = absurd (omega (arith, ap length (f .line), line-within (f .call) (f .item) (f .has)))
+long-refused l r n (inr f) = f .tells

@@ -1,0 +1,28 @@
+use lib.ListN.{drop-of-length-le}
+use borrow.Author.Needs.{needs}
+use borrow.Author.Tests.{eq-eqb, ne-eqb}
+use Rattle.fields.proofs.Places.{here}
+use Rattle.journal.proofs.reader.at_end.Statement.{statement}
+use Rattle.journal.proofs.reader.at_end.Tie as tie
+
+returns : tie.Need-returns
+returns c = rw (drop-of-length-le _ (c .if1 .taken))
+
+shared-slice-read-if2 : tie.Need-shared-slice-read-if2
+shared-slice-read-if2 c = search needs
+
+returns-2 : tie.Need-returns-2
+returns-2 c = rw (here _ _ (c .before .before .if1 .left), ne-eqb _ _ (c .if2 .taken))
+
+add-if3 : tie.Need-add-if3
+add-if3 c = search needs
+
+returns-3 : tie.Need-returns-3
+returns-3 c = rw (here _ _ (c .before .before .before .if1 .left), eq-eqb _ _ (c .before .if2 .left), here _ _ (c .if3 .taken))
+
+returns-4 : tie.Need-returns-4
+returns-4 c = rw (here _ _ (c .before .before .before .if1 .left), eq-eqb _ _ (c .before .if2 .left), drop-of-length-le _ (c .if3 .left))
+
+pub at-end-spec : {M : Type 1} → statement M
+at-end-spec =
+    tie.close (tie.spec returns shared-slice-read-if2 returns-2 add-if3 returns-3 returns-4)

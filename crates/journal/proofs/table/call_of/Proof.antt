@@ -1,0 +1,128 @@
+use Prim.Native.Nat.{ℕ, _<_, _≤_}
+use mathlib.Core.List.{List, _∷_}
+use mathlib.Core.Logic.{⊎-elim}
+use mathlib.Core.Path.{_≡_, sym}
+use native.Mathlib.Omega.{arith}
+use lib.ListN.{getD, List·getD-eq-default}
+use borrow.Author.Needs.{needs}
+use Rattle.fields.proofs.Places.{below-or}
+use Rattle.journal.specs.Frames.{calls, callOf}
+use Rattle.journal.specs.Types.{Tick}
+use Rattle.journal.proofs.Ranges.{NotUpto, outside}
+use Rattle.journal.proofs.table.call_of.Statement.{statement}
+use Rattle.journal.proofs.table.call_of.Tie as tie
+
+other-call : (n : ℕ) (vs : List ℕ) → NotUpto 16 n → Tick ≡ callOf n vs
+unfolding callOf
+other-call n vs h =
+    ⊎-elim (λ (e : n ≡ 0). rw e)
+    (λ (l : 16 < n).
+    ⊎-elim (λ (u : n < 18). let e : n ≡ 17 = omega arith in rw e)
+    (λ (u : 18 ≤ n). sym (List·getD-eq-default (Tick ∷ calls (getD vs 0 0) (getD vs 1 0)) Tick {n = n} u))
+    (below-or n 18))
+    (outside 16 n h)
+
+array-read-a : tie.Need-array-read-a
+array-read-a c = search needs
+
+array-read-b : tie.Need-array-read-b
+array-read-b c = search needs
+
+of-requires : tie.Need-of-requires
+of-requires c κs = search needs
+
+of-requires-2 : tie.Need-of-requires-2
+of-requires-2 c κs = search needs
+
+returns : tie.Need-returns
+unfolding callOf
+returns c = rw (c .match .keys1)
+
+returns-2 : tie.Need-returns-2
+unfolding callOf
+returns-2 c = rw (c .match .keys2, c .before .before .of .ensures)
+
+returns-3 : tie.Need-returns-3
+unfolding callOf
+returns-3 c = rw (c .match .keys3, c .before .before .of .ensures)
+
+returns-4 : tie.Need-returns-4
+unfolding callOf
+returns-4 c = rw (c .match .keys4, c .before .before .of .ensures)
+
+returns-5 : tie.Need-returns-5
+unfolding callOf
+returns-5 c = rw (c .match .keys5, c .before .before .of .ensures)
+
+returns-6 : tie.Need-returns-6
+unfolding callOf
+returns-6 c = rw (c .match .keys6)
+
+returns-7 : tie.Need-returns-7
+unfolding callOf
+returns-7 c = rw (c .match .keys7)
+
+returns-8 : tie.Need-returns-8
+unfolding callOf
+returns-8 c = rw (c .match .keys8)
+
+returns-9 : tie.Need-returns-9
+unfolding callOf
+returns-9 c = rw (c .match .keys9)
+
+returns-10 : tie.Need-returns-10
+unfolding callOf
+returns-10 c = rw (c .match .keys10)
+
+returns-11 : tie.Need-returns-11
+unfolding callOf
+returns-11 c = rw (c .match .keys11)
+
+returns-12 : tie.Need-returns-12
+unfolding callOf
+returns-12 c = rw (c .match .keys12, c .before .of2 .ensures)
+
+returns-13 : tie.Need-returns-13
+unfolding callOf
+returns-13 c = rw (c .match .keys13, c .before .of2 .ensures)
+
+returns-14 : tie.Need-returns-14
+unfolding callOf
+returns-14 c = rw (c .match .keys14, c .before .of2 .ensures)
+
+returns-15 : tie.Need-returns-15
+unfolding callOf
+returns-15 c = rw (c .match .keys15, c .before .of2 .ensures)
+
+returns-16 : tie.Need-returns-16
+unfolding callOf
+returns-16 c = rw (c .match .keys16, c .before .of2 .ensures)
+
+returns-17 : tie.Need-returns-17
+returns-17 c = other-call _ _ (c .match .rest)
+
+pub call-of-spec : {M : Type 1} → statement M
+call-of-spec =
+    tie.close
+    (tie.spec
+    array-read-a
+    array-read-b
+    of-requires
+    of-requires-2
+    returns
+    returns-2
+    returns-3
+    returns-4
+    returns-5
+    returns-6
+    returns-7
+    returns-8
+    returns-9
+    returns-10
+    returns-11
+    returns-12
+    returns-13
+    returns-14
+    returns-15
+    returns-16
+    returns-17)

@@ -1,0 +1,77 @@
+use Prim.Native.Nat.{ℕ, _<_, _≤_}
+use mathlib.Core.Bool.{true}
+use mathlib.Core.List.{List, _∷_, [], map}
+use mathlib.Core.Logic.{⊎-elim}
+use mathlib.Core.Path.{_≡_, refl, sym, _∙_}
+use native.Mathlib.Omega.{arith}
+use lib.ListN.{List·getD-eq-default}
+use borrow.Author.Needs.{needs}
+use Rattle.lists.specs.Lists.{index, any}
+use Rattle.fields.proofs.Places.{below-or}
+use Rattle.journal.specs.Frames.{calls, shaped, plain, unknown, shapeIn, shapeOf}
+use Rattle.journal.specs.Line.{fieldsOf}
+use Rattle.journal.proofs.Ranges.{keyed, Nones, ranged}
+use Rattle.journal.proofs.table.shape_of.Statement.{statement}
+use Rattle.journal.proofs.table.shape_of.Tie as tie
+
+-- the keys of the arms, the last arm first
+abbrev arms : List (List ℕ)
+arms = (13 ∷ []) ∷ (5 ∷ 10 ∷ []) ∷ (6 ∷ 12 ∷ 16 ∷ []) ∷ (11 ∷ 17 ∷ []) ∷ []
+
+-- past the ranges only the key 17 is a call's
+beyond : (n : ℕ) → 16 ≤ n → Nones arms n → unknown ≡ shapeOf n
+unfolding shapeOf any index
+beyond n l o =
+    ⊎-elim (λ (e : n < 18). ranged unknown arms 16 2 refl n l e o)
+    (λ (e : 18 ≤ n). sym (List·getD-eq-default (unknown ∷ map (λ c. shapeIn (fieldsOf c)) (calls 0 0)) unknown {n = n} e))
+    (below-or n 18)
+
+plain-requires : tie.Need-plain-requires
+plain-requires c κs = search needs
+
+plain-requires-2 : tie.Need-plain-requires-2
+plain-requires-2 c κs = search needs
+
+plain-requires-3 : tie.Need-plain-requires-3
+plain-requires-3 c κs = search needs
+
+returns : tie.Need-returns
+unfolding shapeOf any index
+returns c = keyed (shaped true 1 true 1) (13 ∷ []) refl _ (c .match .keys4)
+
+returns-2 : tie.Need-returns-2
+unfolding shapeOf any index
+returns-2 c = ranged unknown arms 0 1 refl _ (omega arith) (c .if1 .taken) (c .before .match .rest)
+
+returns-3 : tie.Need-returns-3
+unfolding shapeOf any index
+returns-3 c = beyond _ (c .if4 .left) (c .before .before .before .before .match .rest)
+
+returns-4 : tie.Need-returns-4
+unfolding shapeOf any index
+returns-4 c =
+    c .plain .ensures ∙ ⊎-elim (λ k. keyed (plain 0) (11 ∷ 17 ∷ []) refl _ (k .keys1)) (λ w. ranged (plain 0) arms 5 5 refl _ (w .2 .left) (w .3 .taken) (w .0 .rest)) (c .before .match .came)
+
+returns-5 : tie.Need-returns-5
+unfolding shapeOf any index
+returns-5 c =
+    c .plain2 .ensures ∙ ⊎-elim (λ k. keyed (plain 2) (5 ∷ 10 ∷ []) refl _ (k .keys3)) (λ w. ranged (plain 2) arms 10 6 refl _ (w .3 .left) (w .4 .taken) (w .0 .rest)) (c .before .match .came)
+
+returns-6 : tie.Need-returns-6
+unfolding shapeOf any index
+returns-6 c =
+    c .plain3 .ensures ∙ ⊎-elim (λ k. keyed (plain 1) (6 ∷ 12 ∷ 16 ∷ []) refl _ (k .keys2)) (λ w. ranged (plain 1) arms 1 4 refl _ (w .1 .left) (w .2 .taken) (w .0 .rest)) (c .before .match .came)
+
+pub shape-of-spec : {M : Type 1} → statement M
+shape-of-spec =
+    tie.close
+    (tie.spec
+    plain-requires
+    plain-requires-2
+    plain-requires-3
+    returns
+    returns-2
+    returns-3
+    returns-4
+    returns-5
+    returns-6)

@@ -1,0 +1,7 @@
+pub mod Types
+pub mod Line
+pub mod Reply
+pub mod Told
+pub mod Promise
+pub mod Frames
+pub mod Steps

@@ -1,0 +1,70 @@
+-- The journal line of a call, from the table of calls.
+use Prim.Native.Nat.{ℕ, _≤_}
+use mathlib.Core.Path.{_≡_}
+use mathlib.Core.Bool.{Bool, true, false}
+use mathlib.Core.List.{List, [], _∷_, _++_, map}
+use lib.ListN.{length}
+use Rattle.lists.specs.Lists.{any}
+use Rattle.calls.specs.Table.{Argument, aTask, anObject, aQueue, aMutex, priority, ticks, capacity, size, wait, item, called}
+use Rattle.fields.specs.Decimal.{dec}
+use Rattle.fields.specs.Hex.{hex, Bytes}
+use Rattle.journal.specs.Types.{Call}
+
+-- what stands in a line for an argument: a number, or the item's bytes
+pub data Field : Type 0 where
+  number : ℕ → Field
+  bytes : Field
+
+-- a task and an object are written by their numbers
+abbrev pub fieldOf : Argument → Field
+fieldOf (aTask t) = number (t .0)
+fieldOf (anObject o) = number (o .0)
+fieldOf (aQueue o) = number (o .0)
+fieldOf (aMutex o) = number (o .0)
+fieldOf (priority p) = number p
+fieldOf (ticks n) = number n
+fieldOf (capacity c) = number c
+fieldOf (size s) = number s
+fieldOf (wait w) = number w
+fieldOf item = bytes
+
+-- "arguments in this order"
+abbrev pub fieldsOf : Call → List Field
+fieldsOf c = map fieldOf (called c .arguments)
+
+-- "in decimal without needless zeros"; "an item is lower-case hex, two digits a byte"
+abbrev pub text : List ℕ → Field → List ℕ
+text b (number n) = dec n
+text b bytes = hex b
+
+-- "parted by one tab", which is byte 9; "then a newline", byte 10
+abbrev pub after : List ℕ → List Field → List ℕ
+after b [] = 10 ∷ []
+after b (x ∷ xs) = 9 ∷ (text b x ++ after b xs)
+
+-- "The call number and its arguments": the line of the call c with the item b
+unfoldable pub lineOf : Call → List ℕ → List ℕ
+lineOf c b = dec (called c .number) ++ after b (fieldsOf c)
+
+-- whether the call has an item: "send: object, item, wait"
+abbrev pub isBytes : Field → Bool
+isBytes (number n) = false
+isBytes bytes = true
+
+unfoldable pub carries : Call → Bool
+carries c = any isBytes (fieldsOf c)
+
+-- "each at most 4,294,967,295"; "0 to 64 bytes"
+abbrev pub Fits : List ℕ → Field → Type 0
+Fits b (number n) = n ≤ 4294967295
+Fits b bytes = (length b ≤ 64) × Bytes b
+
+-- all that stands in the line fits
+abbrev pub AllFit : List ℕ → List Field → Type 0
+AllFit b [] = Unit {0}
+AllFit b (x ∷ xs) = Fits b x × AllFit b xs
+
+-- the call c with the item b has a line: all in it fits, and a call that has no item comes with no bytes
+pub record HasLine (c : Call) (b : List ℕ) : Type 0 where
+  pub fits : AllFit b (fieldsOf c)
+  pub none : carries c ≡ false → b ≡ []

@@ -1,0 +1,276 @@
+//! The seventeen calls: what each does once it is not turned away.
+
+use crate::kernel::{Kernel, Kind, ObjectNo, Outcome, Queue, Role, Stand, Task, TaskNo, FREE_TASK};
+use crate::refusals::refusal;
+use crate::store;
+
+/// "Call numbers 1 to 17, arguments in this order". Numbers are as the line has them.
+#[derive(Clone, Copy, PartialEq, Eq, Debug)]
+pub enum Call<'a> {
+    Create { priority: u32 },
+    Delete { task: u32 },
+    Suspend { task: u32 },
+    Resume { task: u32 },
+    SetPriority { task: u32, priority: u32 },
+    Delay { ticks: u32 },
+    Yield,
+    Hold,
+    Release,
+    MakeQueue { capacity: u32, size: u32 },
+    MakeMutex,
+    Remove { object: u32 },
+    Send { object: u32, item: &'a [u8], wait: u32 },
+    Receive { object: u32, wait: u32 },
+    Take { object: u32, wait: u32 },
+    Give { object: u32 },
+    Tick,
+}
+
+impl Call<'_> {
+    pub fn number(&self) -> usize {
+        match self {
+            Call::Create { .. } => 1,
+            Call::Delete { .. } => 2,
+            Call::Suspend { .. } => 3,
+            Call::Resume { .. } => 4,
+            Call::SetPriority { .. } => 5,
+            Call::Delay { .. } => 6,
+            Call::Yield => 7,
+            Call::Hold => 8,
+            Call::Release => 9,
+            Call::MakeQueue { .. } => 10,
+            Call::MakeMutex => 11,
+            Call::Remove { .. } => 12,
+            Call::Send { .. } => 13,
+            Call::Receive { .. } => 14,
+            Call::Take { .. } => 15,
+            Call::Give { .. } => 16,
+            Call::Tick => 17,
+        }
+    }
+}
+
+/// "An accepted call answers done, made with the new number, or waiting".
+#[derive(Clone, Copy, PartialEq, Eq, Debug)]
+pub enum Answer {
+    Done,
+    Made(u8),
+    Waiting,
+    Refused(u8),
+}
+
+/// One call. "A refusal returns the number; the kernel and all lent bytes stay."
+pub fn step(kernel: &mut Kernel, store: &mut [u8], call: &Call) -> Answer {
+    if let Some(number) = refusal(kernel, store, call) {
+        return Answer::Refused(number);
+    }
+    // "The caller is the running task."
+    let caller = kernel.running;
+    let made = take_effect(kernel, store, call);
+    // "Every accepted call ends with choose."
+    kernel.choose();
+    match made {
+        Some(number) => Answer::Made(number),
+        // "waiting (given exactly if the caller is now delayed or waits on an object)"
+        None if kernel.is_blocked(caller) => Answer::Waiting,
+        None => Answer::Done,
+    }
+}
+
+const NAMED: &str = "the refusals have seen that the number names one";
+
+/// The effect of an accepted call, without the choose. Gives the new number, if any.
+fn take_effect(kernel: &mut Kernel, store: &mut [u8], call: &Call) -> Option<u8> {
+    match *call {
+        Call::Create { priority } => return Some(create(kernel, priority as u8)),
+        Call::Delete { task } => delete(kernel, kernel.find_task(task).expect(NAMED)),
+        Call::Suspend { task } => suspend(kernel, kernel.find_task(task).expect(NAMED)),
+        // "made ready"
+        Call::Resume { task } => kernel.make_ready(kernel.find_task(task).expect(NAMED)),
+        Call::SetPriority { task, priority } => {
+            set_priority(kernel, kernel.find_task(task).expect(NAMED), priority as u8)
+        }
+        // "0: as yield; else delayed"
+        Call::Delay { ticks: 0 } => kernel.turn_running_line(),
+        Call::Delay { ticks } => kernel.delay_running(ticks),
+        // "the head of its line goes to the tail"
+        Call::Yield => kernel.turn_running_line(),
+        // "depth up, down"
+        Call::Hold => kernel.hold += 1,
+        Call::Release => release(kernel),
+        Call::MakeQueue { capacity, size } => {
+            // "lowest free object; empty, first 0"
+            let queue = Queue { capacity: capacity as u8, size: size as u8, first: 0, count: 0 };
+            return Some(make(kernel, Kind::Queue(queue)));
+        }
+        // "lowest free object"
+        Call::MakeMutex => return Some(make(kernel, Kind::Mutex { holder: None })),
+        Call::Remove { object } => {
+            // "items in it are dropped"
+            let object = kernel.find_object(object).expect(NAMED);
+            kernel.object_mut(object).kind = Kind::Free;
+        }
+        Call::Send { object, item, wait } => {
+            let (object, queue) = kernel.find_queue(object).expect(NAMED);
+            send(kernel, store, object, queue, item, wait);
+        }
+        Call::Receive { object, wait } => {
+            let (object, queue) = kernel.find_queue(object).expect(NAMED);
+            receive(kernel, store, object, queue, wait);
+        }
+        Call::Take { object, wait } => {
+            let (object, holder) = kernel.find_mutex(object).expect(NAMED);
+            take(kernel, object, holder, wait);
+        }
+        Call::Give { object } => give(kernel, kernel.find_mutex(object).expect(NAMED).0),
+        Call::Tick => tick(kernel),
+    }
+    None
+}
+
+/// "lowest free slot; ready"
+fn create(kernel: &mut Kernel, priority: u8) -> u8 {
+    let task = kernel.free_task().expect("row 9 has passed");
+    *kernel.task_mut(task) = Task { own: priority, effective: priority, ..FREE_TASK };
+    kernel.make_ready(task);
+    task.number()
+}
+
+/// "leaves any wait; slot is free and used again"
+fn delete(kernel: &mut Kernel, task: TaskNo) {
+    match kernel.task(task).stand {
+        Stand::Ready => kernel.leave_line(task),
+        Stand::Waiting { object, .. } => kernel.leave_object(task, object),
+        _ => {}
+    }
+    *kernel.task_mut(task) = FREE_TASK;
+}
+
+fn suspend(kernel: &mut Kernel, task: TaskNo) {
+    match kernel.task(task).stand {
+        // "if delayed or waiting, leaves that with outcome 3"
+        Stand::Delayed { .. } => kernel.task_mut(task).outcome = Outcome::BrokenOff,
+        Stand::Waiting { object, .. } => {
+            kernel.leave_object(task, object);
+            kernel.task_mut(task).outcome = Outcome::BrokenOff;
+        }
+        // "if ready, outcome stays"
+        Stand::Ready => kernel.leave_line(task),
+        // "already suspended: nothing changes"
+        Stand::Suspended | Stand::Free => {}
+    }
+    kernel.task_mut(task).stand = Stand::Suspended;
+}
+
+/// "own changes; effective becomes own if no mutex is held, else the larger of
+/// effective and new (D)"
+fn set_priority(kernel: &mut Kernel, task: TaskNo, priority: u8) {
+    kernel.task_mut(task).own = priority;
+    let effective = if kernel.holds_a_mutex(task) { kernel.task(task).effective.max(priority) } else { priority };
+    kernel.set_effective(task, effective);
+}
+
+/// "Release to depth 0 runs each pended tick's count and wakes in turn, without the
+/// turn of the line, and chooses once."
+fn release(kernel: &mut Kernel) {
+    kernel.hold -= 1;
+    if kernel.hold == 0 {
+        let pended = kernel.pended;
+        kernel.pended = 0;
+        for _ in 0..pended {
+            kernel.count_and_wake();
+        }
+    }
+}
+
+fn make(kernel: &mut Kernel, kind: Kind) -> u8 {
+    let object = kernel.free_object().expect("row 9 has passed");
+    kernel.object_mut(object).kind = kind;
+    object.number()
+}
+
+fn send(kernel: &mut Kernel, store: &mut [u8], object: ObjectNo, queue: Queue, item: &[u8], wait: u32) {
+    // Receivers wait only on an empty queue and senders only on a full one, so with
+    // the queue empty all waiters are receivers.
+    if queue.count == 0 {
+        // "If a receiver waits, the first waiter gets the item in the first bytes of its
+        // slip and is made ready, outcome 1; the queue is untouched."
+        if let Some(receiver) = kernel.wake_first_waiter(object) {
+            store[store::slip(receiver, item.len())].copy_from_slice(item);
+            return;
+        }
+    }
+    if queue.count < queue.capacity {
+        // "Else, if there is room, the item is appended."
+        store[store::item(object, &queue, queue.count as usize)].copy_from_slice(item);
+        kernel.object_mut(object).kind = Kind::Queue(Queue { count: queue.count + 1, ..queue });
+    } else {
+        // "Else the item goes to the caller's slip and the caller waits."
+        store[store::slip(kernel.running, item.len())].copy_from_slice(item);
+        kernel.wait_running(object, Role::Sender, wait);
+    }
+}
+
+fn receive(kernel: &mut Kernel, store: &mut [u8], object: ObjectNo, queue: Queue, wait: u32) {
+    // "Empty: the caller waits."
+    if queue.count == 0 {
+        kernel.wait_running(object, Role::Receiver, wait);
+        return;
+    }
+    let was_full = queue.count == queue.capacity;
+    let size = queue.size as usize;
+    // "The oldest item goes to the caller's slip and first moves on one place";
+    // `first` moves for size 0 too.
+    store.copy_within(store::item(object, &queue, 0), store::slip(kernel.running, size).start);
+    let mut queue = Queue { first: (queue.first + 1) % queue.capacity, count: queue.count - 1, ..queue };
+    // "then, if a sender waits, the first waiter's item is appended from its slip and
+    // it is made ready, outcome 1." With the queue full all waiters are senders.
+    if was_full {
+        if let Some(sender) = kernel.wake_first_waiter(object) {
+            let place = store::item(object, &queue, queue.count as usize);
+            store.copy_within(store::slip(sender, size), place.start);
+            queue.count += 1;
+        }
+    }
+    kernel.object_mut(object).kind = Kind::Queue(queue);
+}
+
+fn take(kernel: &mut Kernel, object: ObjectNo, holder: Option<TaskNo>, wait: u32) {
+    let caller = kernel.running;
+    match holder {
+        // "A free mutex becomes the caller's."
+        None => kernel.object_mut(object).kind = Kind::Mutex { holder: Some(caller) },
+        // "Held by another: the caller waits, and the holder's effective priority
+        // becomes the larger of the two effective ones. Nothing is passed further along."
+        Some(holder) => {
+            kernel.wait_running(object, Role::Taker, wait);
+            let larger = kernel.task(holder).effective.max(kernel.task(caller).effective);
+            kernel.set_effective(holder, larger);
+        }
+    }
+}
+
+fn give(kernel: &mut Kernel, object: ObjectNo) {
+    let giver = kernel.running;
+    // "The first waiter becomes holder and is made ready, outcome 1; with none, the
+    // mutex is free."
+    let holder = kernel.wake_first_waiter(object);
+    kernel.object_mut(object).kind = Kind::Mutex { holder };
+    // "A giver now holding none gets its own priority back."
+    if !kernel.holds_a_mutex(giver) {
+        kernel.set_effective(giver, kernel.task(giver).own);
+    }
+}
+
+fn tick(kernel: &mut Kernel) {
+    // "With a hold, pended goes up by one."
+    if kernel.hold > 0 {
+        kernel.pended += 1;
+        return;
+    }
+    kernel.count_and_wake();
+    // "then, if no higher line is occupied, the running task goes to the tail of its line"
+    if kernel.highest_line() == kernel.task(kernel.running).effective as usize {
+        kernel.turn_running_line();
+    }
+}

@@ -1,0 +1,176 @@
+//! The self-check: document 01's soundness sentence over the kernel's own structures,
+//! and what can be said of one step by looking at the kernel before and after.
+
+use crate::calls::{step, Answer, Call};
+use crate::kernel::{
+    Kernel, Kind, ObjectNo, Outcome, Role, Stand, TaskNo, FREE_TASK, IDLE, MOST_HOLD, MOST_PENDED, PRIORITIES, TASKS,
+};
+use crate::refusals::{refusal, refusal_by_rows};
+
+fn must(holds: bool, sentence: &str) -> Result<(), String> {
+    if holds {
+        Ok(())
+    } else {
+        Err(sentence.to_string())
+    }
+}
+
+/// "A kernel value is sound when: ..."
+pub fn soundness(kernel: &Kernel) -> Result<(), String> {
+    check_idle(kernel)?;
+    check_lines(kernel)?;
+    check_waiters(kernel)?;
+    for task in TaskNo::all() {
+        check_task(kernel, task)?;
+    }
+    for object in ObjectNo::all() {
+        check_object(kernel, object)?;
+    }
+    must(kernel.hold <= MOST_HOLD && kernel.pended <= MOST_PENDED, "counts and places obey the ranges")?;
+    must(kernel.hold > 0 || kernel.pended == 0, "with hold 0 nothing is pended")
+}
+
+fn check_idle(kernel: &Kernel) -> Result<(), String> {
+    let idle = kernel.task(IDLE);
+    must(idle.stand == Stand::Ready && idle.own == 0 && idle.effective == 0, "idle is as above")?;
+    must(!kernel.holds_a_mutex(IDLE), "idle never waits or holds")
+}
+
+fn check_lines(kernel: &Kernel) -> Result<(), String> {
+    let mut times_in_a_line = [0; TASKS];
+    for (priority, line) in kernel.lines.iter().enumerate() {
+        must(
+            (kernel.occupied >> priority & 1 == 1) != line.is_empty(),
+            "the word of occupied lines repeats the lines",
+        )?;
+        for &task in line {
+            let slot = kernel.task(task);
+            must(slot.stand == Stand::Ready, "nobody else stands in a line")?;
+            must(slot.effective as usize == priority, "in the line of its effective priority")?;
+            times_in_a_line[task.index()] += 1;
+        }
+    }
+    for task in TaskNo::all() {
+        let ready = kernel.task(task).stand == Stand::Ready;
+        must(times_in_a_line[task.index()] == usize::from(ready), "each ready task stands once in the line")?;
+    }
+    let own_line = kernel.task(kernel.running).effective as usize;
+    must(kernel.lines[own_line].first() == Some(&kernel.running), "the running task heads its line")?;
+    let highest = (0..PRIORITIES).rev().find(|&priority| !kernel.lines[priority].is_empty());
+    must(kernel.hold > 0 || highest == Some(own_line), "with hold 0 no higher line is occupied")
+}
+
+fn check_waiters(kernel: &Kernel) -> Result<(), String> {
+    for object in ObjectNo::all() {
+        let slot = kernel.object(object);
+        for (place, &waiter) in slot.waiters.iter().enumerate() {
+            must(!slot.waiters[..place].contains(&waiter), "each object lists its waiters once")?;
+            let waits_here = matches!(kernel.task(waiter).stand, Stand::Waiting { object: on, .. } if on == object);
+            must(waits_here, "and no one else")?;
+        }
+    }
+    for task in TaskNo::all() {
+        if let Stand::Waiting { object, role, .. } = kernel.task(task).stand {
+            let slot = kernel.object(object);
+            must(slot.waiters.contains(&task), "each object lists its waiters")?;
+            match (role, slot.kind) {
+                (Role::Receiver, Kind::Queue(queue)) => {
+                    must(queue.count == 0, "receivers wait only on an empty queue")?
+                }
+                (Role::Sender, Kind::Queue(queue)) => {
+                    must(queue.count == queue.capacity, "senders only on a full one")?
+                }
+                (Role::Taker, Kind::Mutex { holder: Some(holder) }) => {
+                    must(holder != task, "takers only on a mutex held by another")?
+                }
+                _ => must(false, "a waiter fits its object")?,
+            }
+        }
+    }
+    Ok(())
+}
+
+fn check_task(kernel: &Kernel, task: TaskNo) -> Result<(), String> {
+    let slot = kernel.task(task);
+    if slot.stand == Stand::Free {
+        return must(*slot == FREE_TASK, "free slots carry the fresh values");
+    }
+    must((slot.own.max(slot.effective) as usize) < PRIORITIES, "counts and places obey the ranges")?;
+    must(slot.effective >= slot.own, "effective is at least own")?;
+    must(slot.effective == slot.own || kernel.holds_a_mutex(task), "and equal to it for a task that holds nothing")?;
+    let wake = match slot.stand {
+        Stand::Delayed { wake } => Some(wake),
+        Stand::Waiting { wake, .. } => wake,
+        _ => None,
+    };
+    must(wake != Some(kernel.tick), "no wake tick of a delayed or waiting task equals the tick count")?;
+    must(!kernel.is_blocked(task) || slot.outcome == Outcome::None, "an outcome is 0 if delayed or waiting")
+}
+
+fn check_object(kernel: &Kernel, object: ObjectNo) -> Result<(), String> {
+    let slot = kernel.object(object);
+    match slot.kind {
+        Kind::Free => must(slot.waiters.is_empty(), "free slots carry the fresh values"),
+        Kind::Queue(queue) => {
+            let product = u32::from(queue.capacity) * u32::from(queue.size);
+            let shape = (1..=64).contains(&queue.capacity) && queue.size <= 64 && product <= 512;
+            let places = queue.first < queue.capacity && queue.count <= queue.capacity;
+            must(shape && places, "counts and places obey the ranges")
+        }
+        Kind::Mutex { holder } => {
+            let exists = holder.is_none_or(|holder| kernel.task(holder).stand != Stand::Free);
+            must(exists, "holders exist")
+        }
+    }
+}
+
+/// A step with every assertion around it.
+pub fn checked_step(kernel: &mut Kernel, store: &mut [u8], call: &Call) -> Answer {
+    let before = kernel.clone();
+    let store_before = store.to_vec();
+    let by_rows = refusal_by_rows(kernel, store, call);
+    let by_call = refusal(kernel, store, call);
+    assert_eq!(by_call, by_rows, "the two readings of the refusal table differ on {call:?} in {before:?}");
+    let answer = step(kernel, store, call);
+    let verdict = soundness(kernel).and_then(|()| check_step(&before, &store_before, call, answer, kernel, store));
+    if let Err(sentence) = verdict {
+        panic!("{sentence}\ncall {call:?}\nanswer {answer:?}\nbefore {before:?}\nafter {kernel:?}");
+    }
+    answer
+}
+
+fn check_step(
+    before: &Kernel,
+    store_before: &[u8],
+    call: &Call,
+    answer: Answer,
+    after: &Kernel,
+    store_after: &[u8],
+) -> Result<(), String> {
+    if let Answer::Refused(_) = answer {
+        must(before == after && store_before == store_after, "the kernel and all lent bytes stay")?;
+    }
+    let caller = before.running;
+    must(
+        (answer == Answer::Waiting) == after.is_blocked(caller),
+        "waiting is given exactly if the caller is now delayed or waits",
+    )?;
+    must(
+        store_before == store_after || matches!(call, Call::Send { .. } | Call::Receive { .. }),
+        "no other call changes the store",
+    )?;
+    must(
+        before.hold == 0 || after.hold == 0 || before.running == after.running,
+        "with a hold, the running task stays",
+    )?;
+    // "in order of arrival": what stays keeps its order, and only the caller can come, last.
+    for object in ObjectNo::all() {
+        let old = &before.object(object).waiters;
+        let new = &after.object(object).waiters;
+        let stayed: Vec<TaskNo> = old.iter().copied().filter(|task| new.contains(task)).collect();
+        let came = &new[stayed.len().min(new.len())..];
+        must(new.starts_with(&stayed), "waiters are in order of arrival")?;
+        must(came.is_empty() || came == [caller], "only the caller can begin to wait")?;
+    }
+    Ok(())
+}

@@ -1,0 +1,234 @@
+//! What a journal exercises: calls, refusals, damage and events inside the kernel.
+
+use crate::calls::{Answer, Call};
+use crate::kernel::{Kernel, Kind, ObjectNo, Outcome, Stand, TaskNo, IDLE};
+use std::collections::BTreeMap;
+
+#[derive(Default)]
+pub struct Coverage {
+    pub lines: u64,
+    pub accepted: [u64; 18],
+    pub waiting: [u64; 18],
+    pub refused: [u64; 17],
+    pub refused_by_call: BTreeMap<(usize, u8), u64>,
+    pub damaged: BTreeMap<&'static str, u64>,
+    pub events: BTreeMap<&'static str, u64>,
+}
+
+impl Coverage {
+    pub fn event(&mut self, name: &'static str) {
+        *self.events.entry(name).or_insert(0) += 1;
+    }
+
+    fn event_if(&mut self, happened: bool, name: &'static str) {
+        if happened {
+            self.event(name);
+        }
+    }
+
+    pub fn answer(&mut self, call: Option<&Call>, answer: Answer) {
+        self.lines += 1;
+        let number = call.map_or(0, |call| call.number());
+        match answer {
+            Answer::Refused(row) => {
+                self.refused[row as usize] += 1;
+                *self.refused_by_call.entry((number, row)).or_insert(0) += 1;
+            }
+            Answer::Waiting => {
+                self.accepted[number] += 1;
+                self.waiting[number] += 1;
+            }
+            _ => self.accepted[number] += 1,
+        }
+    }
+
+    /// Names what an accepted call did, by the kernel before and after.
+    pub fn observe(&mut self, before: &Kernel, call: &Call, after: &Kernel) {
+        let caller = before.running;
+        let woken = |outcome: Outcome| {
+            TaskNo::all()
+                .filter(|&task| before.is_blocked(task) && after.task(task).stand == Stand::Ready)
+                .filter(|&task| after.task(task).outcome == outcome)
+                .count()
+        };
+        let overtaken = after.running != caller && after.task(caller).stand == Stand::Ready;
+        let stays_head = after.lines[after.task(caller).effective as usize].first() == Some(&caller);
+        self.event_if(
+            overtaken && stays_head && after.task(caller).effective == before.task(caller).effective,
+            "running task overtaken",
+        );
+        self.event_if(caller == IDLE, "idle: calls");
+        self.event_if(before.lines[0].len() > 1, "idle: shares its line");
+        let below_another = after.hold > 0 && after.highest_line() > after.task(caller).effective as usize;
+        self.event_if(below_another, "hold: a higher line is occupied");
+        match *call {
+            Call::Tick if before.hold == 0 => {
+                let timed_out = woken(Outcome::TimeRanOut);
+                let due = timed_out + woken(Outcome::Done);
+                self.event_if(timed_out > 0, "tick: a waiter timed out");
+                self.event_if(due == 1, "tick: one task due");
+                self.event_if(due > 1, "tick: several tasks due together");
+                let line = &before.lines[before.task(caller).effective as usize];
+                let higher = after.task(after.running).effective > before.task(caller).effective;
+                self.event_if(line.len() > 1 && !higher, "tick: a line of two or more turned");
+                self.event_if(higher, "tick: no turn, a higher line was woken");
+            }
+            Call::Release if after.hold == 0 => {
+                let due = woken(Outcome::TimeRanOut) + woken(Outcome::Done);
+                self.event_if(before.pended > 1, "release: several pended ticks run");
+                self.event_if(before.pended > 1 && due > 1, "release: several tasks woken by pended ticks");
+                self.event_if(before.pended > 60_000, "release: over 60,000 pended ticks run");
+                let long_wait = TaskNo::all().any(|task| match before.task(task).stand {
+                    Stand::Waiting { wake: Some(wake), .. } => {
+                        let left = wake.wrapping_sub(before.tick);
+                        left > 60_000 && left <= before.pended
+                    }
+                    _ => false,
+                });
+                self.event_if(long_wait, "release: a wait of over 60,000 ticks ran out");
+                self.event_if(before.running != after.running, "release: another task runs");
+            }
+            Call::Hold => self.event_if(after.hold == 255, "hold: depth 255 reached"),
+            Call::Send { object, .. } => {
+                let (object, queue) = before.find_queue(object).expect("accepted");
+                self.observe_first_waiter(before, object);
+                let direct = queue.count == 0 && !before.object(object).waiters.is_empty();
+                self.event_if(direct, "send: passed to a waiting receiver");
+                let wraps = !direct && queue.count < queue.capacity && queue.first + queue.count >= queue.capacity;
+                self.event_if(wraps, "send: appended past the ring's end");
+                self.event_if(after.is_blocked(caller), "send: waits on a full queue");
+                self.event_if(queue.size == 0, "send: size 0");
+                self.event_if(queue.size == 64, "send: size 64");
+                self.event_if(
+                    u32::from(queue.size) * u32::from(queue.capacity) == 512,
+                    "send: part of 512 bytes all used",
+                );
+            }
+            Call::Receive { object, .. } => {
+                let (object, queue) = before.find_queue(object).expect("accepted");
+                self.observe_first_waiter(before, object);
+                let moved_in = queue.count > 0 && !before.object(object).waiters.is_empty();
+                self.event_if(moved_in, "receive: a waiting sender's item moved in");
+                self.event_if(queue.count > 0 && queue.first + 1 == queue.capacity, "receive: first wrapped to 0");
+                self.event_if(after.is_blocked(caller), "receive: waits on an empty queue");
+                self.event_if(moved_in && queue.capacity > 8, "receive: moved in at capacity above 8");
+            }
+            Call::Take { object, .. } => {
+                let (_, holder) = before.find_mutex(object).expect("accepted");
+                if let Some(holder) = holder {
+                    let raised = after.task(holder).effective > before.task(holder).effective;
+                    self.event_if(raised, "take: priority lent");
+                    let ready = before.task(holder).stand == Stand::Ready;
+                    self.event_if(raised && ready, "take: priority lent to a ready holder");
+                    let waits = before.is_blocked(holder);
+                    self.event_if(raised && waits, "take: priority lent to a blocked holder");
+                    self.event_if(raised && !ready && !waits, "take: priority lent to a suspended holder");
+                } else {
+                    self.event_if(before.holds_a_mutex(caller), "take: a second mutex");
+                }
+            }
+            Call::Give { object } => {
+                let (object, _) = before.find_mutex(object).expect("accepted");
+                self.observe_first_waiter(before, object);
+                self.event_if(!before.object(object).waiters.is_empty(), "give: passed to a waiter");
+                let had_loan = before.task(caller).effective > before.task(caller).own;
+                let still_holds = after.holds_a_mutex(caller);
+                self.event_if(had_loan && still_holds, "give: loan kept, another mutex still held");
+                self.event_if(had_loan && !still_holds, "give: own priority comes back");
+            }
+            Call::Suspend { task } | Call::Delete { task } => {
+                let task = before.find_task(task).expect("accepted");
+                let suspend = matches!(call, Call::Suspend { .. });
+                let waits = matches!(before.task(task).stand, Stand::Waiting { .. });
+                let delayed = matches!(before.task(task).stand, Stand::Delayed { .. });
+                self.event_if(suspend && waits, "suspend: a waiter");
+                self.event_if(suspend && delayed, "suspend: a delayed task");
+                self.event_if(suspend && before.holds_a_mutex(task), "suspend: a holder");
+                self.event_if(suspend && task == caller, "suspend: the caller");
+                self.event_if(!suspend && waits, "delete: a waiter");
+                self.event_if(!suspend && delayed, "delete: a delayed task");
+                self.event_if(!suspend && task == caller, "delete: the caller");
+            }
+            Call::SetPriority { task, priority } => {
+                let task = before.find_task(task).expect("accepted");
+                let lower = priority < u32::from(before.task(task).effective);
+                let waits = matches!(before.task(task).stand, Stand::Waiting { .. });
+                self.event_if(lower && before.holds_a_mutex(task), "set priority: a holder lower, effective stays");
+                self.event_if(waits, "set priority: a waiter");
+                self.event_if(task == caller, "set priority: the caller");
+                self.event_if(task == IDLE, "set priority: idle to 0");
+            }
+            Call::Create { .. } => {
+                let last = before.tasks.iter().rposition(|task| task.stand != Stand::Free);
+                let made = TaskNo::all().find(|&task| before.task(task).stand == Stand::Free);
+                self.event_if(made.map(|made| made.index()) < last, "create: a slot below the last one");
+            }
+            Call::MakeQueue { .. } | Call::MakeMutex => {
+                let last = before.objects.iter().rposition(|object| object.kind != Kind::Free);
+                let made = before.free_object();
+                self.event_if(made.map(|made| made.index()) < last, "make: a slot below the last one");
+            }
+            Call::Remove { object } => {
+                let filled = before.find_queue(object).is_some_and(|(_, queue)| queue.count > 0);
+                self.event_if(filled, "remove: a queue with items");
+            }
+            _ => {}
+        }
+    }
+
+    fn observe_first_waiter(&mut self, before: &Kernel, object: ObjectNo) {
+        let waiters = &before.object(object).waiters;
+        let Some(first) = before.first_waiter(object) else { return };
+        let best = before.task(first).effective;
+        let equals = waiters.iter().filter(|&&task| before.task(task).effective == best).count();
+        self.event_if(waiters[0] != first, "first waiter: not the earliest");
+        self.event_if(equals > 1, "first waiter: earliest of equals");
+    }
+
+    pub fn report(&self) -> String {
+        const NAMES: [&str; 18] = [
+            "-",
+            "create",
+            "delete",
+            "suspend",
+            "resume",
+            "set priority",
+            "delay",
+            "yield",
+            "hold",
+            "release",
+            "make queue",
+            "make mutex",
+            "remove",
+            "send",
+            "receive",
+            "take",
+            "give",
+            "tick",
+        ];
+        let mut text = format!("lines {}\n\naccepted (of these waiting)\n", self.lines);
+        for (number, name) in NAMES.iter().enumerate().skip(1) {
+            let (accepted, waiting) = (self.accepted[number], self.waiting[number]);
+            text += &format!("{number:>4} {name:<14}{accepted:>8} {waiting:>8}\n");
+        }
+        text += &format!("     {:<14}{:>8}\n\nrefused\n", "all", self.accepted.iter().sum::<u64>());
+        for row in 3..=16u8 {
+            let by_call: Vec<String> = self
+                .refused_by_call
+                .iter()
+                .filter(|((number, r), _)| *r == row && *number > 0)
+                .map(|((number, _), count)| format!("{} {}", NAMES[*number], count))
+                .collect();
+            text += &format!("{:>4} {:>8}  {}\n", row, self.refused[row as usize], by_call.join(", "));
+        }
+        text += "\nevents\n";
+        for (name, count) in &self.events {
+            text += &format!("{count:>8}  {name}\n");
+        }
+        text += &format!("\ndamaged lines {}\n", self.damaged.values().sum::<u64>());
+        for (name, count) in &self.damaged {
+            text += &format!("{count:>8}  {name}\n");
+        }
+        text
+    }
+}

@@ -1,0 +1,600 @@
+//! A seeded author of random journals. It runs the model on what it writes, so that
+//! most calls are accepted and meet a busy kernel.
+
+use crate::calls::{Answer, Call};
+use crate::coverage::Coverage;
+use crate::damage;
+use crate::kernel::{Kernel, Kind, ObjectNo, Stand, TaskNo, FOR_EVER, IDLE, MOST_HOLD, MOST_PENDED};
+use crate::line::{read_call, ITEM_BYTES};
+use crate::machine::Machine;
+use crate::random::Random;
+use crate::refusals::refusal;
+
+/// How often each call is tried, by call number; one row for each mood.
+#[rustfmt::skip]
+const MOODS: [[u32; 18]; 8] = [
+    // cre del sus res set dly yld hld rel mkq mkm rem snd rcv tak giv tick
+    [0,  6,  2,  4,  6,  5,  7,  4,  2,  4,  3,  3,  2, 14, 14,  9,  8, 12], // mixed
+    [0,  6,  2,  3,  4,  2, 16,  4,  2,  4,  2,  1,  1,  8,  8,  6,  4, 30], // time
+    [0,  6,  2,  3,  4,  3,  3,  2,  1,  3,  4,  0,  2, 28, 28,  1,  2,  8], // queues
+    [0,  6,  2,  4,  5,  8,  4,  2,  1,  3,  0,  5,  1,  2,  2, 26, 16,  8], // mutexes
+    [0,  4,  2,  4,  4,  5,  6,  1, 12, 12,  2,  2,  1,  8,  8,  5,  5, 24], // holds
+    [0, 12, 12,  8, 10,  6,  4,  2,  1,  3, 10,  8, 14,  8,  8,  6,  5,  6], // slots
+    [0,  8,  1,  2,  4,  6,  4, 16,  1,  3,  1,  2,  1,  4,  4,  6,  6, 24], // crowd
+    [0,  2,  1,  6,  2,  3, 24,  2,  2,  6,  3,  1,  2, 12, 20,  6,  2,  6], // quiet: idle runs often
+];
+
+/// Calls that can get each refusal from 4 to 15; used when one is aimed at.
+#[rustfmt::skip]
+const CALLS_OF_ROW: [&[u32]; 16] = [
+    &[], &[], &[], &[],
+    &[1, 5, 6, 10],
+    &[2, 3, 4, 5, 12, 13, 14, 15, 16],
+    &[13],
+    &[2, 3, 5, 6, 13, 14, 15],
+    &[2, 3, 6, 7, 13, 14, 15],
+    &[1, 10, 11],
+    &[2, 12],
+    &[16],
+    &[15],
+    &[4],
+    &[13, 14, 15],
+    &[8, 9],
+];
+
+/// Something that takes many lines.
+#[derive(Clone, Copy, PartialEq)]
+enum Plan {
+    None,
+    /// Long waits for this many lines, then `Pend`.
+    Settle(u32),
+    /// Ticks under a hold up to 65,535, then this many more lines.
+    Pend(u32),
+    /// Holds up to depth 255, then this many more lines.
+    Climb(u32),
+    /// Releases down to depth 0.
+    Descend,
+    /// Sends to this queue until it is full and this many lines more, then `Drain`.
+    Fill(ObjectNo, u32),
+    /// Receives from this queue for this many lines.
+    Drain(ObjectNo, u32),
+}
+
+type Fields = Vec<Vec<u8>>;
+
+pub struct Author {
+    random: Random,
+    machine: Machine,
+    lines: u64,
+    written: u64,
+    mood: usize,
+    mood_left: u32,
+    /// Priorities of new tasks in this mood.
+    low: u32,
+    high: u32,
+    plan: Plan,
+    pend_at: u64,
+    ends_cut: bool,
+    coverage: Option<Coverage>,
+}
+
+impl Author {
+    pub fn new(seed: u64, lines: u64) -> Author {
+        let mut random = Random::new(seed);
+        // 65,535 pended ticks need that many lines, so only a long journal has them.
+        let pend_at =
+            if lines >= 100_000 { lines / 20 + u64::from(random.below((lines / 5) as u32)) } else { u64::MAX };
+        let ends_cut = random.percent(25);
+        Author {
+            random,
+            machine: Machine::new(false),
+            lines,
+            written: 0,
+            mood: 0,
+            mood_left: 0,
+            low: 0,
+            high: 31,
+            plan: Plan::None,
+            pend_at,
+            ends_cut,
+            coverage: None,
+        }
+    }
+
+    pub fn with_coverage(mut self) -> Author {
+        self.coverage = Some(Coverage::default());
+        self
+    }
+
+    pub fn coverage(&self) -> Option<&Coverage> {
+        self.coverage.as_ref()
+    }
+
+    /// The next line, or none when all are written.
+    pub fn next_line(&mut self) -> Option<Vec<u8>> {
+        if self.written == self.lines {
+            return None;
+        }
+        self.written += 1;
+        let is_last = self.written == self.lines;
+        let fields = self.next_call();
+        let line = if is_last && self.ends_cut {
+            self.cut(&fields)
+        } else if self.random.percent(4) {
+            self.damage(&fields)
+        } else {
+            damage::join(&fields)
+        };
+        self.run(&line);
+        Some(line)
+    }
+
+    /// A last line without a newline.
+    fn cut(&mut self, fields: &Fields) -> Vec<u8> {
+        if let Some(coverage) = &mut self.coverage {
+            *coverage.damaged.entry("cut end").or_insert(0) += 1;
+        }
+        let mut line = damage::join(fields);
+        line.pop();
+        match self.random.below(4) {
+            0 => line.truncate(1),
+            1 => line.resize(self.random.pick(&[255, 256, 257, 3_000]), b'1'),
+            _ => {}
+        }
+        line
+    }
+
+    fn damage(&mut self, fields: &Fields) -> Vec<u8> {
+        let mut kind = self.random.pick(&damage::KINDS);
+        // These are large; seldom is enough.
+        if (kind == "longer than a read buffer" && !self.random.percent(5))
+            || (kind == "5000 bytes" && !self.random.percent(50))
+        {
+            kind = "257 bytes";
+        }
+        if let Some(coverage) = &mut self.coverage {
+            *coverage.damaged.entry(kind).or_insert(0) += 1;
+        }
+        damage::damaged(kind, fields, &mut self.random)
+    }
+
+    /// Runs the line in the author's own machine.
+    fn run(&mut self, line: &[u8]) {
+        let Some(coverage) = &mut self.coverage else {
+            self.machine.answer(line);
+            return;
+        };
+        let before = self.machine.kernel.clone();
+        let answer = self.machine.answer(line);
+        let mut item = [0; ITEM_BYTES];
+        let call = read_call(line, &mut item);
+        coverage.answer(call.as_ref(), answer);
+        if let (Some(call), false) = (call, matches!(answer, Answer::Refused(_))) {
+            coverage.observe(&before, &call, &self.machine.kernel);
+        }
+    }
+
+    fn kernel(&self) -> &Kernel {
+        &self.machine.kernel
+    }
+
+    /// The refusal that this call would get now.
+    fn refusal_of(&self, fields: &Fields) -> Option<u8> {
+        let line = damage::join(fields);
+        let mut item = [0; ITEM_BYTES];
+        let call: Call = read_call(&line, &mut item).expect("the author writes call lines");
+        refusal(self.kernel(), &self.machine.store, &call)
+    }
+
+    fn next_call(&mut self) -> Fields {
+        if self.mood_left == 0 {
+            self.new_mood();
+        }
+        self.mood_left -= 1;
+        if self.written >= self.pend_at && self.plan == Plan::None {
+            self.pend_at = u64::MAX;
+            self.plan = Plan::Settle(60);
+        }
+        let left = self.lines - self.written;
+        if self.plan == Plan::None && left > 700 && self.random.below(12_000) == 0 {
+            self.plan = Plan::Climb(8);
+        }
+        if self.plan == Plan::None && self.random.below(600) == 0 {
+            self.plan = self.fill_a_queue();
+        }
+        if let Some(fields) = self.planned_call() {
+            return fields;
+        }
+        match self.random.below(100) {
+            0..=7 => self.aimed_call(),
+            8..=9 => self.faulty_call(),
+            _ => self.accepted_call(),
+        }
+    }
+
+    fn new_mood(&mut self) {
+        self.mood = self.random.below(MOODS.len() as u32) as usize;
+        self.mood_left = self.random.between(20, 400);
+        let span = self.random.pick(&[0, 1, 2, 4, 12, 31]);
+        self.low = if self.random.percent(15) { 0 } else { self.random.below(32 - span) };
+        self.high = self.low + span;
+    }
+
+    /// A plan for the queue of most places, or none without one.
+    fn fill_a_queue(&mut self) -> Plan {
+        let capacity = |object: &ObjectNo| match self.kernel().object(*object).kind {
+            Kind::Queue(queue) => queue.capacity,
+            _ => 0,
+        };
+        let largest = ObjectNo::all().max_by_key(capacity).filter(|object| capacity(object) > 0);
+        largest.map_or(Plan::None, |object| Plan::Fill(object, 12))
+    }
+
+    fn planned_call(&mut self) -> Option<Fields> {
+        let hold = self.kernel().hold;
+        let often = self.random.percent(95);
+        match self.plan {
+            Plan::None => None,
+            Plan::Settle(0) => {
+                self.plan = Plan::Pend(25);
+                Some(call(&[8]))
+            }
+            Plan::Settle(left) => {
+                self.plan = Plan::Settle(left - 1);
+                if hold > 0 {
+                    return Some(call(&[9]));
+                }
+                let long = self.random.percent(40);
+                let wait = if long { self.random.between(65_000, 65_600) } else { self.random.between(1, 65_000) };
+                let number = self.random.pick(&[6, 14, 15]);
+                let mut fields = call(&[number]);
+                if number != 6 {
+                    fields.push(self.object(number, 0));
+                }
+                fields.push(decimal(wait));
+                if self.refusal_of(&fields).is_none() {
+                    Some(fields)
+                } else {
+                    None
+                }
+            }
+            Plan::Pend(0) | Plan::Climb(0) => {
+                self.plan = Plan::Descend;
+                Some(call(&[9]))
+            }
+            Plan::Pend(left) => {
+                if hold == 0 {
+                    return Some(call(&[8]));
+                }
+                if self.kernel().pended == MOST_PENDED {
+                    self.plan = Plan::Pend(left - 1);
+                }
+                // Few other calls, so that long waits last.
+                let other = self.random.below(1_000) == 0;
+                Some(if other { self.without_release() } else { call(&[17]) })
+            }
+            Plan::Climb(left) => {
+                if hold == MOST_HOLD {
+                    self.plan = Plan::Climb(left - 1);
+                }
+                Some(if often { call(&[8]) } else { self.without_release() })
+            }
+            Plan::Descend => {
+                if hold == 0 {
+                    self.plan = Plan::None;
+                    return None;
+                }
+                if often {
+                    Some(call(&[9]))
+                } else {
+                    None
+                }
+            }
+            Plan::Fill(object, left) | Plan::Drain(object, left) => {
+                let fill = matches!(self.plan, Plan::Fill(..));
+                let Kind::Queue(queue) = self.kernel().object(object).kind else {
+                    self.plan = Plan::None;
+                    return None;
+                };
+                if !fill || queue.count == queue.capacity {
+                    self.plan = match (fill, left) {
+                        (true, 0) => Plan::Drain(object, 12 + u32::from(queue.capacity) / 2),
+                        (true, _) => Plan::Fill(object, left - 1),
+                        (false, 0) => Plan::None,
+                        (false, _) => Plan::Drain(object, left - 1),
+                    };
+                }
+                let number = decimal(object.number().into());
+                let mut fields = vec![decimal(if fill { 13 } else { 14 }), number.clone()];
+                if fill {
+                    fields.push(self.item(&number, 0));
+                }
+                fields.push(self.wait(0, false));
+                let accepted = self.refusal_of(&fields).is_none();
+                if accepted && self.random.percent(85) {
+                    Some(fields)
+                } else {
+                    None
+                }
+            }
+        }
+    }
+
+    /// A call that leaves the hold depth or lets it grow.
+    fn without_release(&mut self) -> Fields {
+        loop {
+            let fields = self.accepted_call();
+            if fields[0] != b"9" {
+                return fields;
+            }
+        }
+    }
+
+    /// A call by the mood that is accepted; after many tries, any.
+    fn accepted_call(&mut self) -> Fields {
+        for _ in 0..40 {
+            let number = self.call_by_mood();
+            let fields = self.candidate(number, 0);
+            if self.refusal_of(&fields).is_none() {
+                return fields;
+            }
+        }
+        call(&[17])
+    }
+
+    /// A call that gets one chosen refusal, if one is found.
+    fn aimed_call(&mut self) -> Fields {
+        let mut row = self.random.between(4, 15) as usize;
+        if self.kernel().running == IDLE && self.random.percent(30) {
+            row = 7;
+        } else if self.kernel().hold > 0 && self.random.percent(30) {
+            row = 8;
+        }
+        for _ in 0..60 {
+            let number = self.random.pick(CALLS_OF_ROW[row]);
+            let wildness = if row == 7 || row == 8 { 60 } else { self.random.pick(&[0, 20, 50]) };
+            let fields = self.candidate(number, wildness);
+            if self.refusal_of(&fields) == Some(row as u8) {
+                return fields;
+            }
+        }
+        self.accepted_call()
+    }
+
+    /// Any call with wild arguments; often several refusals apply.
+    fn faulty_call(&mut self) -> Fields {
+        let number = self.random.between(1, 17);
+        self.candidate(number, 50)
+    }
+
+    fn call_by_mood(&mut self) -> u32 {
+        let kernel = &self.machine.kernel;
+        let mut weights = MOODS[self.mood];
+        // With nobody but idle to run, bring tasks back.
+        if kernel.running == IDLE {
+            for number in [1, 4, 17] {
+                weights[number] *= 3;
+            }
+        }
+        if kernel.hold > 3 {
+            weights[9] *= 4;
+        }
+        let mut left = self.random.below(weights.iter().sum());
+        for (number, weight) in weights.iter().enumerate() {
+            if left < *weight {
+                return number as u32;
+            }
+            left -= weight;
+        }
+        17
+    }
+
+    /// A call of this number; each argument is wild so many times in a hundred.
+    fn candidate(&mut self, number: u32, wildness: u32) -> Fields {
+        let mut fields = call(&[number]);
+        match number {
+            1 => fields.push(self.priority(wildness)),
+            2..=4 => fields.push(self.task(number, wildness)),
+            5 => {
+                fields.push(self.task(number, wildness));
+                let idle = fields[1] == b"0" && self.random.percent(70);
+                let priority = if idle { decimal(0) } else { self.priority(wildness) };
+                fields.push(priority);
+            }
+            6 => {
+                let wait = self.wait(wildness, true);
+                fields.push(wait);
+            }
+            10 => {
+                let (capacity, size) = self.shape(wildness);
+                fields.push(decimal(capacity));
+                fields.push(decimal(size));
+            }
+            12 => fields.push(self.object(number, wildness)),
+            13 => {
+                let object = self.object(number, wildness);
+                let item = self.item(&object, wildness);
+                fields.push(object);
+                fields.push(item);
+                fields.push(self.wait(wildness, false));
+            }
+            14 | 15 => {
+                fields.push(self.object(number, wildness));
+                fields.push(self.wait(wildness, false));
+            }
+            16 => fields.push(self.object(number, wildness)),
+            _ => {}
+        }
+        fields
+    }
+
+    fn priority(&mut self, wildness: u32) -> Vec<u8> {
+        if self.random.percent(wildness) {
+            return decimal(self.random.pick(&[0, 1, 31, 32, 33, 40, 63, 64, 255, 256, 287, 65_536, FOR_EVER]));
+        }
+        if self.random.percent(85) {
+            decimal(self.random.between(self.low, self.high))
+        } else {
+            decimal(self.random.below(32))
+        }
+    }
+
+    fn task(&mut self, number: u32, wildness: u32) -> Vec<u8> {
+        if self.random.percent(wildness) {
+            return decimal(self.random.pick(&[0, 1, 2, 3, 5, 8, 13, 14, 15, 16, 17, 31, 255, 256, 65_536, FOR_EVER]));
+        }
+        let kernel = &self.machine.kernel;
+        let choice = self.random.below(100);
+        let wanted: Vec<TaskNo> = TaskNo::all()
+            .filter(|&task| {
+                let stand = kernel.task(task).stand;
+                let waits = matches!(stand, Stand::Waiting { .. });
+                match (number, choice) {
+                    (4, _) => stand == Stand::Suspended,
+                    (_, 0..=29) => waits,
+                    (_, 30..=39) => kernel.is_blocked(task),
+                    (3 | 5, 40..=64) => kernel.holds_a_mutex(task),
+                    (2, 40..=64) => !kernel.holds_a_mutex(task) && stand != Stand::Free,
+                    (_, 65..=79) => task == kernel.running,
+                    (_, 80..=81) => task == IDLE,
+                    _ => stand != Stand::Free && task != IDLE,
+                }
+            })
+            .collect();
+        if wanted.is_empty() {
+            return decimal(self.random.below(16));
+        }
+        decimal(self.random.pick(&wanted).number().into())
+    }
+
+    fn object(&mut self, number: u32, wildness: u32) -> Vec<u8> {
+        if self.random.percent(wildness) {
+            return decimal(self.random.pick(&[0, 1, 2, 3, 4, 5, 6, 7, 9, 12, 15, 16, 17, 255, 256, 65_536, FOR_EVER]));
+        }
+        let kernel = &self.machine.kernel;
+        let caller = kernel.running;
+        let choice = self.random.below(100);
+        let wanted: Vec<ObjectNo> = ObjectNo::all()
+            .filter(|&object| {
+                let slot = kernel.object(object);
+                match (number, slot.kind) {
+                    (_, Kind::Free) => false,
+                    (12, _) => true,
+                    (13 | 14, Kind::Queue(_)) => choice >= 25 || !slot.waiters.is_empty(),
+                    (15, Kind::Mutex { holder }) => match choice {
+                        0..=44 => holder.is_some_and(|holder| holder != caller),
+                        45..=84 => holder.is_none(),
+                        85..=87 => holder == Some(caller),
+                        _ => true,
+                    },
+                    (16, Kind::Mutex { holder }) => choice >= 90 || holder == Some(caller),
+                    _ => false,
+                }
+            })
+            .collect();
+        if wanted.is_empty() {
+            return decimal(self.random.below(16));
+        }
+        // The first ones more often, so that waiters gather.
+        let last = if self.random.percent(50) { wanted.len().min(3) } else { wanted.len() };
+        decimal(self.random.pick(&wanted[..last]).number().into())
+    }
+
+    fn wait(&mut self, wildness: u32, delay: bool) -> Vec<u8> {
+        if self.random.percent(wildness) {
+            return decimal(self.random.pick(&[0, 1, 2, 65_535, 2_147_483_648, 4_294_967_294, FOR_EVER]));
+        }
+        let kernel = &self.machine.kernel;
+        if !delay && (kernel.running == IDLE || kernel.hold > 0) && self.random.percent(90) {
+            return decimal(0);
+        }
+        let wait = match self.random.below(100) {
+            0..=21 if !delay => 0,
+            0..=5 => 0,
+            6..=54 => self.random.between(1, 6),
+            55..=72 => self.wait_like_another(),
+            73..=79 => self.random.between(7, 300),
+            80..=82 => self.random.pick(&[65_535, 70_000, 1 << 31, FOR_EVER - 1]),
+            _ if delay => self.random.between(1, 12),
+            _ => FOR_EVER,
+        };
+        decimal(wait)
+    }
+
+    /// A wait that ends with another task's.
+    fn wait_like_another(&mut self) -> u32 {
+        let kernel = &self.machine.kernel;
+        let wakes: Vec<u32> = kernel
+            .tasks
+            .iter()
+            .filter_map(|task| match task.stand {
+                Stand::Delayed { wake } => Some(wake),
+                Stand::Waiting { wake, .. } => wake,
+                _ => None,
+            })
+            .map(|wake| wake.wrapping_sub(kernel.tick))
+            .collect();
+        if wakes.is_empty() {
+            2
+        } else {
+            self.random.pick(&wakes)
+        }
+    }
+
+    fn shape(&mut self, wildness: u32) -> (u32, u32) {
+        if self.random.percent(wildness) {
+            let capacity = self.random.pick(&[0, 1, 8, 32, 63, 64, 65, 128, 256, 65_536, FOR_EVER]);
+            let size = self.random.pick(&[0, 1, 8, 9, 16, 17, 63, 64, 65, 128, 256, 65_536, FOR_EVER]);
+            return (capacity, size);
+        }
+        match self.random.below(10) {
+            0..=1 => (self.random.between(1, 3), 0),
+            2 => (self.random.between(1, 64), 0),
+            3..=5 => (self.random.between(1, 3), self.random.between(1, 64)),
+            6 => {
+                self.random.pick(&[(64, 8), (8, 64), (16, 32), (32, 16), (1, 64), (64, 1), (7, 64), (51, 10), (10, 51)])
+            }
+            7..=8 => {
+                let capacity = self.random.between(1, 8);
+                (capacity, self.random.between(1, 64))
+            }
+            _ => {
+                let size = self.random.between(1, 64);
+                (self.random.between(1, (512 / size).min(64)), size)
+            }
+        }
+    }
+
+    fn item(&mut self, object: &[u8], wildness: u32) -> Vec<u8> {
+        let number = ObjectNo::all().find(|number| decimal(number.number().into()) == object);
+        let size = match number.map(|number| self.kernel().object(number).kind) {
+            Some(Kind::Queue(queue)) => u32::from(queue.size),
+            _ => self.random.below(5),
+        };
+        let length = if self.random.percent(wildness) {
+            self.random.pick(&[0, 1, size.saturating_sub(1), (size + 1).min(64), 63, 64])
+        } else {
+            size
+        };
+        const HEX: &[u8; 16] = b"0123456789abcdef";
+        (0..2 * length).map(|_| self.random.pick(HEX)).collect()
+    }
+}
+
+fn decimal(number: u32) -> Vec<u8> {
+    number.to_string().into_bytes()
+}
+
+fn call(numbers: &[u32]) -> Fields {
+    numbers.iter().map(|&number| decimal(number)).collect()
+}
+
+/// A whole journal.
+pub fn journal(seed: u64, lines: u64) -> Vec<u8> {
+    let mut author = Author::new(seed, lines);
+    let mut bytes = Vec::new();
+    while let Some(line) = author.next_line() {
+        bytes.extend_from_slice(&line);
+    }
+    bytes
+}

@@ -1,0 +1,379 @@
+//! The kernel value: task slots, object slots and the lines of ready tasks.
+//! Quoted sentences are document 01's.
+
+/// "16 task slots, 0 to 15."
+pub const TASKS: usize = 16;
+/// "16 object slots, 0 to 15, each free, a queue or a mutex."
+pub const OBJECTS: usize = 16;
+/// "Priorities 0 to 31; larger is more urgent."
+pub const PRIORITIES: usize = 32;
+/// "A queue has capacity 1 to 64 and item size 0 to 64 bytes".
+pub const MOST_CAPACITY: u32 = 64;
+pub const MOST_ITEM: u32 = 64;
+/// "with capacity times size at most 512".
+pub const MOST_PRODUCT: u32 = 512;
+/// "Hold depth 0 to 255."
+pub const MOST_HOLD: u32 = 255;
+/// "Pended ticks 0 to 65,535."
+pub const MOST_PENDED: u32 = 65_535;
+/// "4,294,967,295 means for ever."
+pub const FOR_EVER: u32 = 4_294_967_295;
+
+/// "a task number must never be usable where an object number is meant"
+#[derive(Clone, Copy, PartialEq, Eq, Debug)]
+pub struct TaskNo(u8);
+
+#[derive(Clone, Copy, PartialEq, Eq, Debug)]
+pub struct ObjectNo(u8);
+
+/// "Task 0 is idle".
+pub const IDLE: TaskNo = TaskNo(0);
+
+impl TaskNo {
+    pub fn new(number: u32) -> Option<TaskNo> {
+        if number < TASKS as u32 {
+            Some(TaskNo(number as u8))
+        } else {
+            None
+        }
+    }
+    pub fn all() -> impl Iterator<Item = TaskNo> {
+        (0..TASKS as u8).map(TaskNo)
+    }
+    pub fn index(self) -> usize {
+        self.0 as usize
+    }
+    pub fn number(self) -> u8 {
+        self.0
+    }
+}
+
+impl ObjectNo {
+    pub fn new(number: u32) -> Option<ObjectNo> {
+        if number < OBJECTS as u32 {
+            Some(ObjectNo(number as u8))
+        } else {
+            None
+        }
+    }
+    pub fn all() -> impl Iterator<Item = ObjectNo> {
+        (0..OBJECTS as u8).map(ObjectNo)
+    }
+    pub fn index(self) -> usize {
+        self.0 as usize
+    }
+    pub fn number(self) -> u8 {
+        self.0
+    }
+}
+
+/// "Outcome of a task's last blocked call".
+#[derive(Clone, Copy, PartialEq, Eq, Debug)]
+pub enum Outcome {
+    /// "0 none or still waiting"
+    None = 0,
+    /// "1 done"
+    Done = 1,
+    /// "2 time ran out"
+    TimeRanOut = 2,
+    /// "3 broken off"
+    BrokenOff = 3,
+}
+
+/// What a waiting task waits for.
+#[derive(Clone, Copy, PartialEq, Eq, Debug)]
+pub enum Role {
+    Sender,
+    Receiver,
+    Taker,
+}
+
+/// "An existing task is ready, delayed, waiting on one object, or suspended."
+/// A number that a state does not use does not exist here.
+#[derive(Clone, Copy, PartialEq, Eq, Debug)]
+pub enum Stand {
+    Free,
+    Ready,
+    Delayed {
+        wake: u32,
+    },
+    /// "a wait for ever has no wake tick"
+    Waiting {
+        object: ObjectNo,
+        role: Role,
+        wake: Option<u32>,
+    },
+    Suspended,
+}
+
+/// "Each task has its own priority and its effective one."
+#[derive(Clone, Copy, PartialEq, Eq, Debug)]
+pub struct Task {
+    pub stand: Stand,
+    pub own: u8,
+    pub effective: u8,
+    pub outcome: Outcome,
+}
+
+pub const FREE_TASK: Task = Task { stand: Stand::Free, own: 0, effective: 0, outcome: Outcome::None };
+
+#[derive(Clone, Copy, PartialEq, Eq, Debug)]
+pub struct Queue {
+    pub capacity: u8,
+    pub size: u8,
+    /// The place of the oldest item.
+    pub first: u8,
+    pub count: u8,
+}
+
+#[derive(Clone, Copy, PartialEq, Eq, Debug)]
+pub enum Kind {
+    Free,
+    Queue(Queue),
+    Mutex { holder: Option<TaskNo> },
+}
+
+/// "each object lists its waiters once, in order of arrival"
+#[derive(Clone, PartialEq, Eq, Debug)]
+pub struct Object {
+    pub kind: Kind,
+    pub waiters: Vec<TaskNo>,
+}
+
+#[derive(Clone, PartialEq, Eq, Debug)]
+pub struct Kernel {
+    pub tasks: [Task; TASKS],
+    pub objects: [Object; OBJECTS],
+    /// "Each priority has a line of its ready tasks"; index 0 is the head.
+    pub lines: [Vec<TaskNo>; PRIORITIES],
+    /// One bit for each occupied line; it repeats what `lines` says.
+    pub occupied: u32,
+    pub running: TaskNo,
+    pub tick: u32,
+    pub hold: u32,
+    pub pended: u32,
+}
+
+impl Kernel {
+    /// "The fresh kernel has idle alone, tick 0, hold 0, no objects."
+    pub fn fresh() -> Kernel {
+        let mut kernel = Kernel {
+            tasks: [FREE_TASK; TASKS],
+            objects: std::array::from_fn(|_| Object { kind: Kind::Free, waiters: Vec::with_capacity(TASKS) }),
+            lines: std::array::from_fn(|_| Vec::with_capacity(TASKS)),
+            occupied: 0,
+            running: IDLE,
+            tick: 0,
+            hold: 0,
+            pended: 0,
+        };
+        kernel.make_ready(IDLE);
+        kernel
+    }
+
+    pub fn task(&self, task: TaskNo) -> &Task {
+        &self.tasks[task.index()]
+    }
+
+    pub fn task_mut(&mut self, task: TaskNo) -> &mut Task {
+        &mut self.tasks[task.index()]
+    }
+
+    pub fn object(&self, object: ObjectNo) -> &Object {
+        &self.objects[object.index()]
+    }
+
+    pub fn object_mut(&mut self, object: ObjectNo) -> &mut Object {
+        &mut self.objects[object.index()]
+    }
+
+    /// The existing task of this number.
+    pub fn find_task(&self, number: u32) -> Option<TaskNo> {
+        TaskNo::new(number).filter(|&task| self.task(task).stand != Stand::Free)
+    }
+
+    /// The object of this number, of either kind.
+    pub fn find_object(&self, number: u32) -> Option<ObjectNo> {
+        ObjectNo::new(number).filter(|&object| self.object(object).kind != Kind::Free)
+    }
+
+    pub fn find_queue(&self, number: u32) -> Option<(ObjectNo, Queue)> {
+        let object = ObjectNo::new(number)?;
+        match self.object(object).kind {
+            Kind::Queue(queue) => Some((object, queue)),
+            _ => None,
+        }
+    }
+
+    /// The mutex of this number, and its holder.
+    pub fn find_mutex(&self, number: u32) -> Option<(ObjectNo, Option<TaskNo>)> {
+        let object = ObjectNo::new(number)?;
+        match self.object(object).kind {
+            Kind::Mutex { holder } => Some((object, holder)),
+            _ => None,
+        }
+    }
+
+    /// "lowest free slot"
+    pub fn free_task(&self) -> Option<TaskNo> {
+        TaskNo::all().find(|&task| self.task(task).stand == Stand::Free)
+    }
+
+    /// "lowest free object"
+    pub fn free_object(&self) -> Option<ObjectNo> {
+        ObjectNo::all().find(|&object| self.object(object).kind == Kind::Free)
+    }
+
+    pub fn holds_a_mutex(&self, task: TaskNo) -> bool {
+        self.objects.iter().any(|object| object.kind == Kind::Mutex { holder: Some(task) })
+    }
+
+    /// Delayed, or waiting on an object.
+    pub fn is_blocked(&self, task: TaskNo) -> bool {
+        matches!(self.task(task).stand, Stand::Delayed { .. } | Stand::Waiting { .. })
+    }
+
+    /// The highest occupied line. Idle is always ready, so there is one.
+    pub fn highest_line(&self) -> usize {
+        31 - self.occupied.leading_zeros() as usize
+    }
+
+    /// "Choose. With hold 0, the head of the highest occupied line runs; a task
+    /// overtaken stays at the head of its line. With a hold, the running task stays."
+    pub fn choose(&mut self) {
+        if self.hold == 0 {
+            self.running = self.lines[self.highest_line()][0];
+        }
+    }
+
+    /// "Made ready means put at the tail of the line."
+    pub fn make_ready(&mut self, task: TaskNo) {
+        let slot = self.task_mut(task);
+        slot.stand = Stand::Ready;
+        let priority = slot.effective as usize;
+        self.lines[priority].push(task);
+        self.occupied |= 1 << priority;
+    }
+
+    /// A ready task leaves its line.
+    pub fn leave_line(&mut self, task: TaskNo) {
+        let priority = self.task(task).effective as usize;
+        let line = &mut self.lines[priority];
+        let place = line.iter().position(|&other| other == task).expect("a ready task is in its line");
+        line.remove(place);
+        if line.is_empty() {
+            self.occupied &= !(1 << priority);
+        }
+    }
+
+    /// "A ready task whose effective priority changes moves to the new line, at the
+    /// head if running, else at the tail; unchanged, it stays."
+    pub fn set_effective(&mut self, task: TaskNo, effective: u8) {
+        if self.task(task).effective == effective {
+            return;
+        }
+        if self.task(task).stand != Stand::Ready {
+            self.task_mut(task).effective = effective;
+            return;
+        }
+        self.leave_line(task);
+        self.task_mut(task).effective = effective;
+        let line = &mut self.lines[effective as usize];
+        if task == self.running {
+            line.insert(0, task);
+        } else {
+            line.push(task);
+        }
+        self.occupied |= 1 << effective;
+    }
+
+    /// "the head of its line goes to the tail"; the running task heads its line.
+    pub fn turn_running_line(&mut self) {
+        let priority = self.task(self.running).effective as usize;
+        let line = &mut self.lines[priority];
+        if line.len() > 1 {
+            line.rotate_left(1);
+        }
+    }
+
+    /// A task that waits on an object leaves the object's list.
+    pub fn leave_object(&mut self, task: TaskNo, object: ObjectNo) {
+        let waiters = &mut self.object_mut(object).waiters;
+        let place = waiters.iter().position(|&other| other == task).expect("a waiter is in its object's list");
+        waiters.remove(place);
+    }
+
+    /// "First waiter: highest effective priority, then earliest arrival."
+    pub fn first_waiter(&self, object: ObjectNo) -> Option<TaskNo> {
+        let mut first: Option<TaskNo> = None;
+        for &waiter in &self.object(object).waiters {
+            match first {
+                Some(best) if self.task(best).effective >= self.task(waiter).effective => {}
+                _ => first = Some(waiter),
+            }
+        }
+        first
+    }
+
+    /// The first waiter leaves the object "and is made ready, outcome 1".
+    pub fn wake_first_waiter(&mut self, object: ObjectNo) -> Option<TaskNo> {
+        let waiter = self.first_waiter(object)?;
+        self.leave_object(waiter, object);
+        self.task_mut(waiter).outcome = Outcome::Done;
+        self.make_ready(waiter);
+        Some(waiter)
+    }
+
+    /// "The wake tick is the tick count plus the wait, wrapped at 2^32".
+    pub fn wake_tick(&self, wait: u32) -> Option<u32> {
+        if wait == FOR_EVER {
+            None
+        } else {
+            Some(self.tick.wrapping_add(wait))
+        }
+    }
+
+    /// "A delay or wait sets it to 0 as it begins." The caller leaves its line.
+    fn block_running(&mut self, stand: Stand) {
+        let caller = self.running;
+        self.leave_line(caller);
+        let slot = self.task_mut(caller);
+        slot.stand = stand;
+        slot.outcome = Outcome::None;
+    }
+
+    pub fn delay_running(&mut self, ticks: u32) {
+        let wake = self.tick.wrapping_add(ticks);
+        self.block_running(Stand::Delayed { wake });
+    }
+
+    pub fn wait_running(&mut self, object: ObjectNo, role: Role, wait: u32) {
+        let wake = self.wake_tick(wait);
+        self.block_running(Stand::Waiting { object, role, wake });
+        let caller = self.running;
+        self.object_mut(object).waiters.push(caller);
+    }
+
+    /// One tick's count and wakes. "the count goes up, then the due tasks are made
+    /// ready in order of task number (D), a delayed one with outcome 1, a waiting
+    /// one leaving its object with outcome 2"
+    pub fn count_and_wake(&mut self) {
+        // "after which it returns to 0"
+        self.tick = self.tick.wrapping_add(1);
+        for task in TaskNo::all() {
+            // "the task is due when the count equals it"
+            match self.task(task).stand {
+                Stand::Delayed { wake } if wake == self.tick => {
+                    self.task_mut(task).outcome = Outcome::Done;
+                    self.make_ready(task);
+                }
+                Stand::Waiting { object, wake: Some(wake), .. } if wake == self.tick => {
+                    self.leave_object(task, object);
+                    self.task_mut(task).outcome = Outcome::TimeRanOut;
+                    self.make_ready(task);
+                }
+                _ => {}
+            }
+        }
+    }
+}

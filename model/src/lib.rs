@@ -1,0 +1,14 @@
+//! A second opinion on the kernel of document 01, written from its text alone.
+
+pub mod calls;
+pub mod check;
+pub mod coverage;
+pub mod damage;
+pub mod filter;
+pub mod journal;
+pub mod kernel;
+pub mod line;
+pub mod machine;
+pub mod random;
+pub mod refusals;
+pub mod store;

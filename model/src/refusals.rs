@@ -1,0 +1,211 @@
+//! What is turned away. "Of the numbers that apply, the one that stands first in this
+//! table is given, and none otherwise."
+//!
+//! `refusal` goes by call, with the rows that can apply to it in rising order.
+//! `refusal_by_rows` is the table itself, row by row; the self-check compares the two.
+//! Row 1 (soundness) is asserted by the self-check; row 3 belongs to the line reader.
+
+use crate::calls::Call;
+use crate::kernel::{
+    Kernel, Kind, Stand, FOR_EVER, IDLE, MOST_CAPACITY, MOST_HOLD, MOST_ITEM, MOST_PENDED, MOST_PRODUCT, PRIORITIES,
+};
+use crate::store::STORE_BYTES;
+
+pub const NOT_A_CALL: u8 = 3;
+
+fn first_of(rows: &[(u8, bool)]) -> Option<u8> {
+    rows.iter().find(|row| row.1).map(|row| row.0)
+}
+
+fn bad_priority(priority: u32) -> bool {
+    priority >= PRIORITIES as u32
+}
+
+fn bad_queue(capacity: u32, size: u32) -> bool {
+    !(1..=MOST_CAPACITY).contains(&capacity) || size > MOST_ITEM || capacity * size > MOST_PRODUCT
+}
+
+/// The refusal of this call, if it is turned away.
+pub fn refusal(kernel: &Kernel, store: &[u8], call: &Call) -> Option<u8> {
+    if store.len() != STORE_BYTES {
+        return Some(2);
+    }
+    let caller = kernel.running;
+    let idle_calls = caller == IDLE;
+    let held = kernel.hold > 0;
+    match *call {
+        Call::Create { priority } => first_of(&[(4, bad_priority(priority)), (9, kernel.free_task().is_none())]),
+        Call::Delete { task } => {
+            let Some(task) = kernel.find_task(task) else { return Some(5) };
+            first_of(&[(7, task == IDLE), (8, held && task == caller), (10, kernel.holds_a_mutex(task))])
+        }
+        Call::Suspend { task } => {
+            let Some(task) = kernel.find_task(task) else { return Some(5) };
+            first_of(&[(7, task == IDLE), (8, held && task == caller)])
+        }
+        Call::Resume { task } => {
+            let Some(task) = kernel.find_task(task) else { return Some(5) };
+            first_of(&[(13, kernel.task(task).stand != Stand::Suspended)])
+        }
+        Call::SetPriority { task, priority } => {
+            if bad_priority(priority) {
+                return Some(4);
+            }
+            let Some(task) = kernel.find_task(task) else { return Some(5) };
+            first_of(&[(7, task == IDLE && priority != 0)])
+        }
+        Call::Delay { ticks } => first_of(&[(4, ticks == FOR_EVER), (7, idle_calls), (8, held)]),
+        Call::Yield => first_of(&[(8, held)]),
+        Call::Hold => first_of(&[(15, kernel.hold == MOST_HOLD)]),
+        Call::Release => first_of(&[(15, !held)]),
+        Call::MakeQueue { capacity, size } => {
+            first_of(&[(4, bad_queue(capacity, size)), (9, kernel.free_object().is_none())])
+        }
+        Call::MakeMutex => first_of(&[(9, kernel.free_object().is_none())]),
+        Call::Remove { object } => {
+            let Some(object) = kernel.find_object(object) else { return Some(5) };
+            let object = kernel.object(object);
+            let is_held = matches!(object.kind, Kind::Mutex { holder: Some(_) });
+            first_of(&[(10, is_held || !object.waiters.is_empty())])
+        }
+        Call::Send { object, item, wait } => {
+            let Some((_, queue)) = kernel.find_queue(object) else { return Some(5) };
+            first_of(&[
+                (6, item.len() != queue.size as usize),
+                (7, wait != 0 && idle_calls),
+                (8, wait != 0 && held),
+                (14, wait == 0 && queue.count == queue.capacity),
+            ])
+        }
+        Call::Receive { object, wait } => {
+            let Some((_, queue)) = kernel.find_queue(object) else { return Some(5) };
+            first_of(&[(7, wait != 0 && idle_calls), (8, wait != 0 && held), (14, wait == 0 && queue.count == 0)])
+        }
+        Call::Take { object, wait } => {
+            let Some((_, holder)) = kernel.find_mutex(object) else { return Some(5) };
+            first_of(&[
+                (7, idle_calls),
+                (8, wait != 0 && held),
+                (12, holder == Some(caller)),
+                (14, wait == 0 && holder.is_some()),
+            ])
+        }
+        Call::Give { object } => {
+            let Some((_, holder)) = kernel.find_mutex(object) else { return Some(5) };
+            first_of(&[(11, holder != Some(caller))])
+        }
+        Call::Tick => first_of(&[(16, held && kernel.pended == MOST_PENDED)]),
+    }
+}
+
+/// The same, read off the table: the first row that applies.
+pub fn refusal_by_rows(kernel: &Kernel, store: &[u8], call: &Call) -> Option<u8> {
+    (2..=16).filter(|&row| row != NOT_A_CALL).find(|&row| row_applies(row, kernel, store, call))
+}
+
+fn row_applies(row: u8, kernel: &Kernel, store: &[u8], call: &Call) -> bool {
+    let caller = kernel.running;
+    let is_caller = |number: u32| kernel.find_task(number) == Some(caller);
+    let is_idle = |number: u32| kernel.find_task(number) == Some(IDLE);
+    match row {
+        // "the store is not 9,216 bytes long"
+        2 => store.len() != STORE_BYTES,
+        // "priority, capacity, size or product out of range; delay of 4,294,967,295"
+        4 => match *call {
+            Call::Create { priority } | Call::SetPriority { priority, .. } => priority > 31,
+            Call::MakeQueue { capacity, size } => {
+                !(1..=64).contains(&capacity) || size > 64 || u64::from(capacity) * u64::from(size) > 512
+            }
+            Call::Delay { ticks } => ticks == 4_294_967_295,
+            _ => false,
+        },
+        // "task or object number names none, or an object of the wrong kind"
+        5 => match *call {
+            Call::Delete { task } | Call::Suspend { task } | Call::Resume { task } | Call::SetPriority { task, .. } => {
+                kernel.find_task(task).is_none()
+            }
+            Call::Remove { object } => kernel.find_object(object).is_none(),
+            Call::Send { object, .. } | Call::Receive { object, .. } => kernel.find_queue(object).is_none(),
+            Call::Take { object, .. } | Call::Give { object } => kernel.find_mutex(object).is_none(),
+            _ => false,
+        },
+        // "the item's length is not the queue's item size"
+        6 => match *call {
+            Call::Send { object, item, .. } => {
+                kernel.find_queue(object).is_some_and(|(_, queue)| item.len() != usize::from(queue.size))
+            }
+            _ => false,
+        },
+        // "delete or suspend of idle; idle set to a priority other than 0; delay, take,
+        // or any wait other than 0 by idle"
+        7 => match *call {
+            Call::Delete { task } | Call::Suspend { task } => is_idle(task),
+            Call::SetPriority { task, priority } => is_idle(task) && priority != 0,
+            Call::Delay { .. } | Call::Take { .. } => caller == IDLE,
+            Call::Send { wait, .. } | Call::Receive { wait, .. } => caller == IDLE && wait != 0,
+            _ => false,
+        },
+        // "with a hold: delay, yield, any wait other than 0, delete or suspend of the caller"
+        8 => {
+            kernel.hold != 0
+                && match *call {
+                    Call::Delay { .. } | Call::Yield => true,
+                    Call::Send { wait, .. } | Call::Receive { wait, .. } | Call::Take { wait, .. } => wait != 0,
+                    Call::Delete { task } | Call::Suspend { task } => is_caller(task),
+                    _ => false,
+                }
+        }
+        // "create or make with no free slot"
+        9 => match *call {
+            Call::Create { .. } => kernel.tasks.iter().all(|task| task.stand != Stand::Free),
+            Call::MakeQueue { .. } | Call::MakeMutex => kernel.objects.iter().all(|object| object.kind != Kind::Free),
+            _ => false,
+        },
+        // "delete of a task that holds a mutex; remove of a held mutex or an object with waiters"
+        10 => match *call {
+            Call::Delete { task } => kernel.find_task(task).is_some_and(|task| kernel.holds_a_mutex(task)),
+            Call::Remove { object } => kernel.find_object(object).is_some_and(|object| {
+                let object = kernel.object(object);
+                matches!(object.kind, Kind::Mutex { holder: Some(_) }) || !object.waiters.is_empty()
+            }),
+            _ => false,
+        },
+        // "give of a mutex that the caller does not hold"
+        11 => match *call {
+            Call::Give { object } => kernel.find_mutex(object).is_some_and(|(_, holder)| holder != Some(caller)),
+            _ => false,
+        },
+        // "take by the holder"
+        12 => match *call {
+            Call::Take { object, .. } => kernel.find_mutex(object).is_some_and(|(_, holder)| holder == Some(caller)),
+            _ => false,
+        },
+        // "resume of a task not suspended"
+        13 => match *call {
+            Call::Resume { task } => {
+                kernel.find_task(task).is_some_and(|task| kernel.task(task).stand != Stand::Suspended)
+            }
+            _ => false,
+        },
+        // "wait 0 where the caller would have to wait"
+        14 => match *call {
+            Call::Send { object, wait: 0, .. } => {
+                kernel.find_queue(object).is_some_and(|(_, queue)| queue.count == queue.capacity)
+            }
+            Call::Receive { object, wait: 0 } => kernel.find_queue(object).is_some_and(|(_, queue)| queue.count == 0),
+            Call::Take { object, wait: 0 } => {
+                kernel.find_mutex(object).is_some_and(|(_, holder)| holder.is_some_and(|holder| holder != caller))
+            }
+            _ => false,
+        },
+        // "hold at depth 255; release at depth 0"
+        15 => match *call {
+            Call::Hold => kernel.hold == 255,
+            Call::Release => kernel.hold == 0,
+            _ => false,
+        },
+        // "tick with a hold and 65,535 pended"
+        16 => matches!(call, Call::Tick) && kernel.hold != 0 && kernel.pended == 65_535,
+        _ => false,
+    }
+}

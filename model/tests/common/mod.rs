@@ -1,0 +1,55 @@
+//! Helpers of the tests.
+#![allow(dead_code)]
+
+use model::filter;
+use model::kernel::{Kernel, ObjectNo, TaskNo};
+use model::machine::Machine;
+
+/// The filter's answers to these bytes, with the self-check on.
+pub fn answers(journal: &[u8]) -> Vec<u8> {
+    let mut output = Vec::new();
+    filter::run(&mut &journal[..], &mut output, &mut Machine::new(true)).unwrap();
+    output
+}
+
+/// Runs a session; each line is "call fields -> answer fields", parted by spaces.
+/// `_` stands for an empty item.
+pub fn session(text: &str) -> Machine {
+    let mut machine = Machine::new(true);
+    go_on(&mut machine, text);
+    machine
+}
+
+pub fn go_on(machine: &mut Machine, text: &str) {
+    for line in text.lines().map(str::trim).filter(|line| !line.is_empty()) {
+        let (call, expected) = line.split_once(" -> ").expect("call -> answer");
+        let call = format!("{}\n", call.replace(' ', "\t").replace('_', ""));
+        let mut output = Vec::new();
+        filter::run(&mut call.as_bytes(), &mut output, machine).unwrap();
+        let answer = String::from_utf8(output).unwrap();
+        assert_eq!(answer, format!("{}\n", expected.replace(' ', "\t")), "{line}");
+    }
+}
+
+/// The same call many times, each with this answer.
+pub fn repeat(machine: &mut Machine, times: usize, line: &str) {
+    for _ in 0..times {
+        go_on(machine, line);
+    }
+}
+
+pub fn task(number: u32) -> TaskNo {
+    TaskNo::new(number).unwrap()
+}
+
+pub fn object(number: u32) -> ObjectNo {
+    ObjectNo::new(number).unwrap()
+}
+
+pub fn line_of(kernel: &Kernel, priority: usize) -> Vec<u8> {
+    kernel.lines[priority].iter().map(|task| task.number()).collect()
+}
+
+pub fn slip(machine: &Machine, number: u32, length: usize) -> &[u8] {
+    &machine.store[model::store::slip(task(number), length)]
+}
