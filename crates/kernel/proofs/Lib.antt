@@ -7,3 +7,7 @@ pub mod Within
 pub mod Passes
 pub mod Ends
 pub mod Asks
+pub mod Nearly
+pub mod Slotted
+pub mod Objected
+pub mod Chosen

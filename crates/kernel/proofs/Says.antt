@@ -45,25 +45,25 @@ any-kind os q l e f o = go (ltb (o .0) 16) refl
     go false h = let g : length os ≤ o .0 = omega (arith, ltb-false (o .0) 16 h) in rw (past-objects os o g) f
 
 -- ── who holds: the test and the proposition
-held-one : (t : TaskNo) (x : Kind) → heldBy t x ≡ true → x ≡ Mutex (By t)
+pub held-one : (t : TaskNo) (x : Kind) → heldBy t x ≡ true → x ≡ Mutex (By t)
 held-one t Unused e = absurd (false≢true e)
 held-one t (Queue q) e = absurd (false≢true e)
 held-one t (Mutex Nobody) e = absurd (false≢true e)
 held-one t (Mutex (By u)) e = ap (λ v. Mutex (By v)) (one-number u t (eqb-true (u .0) (t .0) e))
 
-some-holds : (os : List Object) (t : TaskNo) (o : ObjNo) → Holds os t o → holds os t ≡ true
+pub some-holds : (os : List Object) (t : TaskNo) (o : ObjNo) → Holds os t o → holds os t ≡ true
 unfolding holds kindAt
 some-holds os t o h = any-at (λ (x : Object). heldBy t (x .kind)) os (o .0) unused refl (rw h (eq-eqb (t .0) (t .0) refl))
 
-none-holds : (os : List Object) (t : TaskNo) → ((o : ObjNo) → Holds os t o → ⊥) → holds os t ≡ false
+pub none-holds : (os : List Object) (t : TaskNo) → ((o : ObjNo) → Holds os t o → ⊥) → holds os t ≡ false
 unfolding holds kindAt
 none-holds os t h = any-none (λ (x : Object). heldBy t (x .kind)) os unused (λ i. untrue _ (λ e. h (object i) (held-one t (getD os i unused .kind) e)))
 
-not-held : (os : List Object) (t : TaskNo) → holds os t ≡ false → (o : ObjNo) → Holds os t o → ⊥
+pub not-held : (os : List Object) (t : TaskNo) → holds os t ≡ false → (o : ObjNo) → Holds os t o → ⊥
 not-held os t e o h = false≢true (sym e ∙ some-holds os t o h)
 
 -- ── tests and propositions on one value
-is-ready : (p : Place) → isReady p ≡ true → p ≡ Ready
+pub is-ready : (p : Place) → isReady p ≡ true → p ≡ Ready
 is-ready Free e = absurd (false≢true e)
 is-ready Ready e = refl
 is-ready (Delayed w) e = absurd (false≢true e)
@@ -284,7 +284,7 @@ module _ (k : Kernel) (e : sound k ≡ true) where
 
 -- ── every sentence makes the test true
 -- no line above: no task of a higher line is listed
-none-higher : (ts : List Task) (p : ℕ) (l : List TaskNo) → ((q : ℕ) → p < q → line ts q l ≡ []) → kept (λ t. inHigher p (taskAt ts t)) l ≡ []
+pub none-higher : (ts : List Task) (p : ℕ) (l : List TaskNo) → ((q : ℕ) → p < q → line ts q l ≡ []) → kept (λ t. inHigher p (taskAt ts t)) l ≡ []
 unfolding kept line
 none-higher ts p [] f = refl
 none-higher ts p (t ∷ l) f = go (inHigher p (taskAt ts t)) refl (none-higher ts p l)

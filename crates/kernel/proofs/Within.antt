@@ -32,7 +32,7 @@ no-one : {t : TaskNo} → [] ≡ t ∷ [] → ⊥
 no-one e = let z : _≡_ {A = ℕ} 0 1 = cc in omega arith
 
 -- the first that passes passes
-kept-head : (p : TaskNo → Bool) (l : List TaskNo) (t : TaskNo) → head (kept p l) ≡ t ∷ [] → p t ≡ true
+pub kept-head : (p : TaskNo → Bool) (l : List TaskNo) (t : TaskNo) → head (kept p l) ≡ t ∷ [] → p t ≡ true
 unfolding kept
 kept-head p [] t e = absurd (no-one e)
 kept-head p (x ∷ l) t e = go (p x) refl (kept-head p l t) e
@@ -70,9 +70,14 @@ queue-within os o q e = go (leb (length os) (o .0)) refl
     go false h = leb-false (length os) (o .0) h
 
 -- a list of at most one
-first-one : (l : List TaskNo) (t : TaskNo) (r : List TaskNo) → head l ≡ t ∷ r → head l ≡ t ∷ []
+pub first-one : (l : List TaskNo) (t : TaskNo) (r : List TaskNo) → head l ≡ t ∷ r → head l ≡ t ∷ []
 first-one [] t r e = absurd (let z : _≡_ {A = ℕ} 0 1 = cc in omega arith)
 first-one (x ∷ l) t r e = let z : x ≡ t = cc in rw z
+
+-- who is first is the only one
+pub first-single : (k : Kernel) (w : Who) (t : TaskNo) (r : List TaskNo) → first k w ≡ t ∷ r → first k w ≡ t ∷ []
+unfolding first leader
+first-single k w t r e = first-one (kept (λ v. eqb (level (k .tasks) v) (highest (k .tasks) (those (k .tasks) w (listed (k .order))))) (those (k .tasks) w (listed (k .order)))) t r e
 
 pub waiter-within : (k : Kernel) (o : ObjNo) (q : Ring) (t : TaskNo) → outlet k o q ≡ toWaiter t → t .0 < length (k .tasks)
 unfolding outlet first leader

@@ -1,0 +1,140 @@
+-- Soundness on the way: all but who runs, with what is still open named. A call's effect takes nearly sound kernels to nearly sound ones; choose comes last.
+use Prim.Native.Nat.{ℕ, _<_, _≤_}
+use mathlib.Core.Path.{_≡_, refl, sym, ap, _∙_}
+use mathlib.Core.Bool.{Bool, true, false, not, _&&_, _||_, false≢true}
+use mathlib.Core.List.{List, [], _∷_, _++_}
+use native.Mathlib.Omega.{arith}
+use lib.Dec.{eqb, ltb, leb}
+use lib.ListN.{length, getD, set, take, replicate, length-take, length-append, length-replicate, length-set}
+use lib.Seq.{getD-set-same, getD-set-other}
+use borrow.Author.Tests.{eqb-true, eqb-false, eq-eqb, ne-eqb, ltb-true, ltb-false, leb-true, le-leb}
+use Rattle.lists.specs.Choice.{if_then_else_}
+use Rattle.lists.specs.Lists.{head}
+use Rattle.lists.proofs.Bools.{and-left, and-right, and-intro, or-second}
+use Rattle.calls.specs.Numbers.{task, idle, sameTask}
+use Rattle.order.specs.Order.{listed, ordered}
+use Rattle.order.specs.Tidy.{count, tidy}
+use Rattle.order.proofs.Lines.{one-number}
+use Rattle.order.proofs.Counts.{Exactly}
+use Rattle.order.proofs.Orders.{listed-ordered}
+use Rattle.order.proofs.Rooms.{tidy-few, tidy-zeros, exactly-room, exactly-tidy}
+use Rattle.order.proofs.Tests.{count-kept}
+use Rattle.slots.specs.Places.{isFree, isReady, isBlocked, isListed, waitsOn}
+use Rattle.slots.specs.Tasks.{freeTask, inLine}
+use Rattle.slots.specs.Fine.{notDue, outcomeFine}
+use Rattle.kernel.specs.Types.{TaskNo, ObjNo, Wake, At, Place, Free, Ready, Delayed, Waiting, Suspended, Task, Ring, Kind, Queue, Object, WaitersOf, Kernel}
+use Rattle.kernel.specs.Tables.{taskAt, kindAt, withTask, withOrder}
+use Rattle.kernel.specs.Lines.{line, those, level}
+use Rattle.kernel.specs.Sentences.{Holds, Exists, MayWait, RingFits, Listing, Sound}
+use Rattle.kernel.proofs.Slots.{past-tasks}
+
+-- what is open: which wake ticks may stand, and who may have a priority that it has to pay back
+pub record Owing : Type 0 where
+  pub due : TaskNo → Place → Bool
+  pub owes : TaskNo → Bool
+
+-- nothing is open at this tick count
+abbrev pub settled : ℕ → Owing
+settled tick = record { due = λ t p. notDue tick p; owes = λ t. false }
+
+-- what is asked of the task t, x by itself and by what it waits on and holds
+pub record TaskFine (w : Owing) (os : List Object) (t : TaskNo) (x : Task) : Type 0 where
+  pub waits : (o : ObjNo) (v : Wake) → x .place ≡ Waiting o v → MayWait t (kindAt os o)
+  pub at-least : x .own ≤ x .effective
+  pub range : x .effective ≤ 31
+  pub equal : w .owes t ≡ false → ((o : ObjNo) → Holds os t o → ⊥) → x .own ≡ x .effective
+  pub due : w .due t (x .place) ≡ true
+  pub outcome : outcomeFine x ≡ true
+  pub free : x .place ≡ Free → x ≡ freeTask
+
+-- tick, hold and pended
+pub record Counted (k : Kernel) : Type 0 where
+  pub tick-range : k .tick ≤ 4294967295
+  pub hold-range : k .hold ≤ 255
+  pub pended-range : k .pended ≤ 65535
+  pub pends : k .hold ≡ 0 → k .pended ≡ 0
+
+pub record Nearly (w : Owing) (k : Kernel) : Type 0 where
+  pub task-slots : length (k .tasks) ≡ 16
+  pub object-slots : length (k .objects) ≡ 16
+  pub order-places : length (k .order .places) ≡ 16
+  pub listing : Listing k
+  pub idle-ready : taskAt (k .tasks) idle .place ≡ Ready
+  pub idle-own : taskAt (k .tasks) idle .own ≡ 0
+  pub idle-effective : level (k .tasks) idle ≡ 0
+  pub tasks : (t : TaskNo) → TaskFine w (k .objects) t (taskAt (k .tasks) t)
+  pub idle-holds : (o : ObjNo) → Holds (k .objects) idle o → ⊥
+  pub holders : (t : TaskNo) (o : ObjNo) → Holds (k .objects) t o → Exists (k .tasks) t
+  pub queues : (o : ObjNo) (q : Ring) → kindAt (k .objects) o ≡ Queue q → RingFits q
+  pub counts : Counted k
+
+-- the running task is ready and heads its line
+pub record Runs (k : Kernel) : Type 0 where
+  pub runs : taskAt (k .tasks) (k .running) .place ≡ Ready
+  pub heads : head (line (k .tasks) (level (k .tasks) (k .running)) (listed (k .order))) ≡ k .running ∷ []
+
+-- ── an order made anew
+-- a task stands once if it is ready, delayed or waiting, and else not at all
+abbrev pub ones : List Task → ℕ → ℕ
+ones ts n = if isListed (taskAt ts (task n) .place) then 1 else 0
+
+few : (b : Bool) → _≤_ (if b then 1 else 0) 1
+few true = omega arith
+few false = omega arith
+
+past : (ts : List Task) → length ts ≡ 16 → (n : ℕ) → 16 ≤ n → ones ts n ≡ 0
+past ts l n h = let g : length ts ≤ n = omega arith in rw (past-tasks ts (task n) g)
+
+pub record Relisted (k : Kernel) (l : List TaskNo) : Type 0 where
+  pub listing : Listing (withOrder k (ordered l))
+  pub places : length (ordered l .places) ≡ 16
+  pub same : listed (ordered l) ≡ l
+
+pub relisted : (k : Kernel) (l : List TaskNo) → length (k .tasks) ≡ 16 → ((n : ℕ) → count n l ≡ ones (k .tasks) n) → Relisted k l
+unfolding ordered
+relisted k l h c =
+    record {
+      listing = record {
+        once = λ t. ap (count (t .0)) same ∙ c (t .0);
+        room = tidy-few (ordered l) tidied;
+        zeros = tidy-zeros (ordered l) tidied;
+      };
+      places = rw (length-take, length-append, length-replicate) (omega arith);
+      same = same;
+    }
+  where
+    exact : Exactly (ones (k .tasks)) l
+    exact = record { counts = c }
+
+    same : listed (ordered l) ≡ l
+    same = listed-ordered l (exactly-room l exact (λ n. few (isListed (taskAt (k .tasks) (task n) .place))) (past (k .tasks) h))
+
+    tidied : tidy (ordered l) ≡ true
+    tidied = exactly-tidy l exact (λ n. few (isListed (taskAt (k .tasks) (task n) .place))) (past (k .tasks) h)
+
+-- ── lines and lists, from the listing alone
+in-line-count : (b c : Bool) (n : ℕ) → (b ≡ true → c ≡ true) → n ≡ (if c then 1 else 0) → (if b then n else 0) ≡ (if b then 1 else 0)
+in-line-count true c n f e = rw (f refl) at e
+in-line-count false c n f e = refl
+
+ready-listed : (p : Place) (b : Bool) → (isReady p && b) ≡ true → isListed p ≡ true
+ready-listed p b e = rw (and-left (isReady p) b e)
+
+pub line-once : (k : Kernel) → Listing k → (p : ℕ) (t : TaskNo) → count (t .0) (line (k .tasks) p (listed (k .order))) ≡ (if inLine p (taskAt (k .tasks) t) then 1 else 0)
+unfolding line
+line-once k s p t =
+    count-kept (λ u. inLine p (taskAt (k .tasks) u)) (t .0) (listed (k .order))
+    ∙ in-line-count (inLine p (taskAt (k .tasks) t)) (isListed (taskAt (k .tasks) t .place)) (count (t .0) (listed (k .order))) (ready-listed (taskAt (k .tasks) t .place) (eqb (level (k .tasks) t) p)) (s .once t)
+
+waits-listed : (o : ObjNo) (p : Place) → waitsOn o p ≡ true → isListed p ≡ true
+waits-listed o Free q = q
+waits-listed o Ready q = refl
+waits-listed o (Delayed w) q = refl
+waits-listed o (Waiting p w) q = refl
+waits-listed o Suspended q = q
+
+pub list-once : (k : Kernel) → Listing k → (o : ObjNo) (t : TaskNo) → count (t .0) (those (k .tasks) (WaitersOf o) (listed (k .order))) ≡ (if waitsOn o (taskAt (k .tasks) t .place) then 1 else 0)
+unfolding those
+list-once k s o t =
+    count-kept (λ u. waitsOn o (taskAt (k .tasks) u .place)) (t .0) (listed (k .order))
+    ∙ in-line-count (waitsOn o (taskAt (k .tasks) t .place)) (isListed (taskAt (k .tasks) t .place)) (count (t .0) (listed (k .order))) (waits-listed o (taskAt (k .tasks) t .place)) (s .once t)
