@@ -11,3 +11,5 @@ pub mod Nearly
 pub mod Slotted
 pub mod Objected
 pub mod Chosen
+pub mod Heads
+pub mod Blocks

@@ -24,6 +24,15 @@ or-off false b e = (refl, e)
 pub record Passed (k : Kernel) (a : Asked) (store : ℕ) : Type 0 where
   pub whole : store ≡ 9216
   pub in-range : outOfRange a ≡ false
+  pub named : namesNone k a ≡ false
+  pub idle : notForIdle k a ≡ false
+  pub held : notWithHold k a ≡ false
+  pub slot : noSlot k a ≡ false
+  pub unused : inUse k a ≡ false
+  pub his : notHis k a ≡ false
+  pub another : hisAlready k a ≡ false
+  pub suspended : notSuspended k a ≡ false
+  pub may-wait : mustWait k a ≡ false
   pub deep : noDepth k a ≡ false
   pub ticks : noTick k a ≡ false
 
@@ -72,6 +81,15 @@ passed k a item store e0 =
     record {
       whole = eqb-true store 9216 (not-false (eqb store 9216) (e1 .0));
       in-range = e2 .0;
+      named = e3 .0;
+      idle = e5 .0;
+      held = e6 .0;
+      slot = e7 .0;
+      unused = e8 .0;
+      his = e9 .0;
+      another = e10 .0;
+      suspended = e11 .0;
+      may-wait = e12 .0;
       deep = e13 .0;
       ticks = e14 .0;
     }

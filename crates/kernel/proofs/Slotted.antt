@@ -97,22 +97,47 @@ module _ {w : Owing} (k : Kernel) (N : Nearly w k) (t : TaskNo) (x : Task) (low 
       go true e = rw (eqb-true (t .0) n e) at h
       go false e = o n (eqb-false (t .0) n e)
 
+  -- what the order then lists
+  tail-ones : isListed (x .place) ≡ true → (n : ℕ) → count n (without t l ++ (t ∷ [])) ≡ ones us n
+  tail-ones e = here-or {P = λ n. count n (without t l ++ (t ∷ [])) ≡ ones us n}
+      (rw (count-append, count-gone t l, count-one t, ones-now, e))
+      (λ n d. rw (count-append, count-other n t d, ones-other n d) (omega arith))
+
+  head-ones : isListed (x .place) ≡ true → (n : ℕ) → count n (t ∷ without t l) ≡ ones us n
+  head-ones e = here-or {P = λ n. count n ((t ∷ []) ++ without t l) ≡ ones us n}
+      (rw (count-append, count-gone t l, count-one t, ones-now, e))
+      (λ n d. rw (count-append, count-other n t d, ones-other n d) (omega arith))
+
+  leave-ones : isListed (x .place) ≡ false → (n : ℕ) → count n (without t l) ≡ ones us n
+  leave-ones e = here-or {P = λ n. count n (without t l) ≡ ones us n} (rw (count-gone t l, ones-now, e)) ones-other
+
+  wide : length us ≡ 16
+  wide = length-set (k .tasks) (t .0) x ∙ N .task-slots
+
+  pub tail-listed : isListed (x .place) ≡ true → listed (toTail (withTask k t x) t .order) ≡ without t l ++ (t ∷ [])
+  unfolding toTail
+  tail-listed e = relisted (withTask k t x) (without t l ++ (t ∷ [])) wide (tail-ones e) .same
+
+  pub head-listed : isListed (x .place) ≡ true → listed (toHead (withTask k t x) t .order) ≡ t ∷ without t l
+  unfolding toHead
+  head-listed e = relisted (withTask k t x) (t ∷ without t l) wide (head-ones e) .same
+
+  pub leave-listed : isListed (x .place) ≡ false → listed (leaves (withTask k t x) t .order) ≡ without t l
+  unfolding leaves
+  leave-listed e = relisted (withTask k t x) (without t l) wide (leave-ones e) .same
+
   -- to the tail, to the head, out of the order
   pub tail-nearly : isListed (x .place) ≡ true → Nearly w (toTail (withTask k t x) t)
   unfolding toTail
-  tail-nearly e = changed (without t l ++ (t ∷ [])) (here-or {P = λ n. count n (without t l ++ (t ∷ [])) ≡ ones us n}
-      (rw (count-append, count-gone t l, count-one t, ones-now, e))
-      (λ n d. rw (count-append, count-other n t d, ones-other n d) (omega arith)))
+  tail-nearly e = changed (without t l ++ (t ∷ [])) (tail-ones e)
 
   pub head-nearly : isListed (x .place) ≡ true → Nearly w (toHead (withTask k t x) t)
   unfolding toHead
-  head-nearly e = changed (t ∷ without t l) (here-or {P = λ n. count n ((t ∷ []) ++ without t l) ≡ ones us n}
-      (rw (count-append, count-gone t l, count-one t, ones-now, e))
-      (λ n d. rw (count-append, count-other n t d, ones-other n d) (omega arith)))
+  head-nearly e = changed (t ∷ without t l) (head-ones e)
 
   pub leave-nearly : isListed (x .place) ≡ false → Nearly w (leaves (withTask k t x) t)
   unfolding leaves
-  leave-nearly e = changed (without t l) (here-or {P = λ n. count n (without t l) ≡ ones us n} (rw (count-gone t l, ones-now, e)) ones-other)
+  leave-nearly e = changed (without t l) (leave-ones e)
 
   -- where the order has it as before
   pub stay-nearly : isListed (x .place) ≡ isListed (taskAt (k .tasks) t .place) → Nearly w (withTask k t x)

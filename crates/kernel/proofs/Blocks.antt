@@ -1,0 +1,143 @@
+-- The building blocks of the calls keep a kernel nearly sound: made ready, begins to wait, a priority changed.
+use Prim.Native.Nat.{ℕ, _<_, _≤_}
+use mathlib.Core.Path.{_≡_, refl, sym, ap, _∙_}
+use mathlib.Core.Bool.{Bool, true, false, not, _&&_, _||_}
+use mathlib.Core.List.{List, [], _∷_, _++_}
+use native.Mathlib.Omega.{arith}
+use lib.Dec.{eqb, leb}
+use lib.ListN.{length}
+use borrow.Author.Tests.{eqb-true, eqb-false, le-leb}
+use Rattle.lists.specs.Choice.{if_then_else_}
+use Rattle.lists.proofs.Bools.{and-intro}
+use Rattle.calls.specs.Numbers.{idle, sameTask}
+use Rattle.order.specs.Order.{listed}
+use Rattle.order.proofs.Lines.{one-number}
+use Rattle.slots.specs.Places.{isReady, isBlocked, isListed}
+use Rattle.slots.specs.Tasks.{placed, ranked, inLine}
+use Rattle.slots.specs.Fine.{outcomeFine}
+use Rattle.kernel.specs.Types.{TaskNo, ObjNo, Wake, Place, Free, Ready, Delayed, Waiting, Suspended, Task, Kernel}
+use Rattle.kernel.specs.Tables.{taskAt, kindAt, withTask}
+use Rattle.kernel.specs.Lines.{level, toTail, toHead}
+use Rattle.kernel.specs.Sentences.{Holds, Exists, MayWait}
+use Rattle.kernel.specs.Waits.{readied, blocked}
+use Rattle.kernel.specs.Loans.{moved, movedIf, prioritized}
+use Rattle.kernel.proofs.Slots.{past-tasks}
+use Rattle.kernel.proofs.Says.{is-ready}
+use Rattle.kernel.proofs.Nearly.{Owing, TaskFine, Nearly, Runs}
+use Rattle.kernel.proofs.Slotted.{at-same, at-other, tail-nearly, tail-listed, head-nearly, head-listed, stay-nearly}
+use Rattle.kernel.proofs.Heads.{runs-tail, runs-stay, runs-head}
+
+ready-not-waiting : {o : ObjNo} {v : Wake} → Ready ≡ Waiting o v → ⊥
+ready-not-waiting e = let z : _≡_ {A = ℕ} 0 1 = cc in omega arith
+
+ready-not-free : Ready ≡ Free → ⊥
+ready-not-free e = let z : _≡_ {A = ℕ} 0 1 = cc in omega arith
+
+module _ {w : Owing} (k : Kernel) (N : Nearly w k) (t : TaskNo) (low : t .0 < 16) where
+  abbrev old : Task
+  old = taskAt (k .tasks) t
+
+  idle-old : t .0 ≡ 0 → (old .place ≡ Ready) × (old .own ≡ 0) × (old .effective ≡ 0)
+  idle-old z = rw (one-number t idle z) (N .idle-ready, N .idle-own, N .idle-effective)
+
+  -- made ready, with an outcome
+  module _ (n : ℕ) (few : n ≤ 3) (D : w .due t Ready ≡ true) where
+    ready-fine : TaskFine w (k .objects) t (placed old Ready n)
+    ready-fine =
+        record {
+          waits = λ o v e. absurd (ready-not-waiting e);
+          at-least = N .tasks t .at-least;
+          range = N .tasks t .range;
+          equal = N .tasks t .equal;
+          due = D;
+          outcome = and-intro (leb n 3) true (le-leb n 3 few) refl;
+          free = λ e. absurd (ready-not-free e);
+        }
+
+    pub readied-nearly : Nearly w (readied k t n)
+    unfolding readied
+    readied-nearly = tail-nearly k N t (placed old Ready n) low ready-fine (λ o h e. ready-not-free e) (λ z. (refl, idle-old z .1, idle-old z .2)) refl
+
+    pub readied-runs : Runs k → (k .running .0 ≡ t .0 → ⊥) → Runs (readied k t n)
+    unfolding readied toTail
+    readied-runs R d = runs-tail k R t (placed old Ready n) (readied k t n) refl refl d (tail-listed k N t (placed old Ready n) low ready-fine (λ o h e. ready-not-free e) (λ z. (refl, idle-old z .1, idle-old z .2)) refl)
+
+-- the caller begins a delay or a wait
+pub blocked-nearly : {w : Owing} (k : Kernel) → Nearly w k → k .running .0 < 16 → (k .running .0 ≡ 0 → ⊥) → (p : Place) → isBlocked p ≡ true
+    → ((o : ObjNo) (v : Wake) → p ≡ Waiting o v → MayWait (k .running) (kindAt (k .objects) o)) → w .due (k .running) p ≡ true → Nearly w (blocked k p)
+unfolding blocked
+blocked-nearly {w} k N low busy p b W D =
+    tail-nearly k N (k .running) (placed (taskAt (k .tasks) (k .running)) p 0) low (record {
+      waits = W;
+      at-least = N .tasks (k .running) .at-least;
+      range = N .tasks (k .running) .range;
+      equal = N .tasks (k .running) .equal;
+      due = D;
+      outcome = zero-fine p;
+      free = λ e. absurd (blocked-not-free p b e);
+    }) (λ o h e. blocked-not-free p b e) (λ z. absurd (busy z)) (blocked-listed p b)
+  where
+    zero-fine : (p : Place) → (leb 0 3 && (not (isBlocked p) || eqb 0 0)) ≡ true
+    zero-fine Free = refl
+    zero-fine Ready = refl
+    zero-fine (Delayed w) = refl
+    zero-fine (Waiting o w) = refl
+    zero-fine Suspended = refl
+
+    blocked-not-free : (p : Place) → isBlocked p ≡ true → p ≡ Free → ⊥
+    blocked-not-free p b e = let z : _≡_ {A = Bool} true false = sym b ∙ ap isBlocked e in absurd (mathlib-false z)
+      where
+        mathlib-false : true ≡ false → ⊥
+        mathlib-false q = let y : _≡_ {A = ℕ} 0 1 = cc in omega arith
+
+    blocked-listed : (p : Place) → isBlocked p ≡ true → isListed p ≡ true
+    blocked-listed Free b = b
+    blocked-listed Ready b = refl
+    blocked-listed (Delayed w) b = refl
+    blocked-listed (Waiting o w) b = refl
+    blocked-listed Suspended b = b
+
+-- a priority changed
+module _ {w : Owing} (k : Kernel) (N : Nearly w k) (t : TaskNo) (low : t .0 < 16) (own eff : ℕ) (least : own ≤ eff) (high : eff ≤ 31)
+    (P : w .owes t ≡ false → ((o : ObjNo) → Holds (k .objects) t o → ⊥) → own ≡ eff)
+    (X : Exists (k .tasks) t) (Z : t .0 ≡ 0 → (own ≡ 0) × (eff ≡ 0)) where
+  abbrev new : Task
+  new = ranked (taskAt (k .tasks) t) own eff
+
+  ranked-fine : TaskFine w (k .objects) t new
+  ranked-fine =
+      record {
+        waits = N .tasks t .waits;
+        at-least = least;
+        range = high;
+        equal = P;
+        due = N .tasks t .due;
+        outcome = N .tasks t .outcome;
+        free = λ e. absurd (X e);
+      }
+
+  idle-new : t .0 ≡ 0 → (new .place ≡ Ready) × (own ≡ 0) × (eff ≡ 0)
+  idle-new z = (ap (λ v. taskAt (k .tasks) v .place) (one-number t idle z) ∙ N .idle-ready, Z z .0, Z z .1)
+
+  stay : Nearly w (withTask k t new)
+  stay = stay-nearly k N t new low ranked-fine (λ o h e. X e) idle-new refl
+
+  moves : isReady (taskAt (k .tasks) t .place) ≡ true → Nearly w (moved (withTask k t new) t)
+  unfolding moved
+  moves e = go (sameTask t (k .running))
+    where
+      ready-listed : isListed (new .place) ≡ true
+      ready-listed = rw e
+
+      go : (b : Bool) → Nearly w (if b then toHead (withTask k t new) t else toTail (withTask k t new) t)
+      go true = head-nearly k N t new low ranked-fine (λ o h q. X q) idle-new ready-listed
+      go false = tail-nearly k N t new low ranked-fine (λ o h q. X q) idle-new ready-listed
+
+  pub prioritized-nearly : Nearly w (prioritized k t own eff)
+  unfolding prioritized movedIf
+  prioritized-nearly = go (isReady (taskAt (k .tasks) t .place)) refl (eqb (level (k .tasks) t) eff)
+    where
+      go : (a : Bool) → isReady (taskAt (k .tasks) t .place) ≡ a → (b : Bool) → Nearly w (if a then (if b then withTask k t new else moved (withTask k t new) t) else withTask k t new)
+      go true e true = stay
+      go true e false = moves e
+      go false e b = stay
