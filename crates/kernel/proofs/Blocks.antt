@@ -5,12 +5,12 @@ use mathlib.Core.Bool.{Bool, true, false, not, _&&_, _||_}
 use mathlib.Core.List.{List, [], _∷_, _++_}
 use native.Mathlib.Omega.{arith}
 use lib.Dec.{eqb, leb}
-use lib.ListN.{length}
+use lib.ListN.{length, set}
 use borrow.Author.Tests.{eqb-true, eqb-false, le-leb}
 use Rattle.lists.specs.Choice.{if_then_else_}
 use Rattle.lists.proofs.Bools.{and-intro}
 use Rattle.calls.specs.Numbers.{idle, sameTask}
-use Rattle.order.specs.Order.{listed}
+use Rattle.order.specs.Order.{listed, without}
 use Rattle.order.proofs.Lines.{one-number}
 use Rattle.slots.specs.Places.{isReady, isBlocked, isListed}
 use Rattle.slots.specs.Tasks.{placed, ranked, inLine}
@@ -26,6 +26,9 @@ use Rattle.kernel.proofs.Says.{is-ready}
 use Rattle.kernel.proofs.Nearly.{Owing, TaskFine, Nearly, Runs}
 use Rattle.kernel.proofs.Slotted.{at-same, at-other, tail-nearly, tail-listed, head-nearly, head-listed, stay-nearly}
 use Rattle.kernel.proofs.Heads.{runs-tail, runs-stay, runs-head}
+
+true-not-false : true ≡ false → ⊥
+true-not-false e = let z : _≡_ {A = ℕ} 0 1 = cc in omega arith
 
 ready-not-waiting : {o : ObjNo} {v : Wake} → Ready ≡ Waiting o v → ⊥
 ready-not-waiting e = let z : _≡_ {A = ℕ} 0 1 = cc in omega arith
@@ -85,10 +88,7 @@ blocked-nearly {w} k N low busy p b W D =
     zero-fine Suspended = refl
 
     blocked-not-free : (p : Place) → isBlocked p ≡ true → p ≡ Free → ⊥
-    blocked-not-free p b e = let z : _≡_ {A = Bool} true false = sym b ∙ ap isBlocked e in absurd (mathlib-false z)
-      where
-        mathlib-false : true ≡ false → ⊥
-        mathlib-false q = let y : _≡_ {A = ℕ} 0 1 = cc in omega arith
+    blocked-not-free p b e = true-not-false (sym b ∙ ap isBlocked e)
 
     blocked-listed : (p : Place) → isBlocked p ≡ true → isListed p ≡ true
     blocked-listed Free b = b
@@ -141,3 +141,65 @@ module _ {w : Owing} (k : Kernel) (N : Nearly w k) (t : TaskNo) (low : t .0 < 16
       go true e true = stay
       go true e false = moves e
       go false e b = stay
+
+  -- the running task heads its line afterwards, too
+  new-at : taskAt (withTask k t new .tasks) t ≡ new
+  new-at = at-same (k .tasks) t new (omega (arith, N .task-slots))
+
+  lines-stay : ((p : ℕ) → inLine p new ≡ inLine p (taskAt (k .tasks) t)) → (p : ℕ) (v : TaskNo) → inLine p (taskAt (withTask k t new .tasks) v) ≡ inLine p (taskAt (k .tasks) v)
+  lines-stay f p v = go (sameTask v t) refl
+    where
+      go : (b : Bool) → sameTask v t ≡ b → inLine p (taskAt (withTask k t new .tasks) v) ≡ inLine p (taskAt (k .tasks) v)
+      go true e = rw (one-number v t (eqb-true (v .0) (t .0) e)) (ap (inLine p) new-at ∙ f p)
+      go false e = ap (inLine p) (at-other (k .tasks) t new v (eqb-false (v .0) (t .0) e))
+
+  module _ (R : Runs k) where
+    runs-still : (unchanged : eqb (level (k .tasks) t) eff ≡ true) → Runs (withTask k t new)
+    runs-still q =
+        runs-stay k R t new (withTask k t new) refl refl refl (lines-stay (λ p. ap (λ (n : ℕ). isReady (taskAt (k .tasks) t .place) && eqb n p) (sym same))) (mine .0) (mine .1)
+      where
+        same : level (k .tasks) t ≡ eff
+        same = eqb-true (level (k .tasks) t) eff q
+
+        mine : (taskAt (withTask k t new .tasks) (k .running) .place ≡ Ready) × (level (withTask k t new .tasks) (k .running) ≡ level (k .tasks) (k .running))
+        mine = go (sameTask (k .running) t) refl
+          where
+            go : (b : Bool) → sameTask (k .running) t ≡ b → (taskAt (withTask k t new .tasks) (k .running) .place ≡ Ready) × (level (withTask k t new .tasks) (k .running) ≡ level (k .tasks) (k .running))
+            go true e =
+                let u : k .running ≡ t = one-number (k .running) t (eqb-true (k .running .0) (t .0) e) in
+                (ap (λ v. taskAt (withTask k t new .tasks) v .place) u ∙ ap (λ (y : Task). y .place) new-at ∙ sym (ap (λ v. taskAt (k .tasks) v .place) u) ∙ R .runs,
+                ap (λ v. level (withTask k t new .tasks) v) u ∙ ap (λ (y : Task). y .effective) new-at ∙ sym same ∙ sym (ap (λ v. level (k .tasks) v) u))
+            go false e =
+                let o = at-other (k .tasks) t new (k .running) (eqb-false (k .running .0) (t .0) e) in
+                (ap (λ (y : Task). y .place) o ∙ R .runs, ap (λ (y : Task). y .effective) o)
+
+    runs-unready : isReady (taskAt (k .tasks) t .place) ≡ false → Runs (withTask k t new)
+    runs-unready q =
+        let o = at-other (k .tasks) t new (k .running) other in
+        runs-stay k R t new (withTask k t new) refl refl refl (lines-stay (λ p. rw q)) (ap (λ (y : Task). y .place) o ∙ R .runs) (ap (λ (y : Task). y .effective) o)
+      where
+        other : k .running .0 ≡ t .0 → ⊥
+        other e = true-not-false (sym (ap isReady (sym (ap (λ v. taskAt (k .tasks) v .place) (one-number (k .running) t e)) ∙ R .runs)) ∙ q)
+
+    runs-moved : isReady (taskAt (k .tasks) t .place) ≡ true → Runs (moved (withTask k t new) t)
+    unfolding moved toHead toTail
+    runs-moved e = go (sameTask t (k .running)) refl
+      where
+        ready-listed : isListed (new .place) ≡ true
+        ready-listed = rw e
+
+        go : (b : Bool) → sameTask t (k .running) ≡ b → Runs (if b then toHead (withTask k t new) t else toTail (withTask k t new) t)
+        go true q =
+            let u : t ≡ k .running = one-number t (k .running) (eqb-true (t .0) (k .running .0) q) in
+            runs-head k new (toHead (withTask k t new) t) (ap (λ (v : TaskNo). set (k .tasks) (v .0) new) u) refl (omega (arith, N .task-slots, ap (λ (v : TaskNo). v .0) u)) (is-ready _ e)
+            (head-listed k N t new low ranked-fine (λ o h z. X z) idle-new ready-listed ∙ ap (λ (v : TaskNo). v ∷ without v (listed (k .order))) u)
+        go false q = runs-tail k R t new (toTail (withTask k t new) t) refl refl (λ z. eqb-false (t .0) (k .running .0) q (sym z)) (tail-listed k N t new low ranked-fine (λ o h z. X z) idle-new ready-listed)
+
+    pub prioritized-runs : Runs (prioritized k t own eff)
+    unfolding prioritized movedIf
+    prioritized-runs = go (isReady (taskAt (k .tasks) t .place)) refl (eqb (level (k .tasks) t) eff) refl
+      where
+        go : (a : Bool) → isReady (taskAt (k .tasks) t .place) ≡ a → (b : Bool) → eqb (level (k .tasks) t) eff ≡ b → Runs (if a then (if b then withTask k t new else moved (withTask k t new) t) else withTask k t new)
+        go true e true q = runs-still q
+        go true e false q = runs-moved e
+        go false e b q = runs-unready e

@@ -13,3 +13,5 @@ pub mod Objected
 pub mod Chosen
 pub mod Heads
 pub mod Blocks
+pub mod Keeps
+pub mod KeepTasks

@@ -1,0 +1,90 @@
+-- What a call's effect has to keep, and how it makes the step keep soundness.
+use Prim.Native.Nat.{ℕ, suc, _<_, _≤_}
+use mathlib.Core.Path.{_≡_, refl, sym, ap, _∙_}
+use mathlib.Core.Bool.{Bool, true, false, _||_, false≢true}
+use mathlib.Core.List.{List, [], _∷_}
+use native.Mathlib.Omega.{arith}
+use lib.Dec.{eqb, ltb}
+use lib.ListN.{length, getD}
+use borrow.Author.Tests.{ltb-true, ltb-false, eqb-true}
+use Rattle.lists.specs.Choice.{if_then_else_}
+use Rattle.lists.specs.Lists.{index}
+use Rattle.calls.specs.Asked.{asked}
+use Rattle.slots.specs.Places.{isFree, isReady}
+use Rattle.slots.specs.Tasks.{freeTask}
+use Rattle.kernel.specs.Types.{TaskNo, Place, Free, Ready, Task, Call, Kernel}
+use Rattle.kernel.specs.Tables.{taskAt}
+use Rattle.kernel.specs.Lines.{chosen}
+use Rattle.kernel.specs.Sound.{sound}
+use Rattle.kernel.specs.Sentences.{Exists, Sound}
+use Rattle.kernel.specs.Refusals.{laterRow, refusal}
+use Rattle.kernel.specs.Effects.{effect}
+use Rattle.kernel.specs.Step.{accepted, turnedAway, steppedBy, step}
+use Rattle.kernel.proofs.Slots.{past-tasks}
+use Rattle.kernel.proofs.Says.{sound-says, says-sound}
+use Rattle.kernel.proofs.Passes.{Passed, passed}
+use Rattle.kernel.proofs.Nearly.{settled, Nearly, Runs}
+use Rattle.kernel.proofs.Chosen.{chosen-sound}
+
+-- after its effect the kernel is nearly sound, and with a hold the running task still heads its line
+pub record Keeps (j : Kernel) : Type 0 where
+  pub nearly : Nearly (settled (j .tick)) j
+  pub runs : 0 < j .hold → Runs j
+
+-- so the step keeps soundness, whether the call is accepted or not
+pub kept : (k : Kernel) (c : Call) (item s : List ℕ) → sound k ≡ true → (Sound k → Passed k (asked c) (length s) → Keeps (effect k c)) → sound (step k c item s .kernel) ≡ true
+unfolding step refusal accepted
+kept k c item s e f = rw e (go (eqb (laterRow k (asked c) (length item) (length s)) 0) refl)
+  where
+    go : (b : Bool) → eqb (laterRow k (asked c) (length item) (length s)) 0 ≡ b
+        → sound ((if b then accepted k c item s else turnedAway k (laterRow k (asked c) (length item) (length s)) s) .kernel) ≡ true
+    go true q =
+        let h = f (sound-says k e) (passed k (asked c) (length item) (length s) (eqb-true _ 0 q)) in
+        says-sound (chosen (effect k c)) (chosen-sound (effect k c) (h .nearly) (h .runs))
+    go false q = e
+
+-- ── small laws that the calls share
+pub or-off : (a b : Bool) → (a || b) ≡ false → (a ≡ false) × (b ≡ false)
+or-off true b e = absurd (false≢true (sym e))
+or-off false b e = (refl, e)
+
+-- a task that exists has a slot
+pub exists-low : (ts : List Task) (t : TaskNo) → length ts ≡ 16 → isFree (taskAt ts t .place) ≡ false → t .0 < 16
+exists-low ts t l e = go (ltb (t .0) 16) refl
+  where
+    go : (b : Bool) → ltb (t .0) 16 ≡ b → t .0 < 16
+    go true q = ltb-true (t .0) 16 q
+    go false q =
+        let past : length ts ≤ t .0 = omega (arith, ltb-false (t .0) 16 q) in
+        absurd (false≢true (sym e ∙ ap (λ (x : Task). isFree (x .place)) (past-tasks ts t past)))
+
+pub not-free : (ts : List Task) (t : TaskNo) → isFree (taskAt ts t .place) ≡ false → Exists ts t
+not-free ts t e q = false≢true (sym e ∙ ap isFree q)
+
+pub ready-low : (ts : List Task) (t : TaskNo) → length ts ≡ 16 → taskAt ts t .place ≡ Ready → t .0 < 16
+ready-low ts t l e = exists-low ts t l (ap isFree e)
+
+-- two tasks that stand in different places are not the same
+pub apart : (ts : List Task) (t u : TaskNo) (p : Place → Bool) → p (taskAt ts t .place) ≡ true → p (taskAt ts u .place) ≡ false → t .0 ≡ u .0 → ⊥
+unfolding taskAt
+apart ts t u p a b e = false≢true (sym b ∙ ap (λ (n : ℕ). p (getD ts n freeTask .place)) (sym e) ∙ a)
+
+-- the first that passes, if one does
+module _ {ℓ} {A : Type ℓ} (p : A → Bool) (d : A) where
+  pub index-most : (xs : List A) → index p xs ≤ length xs
+  unfolding index
+  index-most [] = omega arith
+  index-most (x ∷ xs) = go (p x) (index-most xs)
+    where
+      go : (b : Bool) → index p xs ≤ length xs → (if b then 0 else suc (index p xs)) ≤ suc (length xs)
+      go true h = omega arith
+      go false h = omega arith
+
+  pub index-passes : (xs : List A) → index p xs < length xs → p (getD xs (index p xs) d) ≡ true
+  unfolding index
+  index-passes [] h = absurd (omega arith)
+  index-passes (x ∷ xs) h = go (p x) refl (index-passes xs) h
+    where
+      go : (b : Bool) → p x ≡ b → (index p xs < length xs → p (getD xs (index p xs) d) ≡ true) → (if b then 0 else suc (index p xs)) < suc (length xs) → p (getD (x ∷ xs) (if b then 0 else suc (index p xs)) d) ≡ true
+      go true e ih m = e
+      go false e ih m = ih (omega arith)
