@@ -203,3 +203,23 @@ module _ {w : Owing} (k : Kernel) (N : Nearly w k) (t : TaskNo) (low : t .0 < 16
         go true e true q = runs-still q
         go true e false q = runs-moved e
         go false e b q = runs-unready e
+
+-- a priority changed leaves the counts and who runs
+pub record Same (j k : Kernel) : Type 0 where
+  pub tick : j .tick ≡ k .tick
+  pub hold : j .hold ≡ k .hold
+  pub running : j .running ≡ k .running
+  pub objects : j .objects ≡ k .objects
+
+pub prioritized-same : (k : Kernel) (t : TaskNo) (own eff : ℕ) → Same (prioritized k t own eff) k
+unfolding prioritized movedIf moved toHead toTail
+prioritized-same k t own eff = go (isReady (taskAt (k .tasks) t .place)) (eqb (level (k .tasks) t) eff) (sameTask t (k .running))
+  where
+    new : Kernel
+    new = withTask k t (ranked (taskAt (k .tasks) t) own eff)
+
+    go : (a b c : Bool) → Same (if a then (if b then new else (if c then toHead new t else toTail new t)) else new) k
+    go true true c = record { tick = refl; hold = refl; running = refl; objects = refl }
+    go true false true = record { tick = refl; hold = refl; running = refl; objects = refl }
+    go true false false = record { tick = refl; hold = refl; running = refl; objects = refl }
+    go false b c = record { tick = refl; hold = refl; running = refl; objects = refl }

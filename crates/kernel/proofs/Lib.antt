@@ -15,3 +15,4 @@ pub mod Heads
 pub mod Blocks
 pub mod Keeps
 pub mod KeepTasks
+pub mod KeepTicks

@@ -1,0 +1,84 @@
+-- Alike kernels get the same refusal; and the numbers that an accepted call leans on are low.
+use Prim.Native.Nat.{ℕ, zero, suc, _<_, _≤_}
+use mathlib.Core.Path.{_≡_, refl, sym, subst}
+use mathlib.Core.Bool.{Bool, true, false, _||_, false≢true}
+use mathlib.Core.List.{List, [], _∷_, map}
+use native.Mathlib.Omega.{arith}
+use lib.Dec.{eqb, ltb}
+use lib.ListN.{length, getD}
+use borrow.Author.Tests.{eqb-false, ltb-true}
+use Rattle.lists.specs.Choice.{if_then_else_}
+use Rattle.lists.specs.Lists.{every, index}
+use Rattle.lists.proofs.Bools.{and-left, and-right, on}
+use Rattle.calls.specs.declared.TaskNo.{TaskNo}
+use Rattle.calls.specs.declared.Call.the-variants.{Create, Resume}
+use Rattle.calls.specs.declared.Names.{Names}
+use Rattle.calls.specs.declared.Names.the-variants.{Nothing, Task as ATask, Object as AnObject, Queue as AQueue, Mutex as AMutex}
+use Rattle.calls.specs.declared.Asked.{Asked}
+use Rattle.calls.specs.Asked.{asked}
+use Rattle.order.specs.declared.Order.{Order}
+use Rattle.slots.specs.declared.Task.{Task}
+use Rattle.slots.specs.Places.{isFree, isSuspended}
+use Rattle.kernel.specs.declared.Kernel.{Kernel}
+use Rattle.kernel.specs.Tables.{taskAt, freeSlot, withOrder}
+use Rattle.kernel.specs.Sound.{sound}
+use Rattle.kernel.specs.Refusals.{namesNoneAs, namesNone, wrongSize, notForIdle, notWithHold, noSlot, inUse, notHis, hisAlready, notSuspended, mustWait, noDepth, noTick, Row, row, firstRow, table, laterRow, refusal}
+use Rattle.promises.specs.Alike.{Alike}
+use Rattle.promises.proofs.Twins.{one-kernel}
+use Rattle.promises.proofs.Likewise.{slot-low}
+
+names-same : (k : Kernel) (o : Order) (a : Asked) → namesNone k a ≡ namesNone (withOrder k o) a
+unfolding namesNone
+names-same k o a = go (a .names)
+  where
+    go : (n : Names) → namesNoneAs k n a ≡ namesNoneAs (withOrder k o) n a
+    go Nothing = refl
+    go ATask = refl
+    go AnObject = refl
+    go AQueue = refl
+    go AMutex = refl
+
+rows-same : (k : Kernel) (o : Order) → Alike k (withOrder k o) → (a : Asked) (item store : ℕ) → laterRow k a item store ≡ laterRow (withOrder k o) a item store
+unfolding laterRow table wrongSize notForIdle notWithHold noSlot inUse notHis hisAlready notSuspended mustWait noDepth noTick
+rows-same k o e a item store = rw (names-same k o a, e .lists (a .object))
+
+pub alike-refusal : (k j : Kernel) (a : Asked) (item store : ℕ) → sound k ≡ sound j → Alike k j → refusal k a item store ≡ refusal j a item store
+unfolding refusal
+alike-refusal k j a item store e b =
+    let p = one-kernel b in
+    let q : laterRow k a item store ≡ laterRow j a item store = subst (λ z. laterRow k a item store ≡ laterRow z a item store) p (rows-same k (j .order) (subst (λ z. Alike k z) (sym p) b) a item store) in
+    rw (e, q)
+
+-- where the table gives 0, no row applies
+clear : (rs : List Row) → every (map (λ (r : Row). ltb 0 (r .number)) rs) ≡ true → firstRow rs ≡ 0 → (i : ℕ) → getD rs i (row 0 false) .applies ≡ false
+unfolding every
+clear [] p e i = refl
+clear (r ∷ rs) p e i = go (r .applies) refl e (clear rs (and-right (ltb 0 (r .number)) _ p)) i
+  where
+    go : (b : Bool) → r .applies ≡ b → (if b then r .number else firstRow rs) ≡ 0 → (firstRow rs ≡ 0 → (i : ℕ) → getD rs i (row 0 false) .applies ≡ false)
+        → (i : ℕ) → getD (r ∷ rs) i (row 0 false) .applies ≡ false
+    go true f g ih i = absurd (omega (arith, ltb-true 0 (r .number) (and-left (ltb 0 (r .number)) _ p)))
+    go false f g ih zero = f
+    go false f g ih (suc i) = ih g i
+
+-- a slot that create finds is one of the 16; so is that of a suspended task
+index-within : (p : Task → Bool) (xs : List Task) → index p xs ≤ length xs
+unfolding index
+index-within p [] = omega arith
+index-within p (x ∷ xs) = go (p x) (index-within p xs)
+  where
+    go : (b : Bool) → index p xs ≤ length xs → (if b then 0 else suc (index p xs)) ≤ suc (length xs)
+    go true h = omega arith
+    go false h = omega arith
+
+pub create-low : (k : Kernel) (p item store : ℕ) → length (k .tasks) ≤ 16 → laterRow k (asked (Create p)) item store ≡ 0 → freeSlot (k .tasks) < 16
+unfolding laterRow table noSlot asked freeSlot every
+create-low k p item store h e = go (eqb (freeSlot (k .tasks)) 16) refl (clear (table k (asked (Create p)) item store) refl e 6)
+  where
+    go : (b : Bool) → eqb (freeSlot (k .tasks)) 16 ≡ b → (b || false) ≡ false → freeSlot (k .tasks) < 16
+    go true f g = absurd (false≢true (sym g))
+    go false f g = omega (arith, eqb-false (freeSlot (k .tasks)) 16 f, index-within (λ (x : Task). isFree (x .place)) (k .tasks))
+
+pub resume-low : (k : Kernel) (t : TaskNo) (item store : ℕ) → length (k .tasks) ≤ 16 → laterRow k (asked (Resume t)) item store ≡ 0 → t .0 < 16
+unfolding laterRow table notSuspended asked every
+resume-low k t item store h e = slot-low isSuspended refl (k .tasks) t h (on (isSuspended (taskAt (k .tasks) t .place)) (clear (table k (asked (Resume t)) item store) refl e 10))

@@ -1,0 +1,102 @@
+-- Alike kernels are sound together; and sound ones have room in their orders.
+use Prim.Native.Nat.{ℕ, _≤_}
+use mathlib.Core.Path.{_≡_, sym, subst}
+use mathlib.Core.Bool.{Bool, true, false}
+use native.Mathlib.Omega.{arith}
+use lib.ListN.{length}
+use Rattle.lists.specs.Choice.{if_then_else_}
+use Rattle.lists.proofs.Bools.{same-test}
+use Rattle.calls.specs.Numbers.{task}
+use Rattle.order.specs.declared.Order.{Order}
+use Rattle.order.specs.Order.{listed}
+use Rattle.order.specs.Tidy.{count}
+use Rattle.slots.specs.Places.{isListed}
+use Rattle.kernel.specs.declared.Kernel.{Kernel}
+use Rattle.kernel.specs.Tables.{taskAt, withOrder}
+use Rattle.kernel.specs.Sound.{sound}
+use Rattle.kernel.specs.Sentences.{Sound}
+use Rattle.kernel.proofs.Slots.{past-tasks}
+use Rattle.kernel.proofs.Says.{sound-says, says-sound}
+use Rattle.kernel.proofs.Passes.{sound-steady}
+use Rattle.promises.specs.Alike.{Alike, Ordered}
+use Rattle.promises.proofs.Fits.{Fits}
+use Rattle.promises.proofs.Twins.{Twins, one-kernel}
+
+sound-other : (k : Kernel) (o : Order) → Alike k (withOrder k o) → Ordered (withOrder k o) → Sound k → Sound (withOrder k o)
+sound-other k o a d s =
+    record {
+      task-slots = s .task-slots;
+      object-slots = s .object-slots;
+      order-places = d .places;
+      listing = d .listing;
+      idle-ready = s .idle-ready;
+      idle-own = s .idle-own;
+      idle-effective = s .idle-effective;
+      lines = λ p t. rw (← a .lines p) (s .lines p t);
+      runs = s .runs;
+      heads = rw (← a .lines (taskAt (k .tasks) (k .running) .effective)) (s .heads);
+      no-higher = λ h p l. rw (← a .lines p) (s .no-higher h p l);
+      waits = s .waits;
+      lists = λ b t. rw (← a .lists b) (s .lists b t);
+      idle-holds = s .idle-holds;
+      at-least = s .at-least;
+      equal = s .equal;
+      holders = s .holders;
+      delay-ahead = s .delay-ahead;
+      wait-ahead = s .wait-ahead;
+      delay-range = s .delay-range;
+      wait-range = s .wait-range;
+      priority-range = s .priority-range;
+      queue-range = s .queue-range;
+      tick-range = s .tick-range;
+      hold-range = s .hold-range;
+      pended-range = s .pended-range;
+      outcome-range = s .outcome-range;
+      delay-outcome = s .delay-outcome;
+      wait-outcome = s .wait-outcome;
+      pends = s .pends;
+      free = s .free;
+    }
+
+alike-back : {k j : Kernel} → Alike k j → Alike j k
+alike-back a =
+    record {
+      tasks = sym (a .tasks);
+      objects = sym (a .objects);
+      running = sym (a .running);
+      tick = sym (a .tick);
+      hold = sym (a .hold);
+      pended = sym (a .pended);
+      lines = λ p. sym (a .lines p);
+      lists = λ o. sym (a .lists o);
+    }
+
+sound-too : (k j : Kernel) → Alike k j → Ordered j → sound k ≡ true → sound j ≡ true
+sound-too k j a d e =
+    let p = one-kernel a in
+    subst (λ z. sound z ≡ true) p
+    (says-sound (withOrder k (j .order)) (sound-other k (j .order) (subst (λ z. Alike k z) (sym p) a) (subst (λ z. Ordered z) (sym p) d) (sound-says k e)))
+
+-- The lines and lists do not show the delayed: that the orders list them is asked for here.
+pub alike-sound : (k j : Kernel) → Alike k j → Ordered k → Ordered j → sound k ≡ sound j
+alike-sound k j a c d = same-test (sound k) (sound j) (sound-too k j a d) (sound-too j k (alike-back a) c)
+
+-- sound kernels have room
+sound-fits : (k : Kernel) → sound k ≡ true → Fits (listed (k .order))
+sound-fits k e = record { once = λ n. few n (isListed (taskAt (k .tasks) (task n) .place)) (s .listing .once (task n)); low = low }
+  where
+    s : Sound k
+    s = sound-says k e
+
+    few : (n : ℕ) (b : Bool) → count n (listed (k .order)) ≡ (if b then 1 else 0) → count n (listed (k .order)) ≤ 1
+    few n true h = omega arith
+    few n false h = omega arith
+
+    low : (n : ℕ) → 16 ≤ n → count n (listed (k .order)) ≡ 0
+    low n h =
+        let past : length (k .tasks) ≤ n = omega (arith, s .task-slots) in
+        rw (past-tasks (k .tasks) (task n) past) at (s .listing .once (task n))
+
+pub twins : (k j : Kernel) → sound k ≡ true → sound j ≡ true → Alike k j → Twins k j
+twins k j e f a =
+    record { alike = a; slots = omega (arith, sound-says k e .task-slots); runs = sound-steady k e .runs; here = sound-fits k e; there = sound-fits j f }
