@@ -211,6 +211,20 @@ pub record Same (j k : Kernel) : Type 0 where
   pub running : j .running ≡ k .running
   pub objects : j .objects ≡ k .objects
 
+-- the task's slot, and no other
+pub prioritized-tasks : (k : Kernel) (t : TaskNo) (own eff : ℕ) → prioritized k t own eff .tasks ≡ set (k .tasks) (t .0) (ranked (taskAt (k .tasks) t) own eff)
+unfolding prioritized movedIf moved toHead toTail
+prioritized-tasks k t own eff = go (isReady (taskAt (k .tasks) t .place)) (eqb (level (k .tasks) t) eff) (sameTask t (k .running))
+  where
+    new : Kernel
+    new = withTask k t (ranked (taskAt (k .tasks) t) own eff)
+
+    go : (a b c : Bool) → (if a then (if b then new else (if c then toHead new t else toTail new t)) else new) .tasks ≡ new .tasks
+    go true true c = refl
+    go true false true = refl
+    go true false false = refl
+    go false b c = refl
+
 pub prioritized-same : (k : Kernel) (t : TaskNo) (own eff : ℕ) → Same (prioritized k t own eff) k
 unfolding prioritized movedIf moved toHead toTail
 prioritized-same k t own eff = go (isReady (taskAt (k .tasks) t .place)) (eqb (level (k .tasks) t) eff) (sameTask t (k .running))

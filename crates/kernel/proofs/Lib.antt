@@ -16,3 +16,4 @@ pub mod Blocks
 pub mod Keeps
 pub mod KeepTasks
 pub mod KeepTicks
+pub mod KeepObjects
