@@ -76,7 +76,7 @@ readied-ticks : (j : Kernel) (t : TaskNo) (n : ℕ) → Same (readied j t n) j
 unfolding readied toTail
 readied-ticks j t n = record { tick = refl; hold = refl; running = refl; objects = refl }
 
-readied-at : (j : Kernel) (t : TaskNo) (n : ℕ) → t .0 < length (j .tasks) → taskAt (readied j t n .tasks) t ≡ placed (taskAt (j .tasks) t) Ready n
+pub readied-at : (j : Kernel) (t : TaskNo) (n : ℕ) → t .0 < length (j .tasks) → taskAt (readied j t n .tasks) t ≡ placed (taskAt (j .tasks) t) Ready n
 unfolding readied toTail
 readied-at j t n h = at-same (j .tasks) t (placed (taskAt (j .tasks) t) Ready n) h
 

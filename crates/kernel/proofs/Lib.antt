@@ -17,3 +17,4 @@ pub mod Keeps
 pub mod KeepTasks
 pub mod KeepTicks
 pub mod KeepObjects
+pub mod KeepMutexes
