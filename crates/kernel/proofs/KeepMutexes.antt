@@ -36,7 +36,7 @@ use Rattle.kernel.proofs.Objected.{kinds, object-nearly, kind-same}
 use Rattle.kernel.proofs.Chosen.{sound-nearly, sound-runs}
 use Rattle.kernel.proofs.Blocks.{Same, prioritized-same, prioritized-tasks, prioritized-nearly, prioritized-runs, readied-nearly, readied-runs, blocked-nearly}
 use Rattle.kernel.proofs.Keeps.{Keeps, or-off, ready-low, apart}
-use Rattle.kernel.proofs.KeepTicks.{at-tick, readied-at}
+use Rattle.kernel.proofs.KeepTicks.{at-tick, readied-at, reopen}
 use Rattle.kernel.proofs.KeepObjects.{no-wait-free, object-low, object-runs, first-none, wake-ahead}
 
 mutex-used : (x : Kind) → isMutex x ≡ true → isUnused x ≡ false
@@ -170,3 +170,151 @@ module _ (k : Kernel) (S : Sound k) (store : ℕ) where
         go (Queue q) e m = absurd (false≢true m)
         go (Mutex Nobody) e m = free-taken e
         go (Mutex (By h)) e m = held-waited h e
+
+  -- 16: give. On the way the giver may have a priority that it has to pay back
+  module _ (o : ObjNo) (P : Passed k (asked (Give o)) store) where
+    abbrev u : TaskNo
+    u = k .running
+
+    abbrev owing : Owing
+    owing = record { due = λ t p. notDue (k .tick) p; owes = λ t. sameTask t u }
+
+    mine : kindAt (k .objects) o ≡ Mutex (By u)
+    unfolding asked notHis
+    mine = held-one u (kindAt (k .objects) o) (on (heldBy u (kindAt (k .objects) o)) (P .his))
+
+    give-low : o .0 < 16
+    give-low = object-low (k .objects) o (S .object-slots) (ap isUnused mine)
+
+    giver-not-idle : u .0 ≡ 0 → ⊥
+    giver-not-idle e = S .idle-holds o (mine ∙ ap (λ v. Mutex (By v)) (one-number u idle e))
+
+    owing-nearly : Nearly owing k
+    owing-nearly = reopen owing k N (λ t. N .tasks t .due) (λ t e. refl)
+
+    -- who held it is the giver, who may owe
+    giver-owes : (t : TaskNo) → Holds (k .objects) t o → sameTask t u ≡ false → ⊥
+    giver-owes t h a = let m : Mutex (By t) ≡ Mutex (By u) = sym h ∙ mine in let q : t ≡ u = cc in false≢true (sym a ∙ ap (λ (v : TaskNo). sameTask v u) q ∙ eq-eqb (u .0) (u .0) refl)
+
+    pub record Handed (j : Kernel) : Type 0 where
+      nearly : Nearly owing j
+      runs : Runs j
+      tick : j .tick ≡ k .tick
+      hold : j .hold ≡ k .hold
+      running : j .running ≡ u
+
+    freed : first k (WaitersOf o) ≡ [] → Handed (withObject k o (Mutex Nobody))
+    freed e =
+        record {
+          nearly = object-nearly k owing-nearly o (Mutex Nobody) give-low (λ t v p. absurd (first-none k N o e t v p)) (λ q z. absurd (let y : _≡_ {A = ℕ} 0 1 = cc in omega arith))
+              (λ t z. absurd (let y : _≡_ {A = ℕ} 0 1 = cc in omega arith)) (λ t h a n. absurd (giver-owes t h a));
+          runs = object-runs k o (Mutex Nobody) R;
+          tick = refl; hold = refl; running = refl;
+        }
+
+    passed-on : (t : TaskNo) → first k (WaitersOf o) ≡ t ∷ [] → Handed (withObject (readied k t 1) o (Mutex (By t)))
+    unfolding readied toTail
+    passed-on t e =
+        record {
+          nearly = object-nearly (readied k t 1) woken o (Mutex (By t)) give-low others (λ q z. absurd (let y : _≡_ {A = ℕ} 0 1 = cc in omega arith)) new-holder (λ v h a n. absurd (giver-owes v h a));
+          runs = object-runs (readied k t 1) o (Mutex (By t)) (readied-runs k owing-nearly t low 1 (omega arith) refl R not-caller);
+          tick = refl; hold = refl; running = refl;
+        }
+      where
+        low : t .0 < 16
+        low = omega (arith, first-within k (WaitersOf o) t e, S .task-slots)
+
+        waits-here : waitsOn o (taskAt (k .tasks) t .place) ≡ true
+        waits-here = first-meant k (WaitersOf o) t e
+
+        not-caller : k .running .0 ≡ t .0 → ⊥
+        not-caller z = apart (k .tasks) t (k .running) (waitsOn o) waits-here (ap (waitsOn o) (S .runs)) (sym z)
+
+        not-idle-one : t .0 ≡ 0 → ⊥
+        not-idle-one z = apart (k .tasks) t idle (waitsOn o) waits-here (ap (waitsOn o) (S .idle-ready)) z
+
+        woken : Nearly owing (readied k t 1)
+        woken = readied-nearly k owing-nearly t low 1 (omega arith) refl
+
+        now-ready : taskAt (readied k t 1 .tasks) t .place ≡ Ready
+        now-ready = ap (λ (x : Task). x .place) (readied-at k t 1 (omega (arith, S .task-slots, low)))
+
+        others : (v : TaskNo) (w : Wake) → taskAt (readied k t 1 .tasks) v .place ≡ Waiting o w → MayWait v (Mutex (By t))
+        others v w q = taker (λ z. let p : Ready ≡ Waiting o w = sym now-ready ∙ ap (λ (y : TaskNo). taskAt (readied k t 1 .tasks) y .place) (one-number t v z) ∙ q in let y : _≡_ {A = ℕ} 0 1 = cc in omega arith)
+
+        new-holder : (v : TaskNo) → Mutex (By t) ≡ Mutex (By v) → Exists (readied k t 1 .tasks) v × (v .0 ≡ 0 → ⊥)
+        new-holder v q =
+            let p : t ≡ v = cc in
+            (subst (λ x. Exists (readied k t 1 .tasks) x) p (λ z. let r : Ready ≡ Free = sym now-ready ∙ z in let y : _≡_ {A = ℕ} 0 1 = cc in omega arith), subst (λ (x : TaskNo). x .0 ≡ 0 → ⊥) p not-idle-one)
+
+    handed : Handed (handedOn k o)
+    unfolding handedOn
+    handed = go (first k (WaitersOf o)) refl
+      where
+        go : (f : List TaskNo) → first k (WaitersOf o) ≡ f → Handed (handedTo k o f)
+        go [] e = freed e
+        go (t ∷ r) e = passed-on t (first-single k (WaitersOf o) t r e)
+
+    -- paid back: everyone without a mutex has its own priority
+    settle : (j : Kernel) → Nearly owing j → ((t : TaskNo) → sameTask t u ≡ true → ((p : ObjNo) → Holds (j .objects) t p → ⊥) → taskAt (j .tasks) t .own ≡ taskAt (j .tasks) t .effective) → Nearly (settled (k .tick)) j
+    settle j M E =
+        record {
+          task-slots = M .task-slots; object-slots = M .object-slots; order-places = M .order-places; listing = M .listing;
+          idle-ready = M .idle-ready; idle-own = M .idle-own; idle-effective = M .idle-effective;
+          tasks = λ t. record {
+            waits = M .tasks t .waits; at-least = M .tasks t .at-least; range = M .tasks t .range;
+            equal = λ e n. both t (sameTask t u) refl n;
+            due = M .tasks t .due; outcome = M .tasks t .outcome; free = M .tasks t .free;
+          };
+          idle-holds = M .idle-holds; holders = M .holders; queues = M .queues; counts = M .counts;
+        }
+      where
+        both : (t : TaskNo) (b : Bool) → sameTask t u ≡ b → ((p : ObjNo) → Holds (j .objects) t p → ⊥) → taskAt (j .tasks) t .own ≡ taskAt (j .tasks) t .effective
+        both t true e n = E t e n
+        both t false e n = M .tasks t .equal e n
+
+    repaid : (j : Kernel) → Handed j → Keeps (ownAgain j u)
+    unfolding ownAgain
+    repaid j H = go (holds (j .objects) u) refl
+      where
+        own : ℕ
+        own = taskAt (j .tasks) u .own
+
+        giver-ready : taskAt (j .tasks) u .place ≡ Ready
+        giver-ready = ap (λ v. taskAt (j .tasks) v .place) (sym (H .running)) ∙ H .runs .runs
+
+        exists : Exists (j .tasks) u
+        exists z = let r : Ready ≡ Free = sym giver-ready ∙ z in let y : _≡_ {A = ℕ} 0 1 = cc in omega arith
+
+        own-least : own ≤ 31
+        own-least = omega (arith, H .nearly .tasks u .at-least, H .nearly .tasks u .range)
+
+        paid : Nearly owing (prioritized j u own own)
+        paid = prioritized-nearly j (H .nearly) u caller-low own own (omega arith) own-least (λ a n. refl) exists (λ z. absurd (giver-not-idle z))
+
+        same : Same (prioritized j u own own) j
+        same = prioritized-same j u own own
+
+        now-own : taskAt (prioritized j u own own .tasks) u ≡ ranked (taskAt (j .tasks) u) own own
+        now-own = ap (λ ts. taskAt ts u) (prioritized-tasks j u own own) ∙ at-same (j .tasks) u (ranked (taskAt (j .tasks) u) own own) (omega (arith, caller-low, H .nearly .task-slots))
+
+        is-own : (t : TaskNo) → sameTask t u ≡ true → taskAt (prioritized j u own own .tasks) t .own ≡ taskAt (prioritized j u own own .tasks) t .effective
+        is-own t e =
+            let p : t ≡ u = one-number t u (eqb-true (t .0) (u .0) e) in
+            ap (λ v. taskAt (prioritized j u own own .tasks) v .own) p ∙ ap (λ (x : Task). x .own) now-own ∙ sym (ap (λ v. taskAt (prioritized j u own own .tasks) v .effective) p ∙ ap (λ (x : Task). x .effective) now-own)
+
+        go : (b : Bool) → holds (j .objects) u ≡ b → Keeps (if b then j else prioritized j u own own)
+        go true e =
+            record {
+              nearly = at-tick j (H .tick) (settle j (H .nearly) (λ t q n. absurd (false≢true (sym (none-holds (j .objects) u (λ p h. n p (h ∙ ap (λ v. Mutex (By v)) (sym (one-number t u (eqb-true (t .0) (u .0) q)))))) ∙ e))));
+              runs = λ h. H .runs;
+            }
+        go false e =
+            record {
+              nearly = at-tick (prioritized j u own own) (same .tick ∙ H .tick) (settle (prioritized j u own own) paid (λ t q n. is-own t q));
+              runs = λ h. prioritized-runs j (H .nearly) u caller-low own own (omega arith) own-least (λ a n. refl) exists (λ z. absurd (giver-not-idle z)) (H .runs);
+            }
+
+    pub give-keeps : Keeps (effect k (Give o))
+    unfolding effect given
+    give-keeps = repaid (handedOn k o) handed

@@ -47,7 +47,7 @@ recount k h p N C =
 same-runs : (k : Kernel) (h p : ℕ) → Runs k → Runs (withHold k h p)
 same-runs k h p R = record { runs = R .runs; heads = R .heads }
 
-reopen : {w : Owing} (v : Owing) (k : Kernel) → Nearly w k → ((t : TaskNo) → v .due t (taskAt (k .tasks) t .place) ≡ true) → ((t : TaskNo) → v .owes t ≡ false → w .owes t ≡ false) → Nearly v k
+pub reopen : {w : Owing} (v : Owing) (k : Kernel) → Nearly w k → ((t : TaskNo) → v .due t (taskAt (k .tasks) t .place) ≡ true) → ((t : TaskNo) → v .owes t ≡ false → w .owes t ≡ false) → Nearly v k
 reopen v k N D O =
     record {
       task-slots = N .task-slots; object-slots = N .object-slots; order-places = N .order-places; listing = N .listing;
