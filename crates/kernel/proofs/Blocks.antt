@@ -166,9 +166,10 @@ module _ {w : Owing} (k : Kernel) (N : Nearly w k) (t : TaskNo) (low : t .0 < 16
           where
             go : (b : Bool) → sameTask (k .running) t ≡ b → (taskAt (withTask k t new .tasks) (k .running) .place ≡ Ready) × (level (withTask k t new .tasks) (k .running) ≡ level (k .tasks) (k .running))
             go true e =
-                let u : k .running ≡ t = one-number (k .running) t (eqb-true (k .running .0) (t .0) e) in
-                (ap (λ v. taskAt (withTask k t new .tasks) v .place) u ∙ ap (λ (y : Task). y .place) new-at ∙ sym (ap (λ v. taskAt (k .tasks) v .place) u) ∙ R .runs,
-                ap (λ v. level (withTask k t new .tasks) v) u ∙ ap (λ (y : Task). y .effective) new-at ∙ sym same ∙ sym (ap (λ v. level (k .tasks) v) u))
+                let u : k .running ≡ t = one-number (k .running) t (eqb-true (k .running .0) (t .0) e) in (
+                  ap (λ v. taskAt (withTask k t new .tasks) v .place) u ∙ ap (λ (y : Task). y .place) new-at ∙ sym (ap (λ v. taskAt (k .tasks) v .place) u) ∙ R .runs,
+                  ap (λ v. level (withTask k t new .tasks) v) u ∙ ap (λ (y : Task). y .effective) new-at ∙ sym same ∙ sym (ap (λ v. level (k .tasks) v) u),
+                )
             go false e =
                 let o = at-other (k .tasks) t new (k .running) (eqb-false (k .running .0) (t .0) e) in
                 (ap (λ (y : Task). y .place) o ∙ R .runs, ap (λ (y : Task). y .effective) o)

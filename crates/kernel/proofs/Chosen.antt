@@ -158,10 +158,17 @@ module _ (k : Kernel) (N : Nearly (settled (k .tick)) k) where
   unfolding line
   runs-first t e =
       nearly-sound (withRunning k t) (record {
-        task-slots = N .task-slots; object-slots = N .object-slots; order-places = N .order-places;
+        task-slots = N .task-slots;
+        object-slots = N .object-slots;
+        order-places = N .order-places;
         listing = record { once = N .listing .once; room = N .listing .room; zeros = N .listing .zeros };
-        idle-ready = N .idle-ready; idle-own = N .idle-own; idle-effective = N .idle-effective;
-        tasks = N .tasks; idle-holds = N .idle-holds; holders = N .holders; queues = N .queues;
+        idle-ready = N .idle-ready;
+        idle-own = N .idle-own;
+        idle-effective = N .idle-effective;
+        tasks = N .tasks;
+        idle-holds = N .idle-holds;
+        holders = N .holders;
+        queues = N .queues;
         counts = record { tick-range = N .counts .tick-range; hold-range = N .counts .hold-range; pended-range = N .counts .pended-range; pends = N .counts .pends };
       })
       (record { runs = is-ready _ (first-meant k AllReady t e); heads = rw top heads })

@@ -209,7 +209,9 @@ module _ (k : Kernel) (S : Sound k) (store : ℕ) where
           nearly = object-nearly k owing-nearly o (Mutex Nobody) give-low (λ t v p. absurd (first-none k N o e t v p)) (λ q z. absurd (let y : _≡_ {A = ℕ} 0 1 = cc in omega arith))
               (λ t z. absurd (let y : _≡_ {A = ℕ} 0 1 = cc in omega arith)) (λ t h a n. absurd (giver-owes t h a));
           runs = object-runs k o (Mutex Nobody) R;
-          tick = refl; hold = refl; running = refl;
+          tick = refl;
+          hold = refl;
+          running = refl;
         }
 
     passed-on : (t : TaskNo) → first k (WaitersOf o) ≡ t ∷ [] → Handed (withObject (readied k t 1) o (Mutex (By t)))
@@ -218,7 +220,9 @@ module _ (k : Kernel) (S : Sound k) (store : ℕ) where
         record {
           nearly = object-nearly (readied k t 1) woken o (Mutex (By t)) give-low others (λ q z. absurd (let y : _≡_ {A = ℕ} 0 1 = cc in omega arith)) new-holder (λ v h a n. absurd (giver-owes v h a));
           runs = object-runs (readied k t 1) o (Mutex (By t)) (readied-runs k owing-nearly t low 1 (omega arith) refl R not-caller);
-          tick = refl; hold = refl; running = refl;
+          tick = refl;
+          hold = refl;
+          running = refl;
         }
       where
         low : t .0 < 16
@@ -259,14 +263,26 @@ module _ (k : Kernel) (S : Sound k) (store : ℕ) where
     settle : (j : Kernel) → Nearly owing j → ((t : TaskNo) → sameTask t u ≡ true → ((p : ObjNo) → Holds (j .objects) t p → ⊥) → taskAt (j .tasks) t .own ≡ taskAt (j .tasks) t .effective) → Nearly (settled (k .tick)) j
     settle j M E =
         record {
-          task-slots = M .task-slots; object-slots = M .object-slots; order-places = M .order-places; listing = M .listing;
-          idle-ready = M .idle-ready; idle-own = M .idle-own; idle-effective = M .idle-effective;
+          task-slots = M .task-slots;
+          object-slots = M .object-slots;
+          order-places = M .order-places;
+          listing = M .listing;
+          idle-ready = M .idle-ready;
+          idle-own = M .idle-own;
+          idle-effective = M .idle-effective;
           tasks = λ t. record {
-            waits = M .tasks t .waits; at-least = M .tasks t .at-least; range = M .tasks t .range;
+            waits = M .tasks t .waits;
+            at-least = M .tasks t .at-least;
+            range = M .tasks t .range;
             equal = λ e n. both t (sameTask t u) refl n;
-            due = M .tasks t .due; outcome = M .tasks t .outcome; free = M .tasks t .free;
+            due = M .tasks t .due;
+            outcome = M .tasks t .outcome;
+            free = M .tasks t .free;
           };
-          idle-holds = M .idle-holds; holders = M .holders; queues = M .queues; counts = M .counts;
+          idle-holds = M .idle-holds;
+          holders = M .holders;
+          queues = M .queues;
+          counts = M .counts;
         }
       where
         both : (t : TaskNo) (b : Bool) → sameTask t u ≡ b → ((p : ObjNo) → Holds (j .objects) t p → ⊥) → taskAt (j .tasks) t .own ≡ taskAt (j .tasks) t .effective

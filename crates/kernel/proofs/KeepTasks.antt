@@ -236,9 +236,12 @@ module _ (k : Kernel) (S : Sound k) (store : ℕ) where
     eff h = if h then larger (level (k .tasks) t) p else p
 
     given : (b : Bool) → holds (k .objects) t ≡ b → (p ≤ eff b) × (eff b ≤ 31) × (((o : ObjNo) → Holds (k .objects) t o → ⊥) → p ≡ eff b) × (t .0 ≡ 0 → eff b ≡ 0)
-    given true e =
-        (larger-least (level (k .tasks) t) p .0, larger-most (level (k .tasks) t) p 31 (S .priority-range t) in-range, (λ n. absurd (false≢true (sym (none-holds (k .objects) t n) ∙ e))),
-        (λ z. absurd (false≢true (sym (none-holds (k .objects) t (λ o. rw (one-number t idle z) (S .idle-holds o))) ∙ e))))
+    given true e = (
+      larger-least (level (k .tasks) t) p .0,
+      larger-most (level (k .tasks) t) p 31 (S .priority-range t) in-range,
+      (λ n. absurd (false≢true (sym (none-holds (k .objects) t n) ∙ e))),
+      (λ z. absurd (false≢true (sym (none-holds (k .objects) t (λ o. rw (one-number t idle z) (S .idle-holds o))) ∙ e))),
+    )
     given false e = (omega arith, in-range, (λ n. refl), idle-to-0)
 
     pub priority-keeps : Keeps (effect k (SetPriority t p))

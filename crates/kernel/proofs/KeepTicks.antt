@@ -38,10 +38,18 @@ use Rattle.kernel.proofs.Keeps.{Keeps, or-off, ready-low}
 recount : {w : Owing} (k : Kernel) (h p : ℕ) → Nearly w k → Counted (withHold k h p) → Nearly w (withHold k h p)
 recount k h p N C =
     record {
-      task-slots = N .task-slots; object-slots = N .object-slots; order-places = N .order-places;
+      task-slots = N .task-slots;
+      object-slots = N .object-slots;
+      order-places = N .order-places;
       listing = record { once = N .listing .once; room = N .listing .room; zeros = N .listing .zeros };
-      idle-ready = N .idle-ready; idle-own = N .idle-own; idle-effective = N .idle-effective;
-      tasks = N .tasks; idle-holds = N .idle-holds; holders = N .holders; queues = N .queues; counts = C;
+      idle-ready = N .idle-ready;
+      idle-own = N .idle-own;
+      idle-effective = N .idle-effective;
+      tasks = N .tasks;
+      idle-holds = N .idle-holds;
+      holders = N .holders;
+      queues = N .queues;
+      counts = C;
     }
 
 same-runs : (k : Kernel) (h p : ℕ) → Runs k → Runs (withHold k h p)
@@ -50,14 +58,26 @@ same-runs k h p R = record { runs = R .runs; heads = R .heads }
 pub reopen : {w : Owing} (v : Owing) (k : Kernel) → Nearly w k → ((t : TaskNo) → v .due t (taskAt (k .tasks) t .place) ≡ true) → ((t : TaskNo) → v .owes t ≡ false → w .owes t ≡ false) → Nearly v k
 reopen v k N D O =
     record {
-      task-slots = N .task-slots; object-slots = N .object-slots; order-places = N .order-places; listing = N .listing;
-      idle-ready = N .idle-ready; idle-own = N .idle-own; idle-effective = N .idle-effective;
+      task-slots = N .task-slots;
+      object-slots = N .object-slots;
+      order-places = N .order-places;
+      listing = N .listing;
+      idle-ready = N .idle-ready;
+      idle-own = N .idle-own;
+      idle-effective = N .idle-effective;
       tasks = λ t. record {
-        waits = N .tasks t .waits; at-least = N .tasks t .at-least; range = N .tasks t .range;
+        waits = N .tasks t .waits;
+        at-least = N .tasks t .at-least;
+        range = N .tasks t .range;
         equal = λ e n. N .tasks t .equal (O t e) n;
-        due = D t; outcome = N .tasks t .outcome; free = N .tasks t .free;
+        due = D t;
+        outcome = N .tasks t .outcome;
+        free = N .tasks t .free;
       };
-      idle-holds = N .idle-holds; holders = N .holders; queues = N .queues; counts = N .counts;
+      idle-holds = N .idle-holds;
+      holders = N .holders;
+      queues = N .queues;
+      counts = N .counts;
     }
 
 -- the tick count told otherwise
@@ -183,15 +203,25 @@ one-tick k N =
     start =
         record {
           nearly = record {
-            task-slots = N .task-slots; object-slots = N .object-slots; order-places = N .order-places;
+            task-slots = N .task-slots;
+            object-slots = N .object-slots;
+            order-places = N .order-places;
             listing = record { once = N .listing .once; room = N .listing .room; zeros = N .listing .zeros };
-            idle-ready = N .idle-ready; idle-own = N .idle-own; idle-effective = N .idle-effective;
+            idle-ready = N .idle-ready;
+            idle-own = N .idle-own;
+            idle-effective = N .idle-effective;
             tasks = λ t. record {
-              waits = N .tasks t .waits; at-least = N .tasks t .at-least; range = N .tasks t .range; equal = N .tasks t .equal;
+              waits = N .tasks t .waits;
+              at-least = N .tasks t .at-least;
+              range = N .tasks t .range;
+              equal = N .tasks t .equal;
               due = rw (le-ltb (t .0) 0 (omega arith)) (and-left (wakesInRange (taskAt (k .tasks) t .place)) _ (N .tasks t .due));
-              outcome = N .tasks t .outcome; free = N .tasks t .free;
+              outcome = N .tasks t .outcome;
+              free = N .tasks t .free;
             };
-            idle-holds = N .idle-holds; holders = N .holders; queues = N .queues;
+            idle-holds = N .idle-holds;
+            holders = N .holders;
+            queues = N .queues;
             counts = record { tick-range = omega arith; hold-range = N .counts .hold-range; pended-range = N .counts .pended-range; pends = N .counts .pends };
           };
           ticks = refl;

@@ -18,3 +18,5 @@ pub mod KeepTasks
 pub mod KeepTicks
 pub mod KeepObjects
 pub mod KeepMutexes
+pub mod KeepQueues
+pub mod Every
