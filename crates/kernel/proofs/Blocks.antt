@@ -2,10 +2,10 @@
 use Prim.Native.Nat.{ℕ, _<_, _≤_}
 use mathlib.Core.Path.{_≡_, refl, sym, ap, _∙_}
 use mathlib.Core.Bool.{Bool, true, false, not, _&&_, _||_}
-use mathlib.Core.List.{List, [], _∷_, _++_}
+use mathlib.Core.List.{_∷_}
 use native.Mathlib.Omega.{arith}
 use lib.Dec.{eqb, leb}
-use lib.ListN.{length, set}
+use lib.ListN.{set}
 use borrow.Author.Tests.{eqb-true, eqb-false, le-leb}
 use Rattle.lists.specs.Choice.{if_then_else_}
 use Rattle.lists.proofs.Bools.{and-intro}
@@ -14,14 +14,12 @@ use Rattle.order.specs.Order.{listed, without}
 use Rattle.order.proofs.Lines.{one-number}
 use Rattle.slots.specs.Places.{isReady, isBlocked, isListed}
 use Rattle.slots.specs.Tasks.{placed, ranked, inLine}
-use Rattle.slots.specs.Fine.{outcomeFine}
 use Rattle.kernel.specs.Types.{TaskNo, ObjNo, Wake, Place, Free, Ready, Delayed, Waiting, Suspended, Task, Kernel}
 use Rattle.kernel.specs.Tables.{taskAt, kindAt, withTask}
 use Rattle.kernel.specs.Lines.{level, toTail, toHead}
 use Rattle.kernel.specs.Sentences.{Holds, Exists, MayWait}
 use Rattle.kernel.specs.Waits.{readied, blocked}
 use Rattle.kernel.specs.Loans.{moved, movedIf, prioritized}
-use Rattle.kernel.proofs.Slots.{past-tasks}
 use Rattle.kernel.proofs.Says.{is-ready}
 use Rattle.kernel.proofs.Nearly.{Owing, TaskFine, Nearly, Runs}
 use Rattle.kernel.proofs.Slotted.{at-same, at-other, tail-nearly, tail-listed, head-nearly, head-listed, stay-nearly}

@@ -1,30 +1,29 @@
 -- Choose comes last: it makes a nearly sound kernel sound.
-use Prim.Native.Nat.{ℕ, _+_, _<_, _≤_}
-use mathlib.Core.Path.{_≡_, refl, sym, ap, _∙_}
+use Prim.Native.Nat.{ℕ, _<_}
+use mathlib.Core.Path.{_≡_, refl, sym, _∙_}
 use mathlib.Core.Bool.{Bool, true, false, not, _&&_, _||_, false≢true}
 use mathlib.Core.List.{List, [], _∷_}
 use native.Mathlib.Omega.{arith}
 use lib.Dec.{eqb, ltb, leb}
 use borrow.Author.Tests.{eqb-true, eqb-false, eq-eqb, ne-eqb, ltb-true, ltb-false, leb-true, le-leb}
 use Rattle.lists.specs.Choice.{if_then_else_}
-use Rattle.lists.specs.Lists.{larger, kept, head, isNone}
+use Rattle.lists.specs.Lists.{kept, head, isNone}
 use Rattle.lists.proofs.Bools.{and-left, and-right, and-intro, or-second, off, not-off}
-use Rattle.calls.specs.Numbers.{task, idle}
+use Rattle.calls.specs.Numbers.{idle}
 use Rattle.order.specs.Order.{listed}
 use Rattle.order.specs.Tidy.{count}
 use Rattle.order.proofs.Tests.{count-kept}
 use Rattle.slots.specs.Places.{isReady, isBlocked}
 use Rattle.slots.specs.Tasks.{inLine}
 use Rattle.slots.specs.Fine.{notDue, outcomeFine}
-use Rattle.slots.specs.Leads.{isWho}
-use Rattle.kernel.specs.Types.{TaskNo, ObjNo, Wake, Never, At, Place, Free, Ready, Delayed, Waiting, Suspended, Task, Who, AllReady, Kernel}
-use Rattle.kernel.specs.Tables.{taskAt, kindAt, withRunning}
-use Rattle.kernel.specs.Lines.{line, those, level, highest, leader, first, runsIf, chosen}
+use Rattle.kernel.specs.Types.{TaskNo, Never, At, Place, Free, Ready, Delayed, Waiting, Suspended, Task, AllReady, Kernel}
+use Rattle.kernel.specs.Tables.{taskAt, withRunning}
+use Rattle.kernel.specs.Lines.{line, those, level, highest, first, runsIf, chosen}
 use Rattle.kernel.specs.Sentences.{Sound}
 use Rattle.kernel.proofs.Leads.{leader-none, first-heads-highest}
 use Rattle.kernel.proofs.Within.{first-meant, kept-head, first-single}
 use Rattle.kernel.proofs.Says.{is-ready}
-use Rattle.kernel.proofs.Nearly.{Owing, settled, TaskFine, Counted, Nearly, Runs, line-once, list-once}
+use Rattle.kernel.proofs.Nearly.{Owing, settled, Nearly, Runs, line-once, list-once}
 
 -- ── from nearly sound to sound
 blocked-outcome : (x : Task) → outcomeFine x ≡ true → isBlocked (x .place) ≡ true → x .outcome ≡ 0

@@ -1,7 +1,7 @@
 -- Every call keeps soundness, accepted or refused; and the fresh kernel is sound.
 use Prim.Native.Nat.{ℕ}
 use mathlib.Core.Path.{_≡_, refl}
-use mathlib.Core.Bool.{Bool, true}
+use mathlib.Core.Bool.{true}
 use mathlib.Core.List.{List}
 use lib.ListN.{length}
 use Rattle.lists.specs.Lists.{every, allBelow, kept, any}

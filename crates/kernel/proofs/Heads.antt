@@ -5,18 +5,17 @@ use mathlib.Core.Bool.{Bool, true, false, _&&_}
 use mathlib.Core.List.{List, [], _∷_, _++_, append-nil}
 use native.Mathlib.Omega.{arith}
 use lib.Dec.{eqb}
-use lib.ListN.{length, getD, set}
+use lib.ListN.{length, set}
 use borrow.Author.Tests.{eq-eqb, ne-eqb}
 use Rattle.lists.specs.Choice.{if_then_else_}
 use Rattle.lists.specs.Lists.{kept, head}
-use Rattle.calls.specs.Numbers.{idle, sameTask}
 use Rattle.order.specs.Order.{listed, without}
 use Rattle.slots.specs.Places.{isReady}
 use Rattle.slots.specs.Tasks.{inLine}
 use Rattle.kernel.specs.Types.{TaskNo, Place, Ready, Task, Kernel}
 use Rattle.kernel.specs.Tables.{taskAt}
 use Rattle.kernel.specs.Lines.{line, level}
-use Rattle.kernel.proofs.Moves.{passing, passing-tail, passing-head, passing-leaves}
+use Rattle.kernel.proofs.Moves.{passing-tail, passing-head, passing-leaves}
 use Rattle.kernel.proofs.Nearly.{Runs}
 use Rattle.kernel.proofs.Slotted.{at-same, at-other}
 

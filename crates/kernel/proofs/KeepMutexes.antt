@@ -1,7 +1,7 @@
 -- Take and give keep soundness.
-use Prim.Native.Nat.{ℕ, _+_, _<_, _≤_}
+use Prim.Native.Nat.{ℕ, _<_, _≤_}
 use mathlib.Core.Path.{_≡_, refl, sym, ap, _∙_, subst}
-use mathlib.Core.Bool.{Bool, true, false, not, _&&_, _||_, false≢true}
+use mathlib.Core.Bool.{Bool, true, false, not, _&&_, false≢true}
 use mathlib.Core.List.{List, [], _∷_}
 use native.Mathlib.Omega.{arith}
 use lib.Dec.{eqb, ltb}
@@ -9,33 +9,32 @@ use lib.ListN.{length}
 use borrow.Author.Tests.{eqb-true, eqb-false, eq-eqb, ne-eqb, ltb-true, ltb-false, lt-ltb}
 use Rattle.lists.specs.Choice.{if_then_else_}
 use Rattle.lists.specs.Lists.{larger}
-use Rattle.lists.proofs.Bools.{on, off}
-use Rattle.calls.specs.Numbers.{idle, sameTask, isIdle}
+use Rattle.lists.proofs.Bools.{on}
+use Rattle.calls.specs.Numbers.{idle, sameTask}
 use Rattle.calls.specs.Asked.{asked}
-use Rattle.order.specs.Order.{listed}
 use Rattle.order.proofs.Lines.{one-number}
-use Rattle.slots.specs.Places.{isFree, isReady, waitsOn}
-use Rattle.slots.specs.Tasks.{ranked, placed}
+use Rattle.slots.specs.Places.{waitsOn}
+use Rattle.slots.specs.Tasks.{ranked}
 use Rattle.slots.specs.Objects.{isUnused, isMutex, heldBy, isHeld}
 use Rattle.slots.specs.Fine.{notDue}
-use Rattle.kernel.specs.Types.{TaskNo, ObjNo, Wake, Place, Free, Ready, Waiting, Task, Ring, Nobody, By, Kind, Unused, Queue, Mutex, WaitersOf, Take, Give, Kernel}
+use Rattle.kernel.specs.Types.{TaskNo, ObjNo, Wake, Place, Free, Ready, Waiting, Task, Nobody, By, Kind, Unused, Queue, Mutex, WaitersOf, Take, Give, Kernel}
 use Rattle.kernel.specs.Tables.{taskAt, kindAt, holds, withObject}
 use Rattle.kernel.specs.Lines.{level, first, toTail}
-use Rattle.kernel.specs.Sentences.{Holds, Exists, MayWait, taker, RingFits, Sound}
+use Rattle.kernel.specs.Sentences.{Holds, Exists, MayWait, taker, Sound}
 use Rattle.kernel.specs.Refusals.{namesNone, notForIdle, notWithHold, hisAlready, notHis, mustWait}
 use Rattle.kernel.specs.Waits.{wakeOf, readied, blocked, waitFor}
 use Rattle.kernel.specs.Loans.{prioritized, lent, ownAgain}
 use Rattle.kernel.specs.Effects.{takenFrom, taken, handedTo, handedOn, given, effect}
 use Rattle.kernel.proofs.Slots.{past-tasks}
-use Rattle.kernel.proofs.Says.{held-one, some-holds, none-holds, not-held}
+use Rattle.kernel.proofs.Says.{held-one, none-holds}
 use Rattle.kernel.proofs.Passes.{Passed}
 use Rattle.kernel.proofs.Within.{first-meant, first-within, first-single}
-use Rattle.kernel.proofs.Nearly.{Owing, settled, TaskFine, Nearly, Runs}
-use Rattle.kernel.proofs.Slotted.{at-same, at-other}
-use Rattle.kernel.proofs.Objected.{kinds, object-nearly, kind-same}
+use Rattle.kernel.proofs.Nearly.{Owing, settled, Nearly, Runs}
+use Rattle.kernel.proofs.Slotted.{at-same}
+use Rattle.kernel.proofs.Objected.{object-nearly}
 use Rattle.kernel.proofs.Chosen.{sound-nearly, sound-runs}
 use Rattle.kernel.proofs.Blocks.{Same, prioritized-same, prioritized-tasks, prioritized-nearly, prioritized-runs, readied-nearly, readied-runs, blocked-nearly}
-use Rattle.kernel.proofs.Keeps.{Keeps, or-off, ready-low, apart}
+use Rattle.kernel.proofs.Keeps.{Keeps, ready-low, apart}
 use Rattle.kernel.proofs.KeepTicks.{at-tick, readied-at, reopen}
 use Rattle.kernel.proofs.KeepObjects.{no-wait-free, object-low, object-runs, first-none, wake-ahead}
 

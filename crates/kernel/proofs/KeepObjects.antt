@@ -1,39 +1,35 @@
 -- Calls 10 to 12 and 15 keep soundness: make queue, make mutex, remove, take. What they share with send, receive and give.
-use Prim.Native.Nat.{ℕ, _+_, _*_, _<_, _≤_}
+use Prim.Native.Nat.{ℕ, _*_, _<_, _≤_}
 use mathlib.Core.Path.{_≡_, refl, sym, ap, _∙_, subst}
-use mathlib.Core.Bool.{Bool, true, false, not, _&&_, _||_, false≢true}
+use mathlib.Core.Bool.{Bool, true, false, false≢true}
 use mathlib.Core.List.{List, [], _∷_}
 use native.Mathlib.Omega.{arith}
 use lib.Dec.{eqb, ltb, leb}
-use lib.ListN.{length, getD}
-use borrow.Author.Tests.{eqb-true, eqb-false, eq-eqb, ne-eqb, ltb-true, ltb-false, lt-ltb, le-ltb, leb-true, leb-false, le-leb}
+use lib.ListN.{length}
+use borrow.Author.Tests.{eqb-false, eq-eqb, ltb-true, ltb-false, leb-false}
 use Rattle.lists.specs.Choice.{if_then_else_}
-use Rattle.lists.specs.Lists.{larger, index, isNone}
-use Rattle.lists.proofs.Bools.{and-intro, on, off, untrue}
-use Rattle.calls.specs.Numbers.{task, object, idle, sameTask, sameObject, isIdle}
+use Rattle.lists.specs.Lists.{isNone}
+use Rattle.lists.proofs.Bools.{on}
+use Rattle.calls.specs.Numbers.{object, idle}
 use Rattle.calls.specs.Asked.{asked}
 use Rattle.order.specs.Order.{listed}
 use Rattle.order.specs.Tidy.{count}
-use Rattle.order.proofs.Lines.{one-number}
-use Rattle.slots.specs.Places.{isFree, isReady, waitsOn}
-use Rattle.slots.specs.Objects.{unused, isUnused, isQueue, isMutex, heldBy, isHeld}
-use Rattle.kernel.specs.Types.{TaskNo, ObjNo, Wake, Never, At, Place, Free, Ready, Delayed, Waiting, Suspended, Task, Ring, Holder, Nobody, By, Kind, Unused, Queue, Mutex, Object, WaitersOf, Call, MakeQueue, MakeMutex, Remove, Take, Asked, Kernel}
+use Rattle.slots.specs.Objects.{unused, isUnused, isMutex, isHeld}
+use Rattle.kernel.specs.Types.{TaskNo, ObjNo, Wake, Never, At, Waiting, Ring, Nobody, By, Kind, Unused, Queue, Mutex, Object, WaitersOf, MakeQueue, MakeMutex, Remove, Kernel}
 use Rattle.kernel.specs.Tables.{taskAt, kindAt, holds, freeObject, withObject}
-use Rattle.kernel.specs.Lines.{level, those, leader, first, toTail}
-use Rattle.kernel.specs.Sentences.{Holds, Exists, MayWait, receiver, sender, taker, RingFits, Sound}
+use Rattle.kernel.specs.Lines.{those, first}
+use Rattle.kernel.specs.Sentences.{MayWait, receiver, sender, taker, RingFits, Sound}
 use Rattle.kernel.specs.Asking.{waits}
-use Rattle.kernel.specs.Refusals.{outOfRange, namesNone, notForIdle, notWithHold, noSlot, inUse, hisAlready, mustWait}
-use Rattle.kernel.specs.Waits.{later, wakeOf, blocked, waitFor}
-use Rattle.kernel.specs.Loans.{prioritized, lent}
-use Rattle.kernel.specs.Effects.{queueMade, mutexMade, removed, takenFrom, taken, effect}
+use Rattle.kernel.specs.Refusals.{outOfRange, namesNone, noSlot, inUse}
+use Rattle.kernel.specs.Waits.{later, wakeOf}
+use Rattle.kernel.specs.Effects.{queueMade, mutexMade, removed, effect}
 use Rattle.kernel.proofs.Slots.{past-objects}
 use Rattle.kernel.proofs.Leads.{leader-none}
 use Rattle.kernel.proofs.Passes.{Passed}
 use Rattle.kernel.proofs.Nearly.{Owing, settled, Nearly, Runs, list-once}
-use Rattle.kernel.proofs.Objected.{kinds, object-nearly}
+use Rattle.kernel.proofs.Objected.{object-nearly}
 use Rattle.kernel.proofs.Chosen.{sound-nearly, sound-runs}
-use Rattle.kernel.proofs.Blocks.{Same, prioritized-same, prioritized-nearly, blocked-nearly}
-use Rattle.kernel.proofs.Keeps.{Keeps, or-off, ready-low, index-most, index-passes}
+use Rattle.kernel.proofs.Keeps.{Keeps, or-off, index-most, index-passes}
 use Rattle.kernel.proofs.KeepTasks.{later-ahead}
 
 -- ── what nobody waits on or holds

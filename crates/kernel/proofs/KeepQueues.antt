@@ -1,23 +1,20 @@
 -- Send and receive keep soundness.
-use Prim.Native.Nat.{ℕ, _+_, _-_, _%_, _<_, _≤_}
-use mathlib.Core.Path.{_≡_, refl, sym, ap, _∙_, subst}
-use mathlib.Core.Bool.{Bool, true, false, not, _&&_, _||_, false≢true}
+use Prim.Native.Nat.{ℕ, _-_, _<_}
+use mathlib.Core.Path.{_≡_, refl, sym, ap, subst}
+use mathlib.Core.Bool.{Bool, true, false, not, _&&_, false≢true}
 use mathlib.Core.List.{List, [], _∷_}
 use native.Mathlib.Omega.{arith}
 use lib.Dec.{eqb, ltb}
-use lib.ListN.{length}
 use borrow.Author.Tests.{eqb-true, eqb-false, eq-eqb, ne-eqb, ltb-true, ltb-false, lt-ltb}
 use Rattle.lists.specs.Choice.{if_then_else_}
 use Rattle.lists.proofs.Bools.{on}
-use Rattle.calls.specs.Numbers.{idle, sameTask, isIdle}
 use Rattle.calls.specs.Asked.{asked}
-use Rattle.slots.specs.Places.{isReady, waitsOn}
+use Rattle.slots.specs.Places.{waitsOn}
 use Rattle.slots.specs.Objects.{isUnused, isQueue, isMutex}
-use Rattle.slots.specs.Fine.{notDue}
-use Rattle.kernel.specs.Types.{TaskNo, ObjNo, Wake, Place, Free, Ready, Delayed, Waiting, Suspended, Task, Ring, By, Kind, Unused, Queue, Mutex, WaitersOf, Outlet, toWaiter, toQueue, toCaller, Call, Send, Receive, Asked, Kernel}
+use Rattle.kernel.specs.Types.{TaskNo, ObjNo, Wake, Place, Free, Ready, Delayed, Waiting, Suspended, Ring, Kind, Unused, Queue, Mutex, WaitersOf, toWaiter, toQueue, toCaller, Send, Receive, Kernel}
 use Rattle.kernel.specs.Tables.{taskAt, kindAt, withObject}
 use Rattle.kernel.specs.Lines.{first, toTail}
-use Rattle.kernel.specs.Sentences.{Holds, Exists, MayWait, receiver, sender, taker, RingFits, Sound}
+use Rattle.kernel.specs.Sentences.{MayWait, receiver, sender, taker, RingFits, Sound}
 use Rattle.kernel.specs.Refusals.{namesNone, notForIdle, notWithHold, mustWait}
 use Rattle.kernel.specs.Waits.{wakeOf, readied, blocked, waitFor}
 use Rattle.kernel.specs.Items.{oneMore, oneLess, roomOr, outletFor, outlet, sentBy, sent, sentTo, refilledBy, received, receivedFrom}
@@ -25,10 +22,10 @@ use Rattle.kernel.specs.Effects.{effect}
 use Rattle.kernel.proofs.Passes.{Passed}
 use Rattle.kernel.proofs.Within.{less-fits, first-meant, first-within, first-single}
 use Rattle.kernel.proofs.Nearly.{settled, Nearly, Runs}
-use Rattle.kernel.proofs.Objected.{object-nearly, kind-same}
+use Rattle.kernel.proofs.Objected.{object-nearly}
 use Rattle.kernel.proofs.Chosen.{sound-nearly, sound-runs}
 use Rattle.kernel.proofs.Blocks.{readied-nearly, readied-runs, blocked-nearly}
-use Rattle.kernel.proofs.Keeps.{Keeps, or-off, ready-low, apart}
+use Rattle.kernel.proofs.Keeps.{Keeps, ready-low, apart}
 use Rattle.kernel.proofs.KeepObjects.{not-by, object-low, object-runs, first-none, wake-ahead}
 
 queue-used : (x : Kind) → isQueue x ≡ true → isUnused x ≡ false

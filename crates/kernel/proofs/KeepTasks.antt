@@ -1,31 +1,28 @@
 -- Calls 1 to 7 keep soundness: create, delete, suspend, resume, set priority, delay, yield.
 use Prim.Native.Nat.{ℕ, _+_, _<_, _≤_}
 use mathlib.Core.Path.{_≡_, refl, sym, ap, _∙_}
-use mathlib.Core.Bool.{Bool, true, false, not, _&&_, _||_, false≢true}
-use mathlib.Core.List.{List, [], _∷_}
+use mathlib.Core.Bool.{Bool, true, false, not, _&&_, false≢true}
 use native.Mathlib.Omega.{arith}
 use lib.Dec.{eqb, ltb, leb}
-use lib.ListN.{length, getD}
-use borrow.Author.Tests.{ne-eqb, leb-false, eqb-true, eqb-false, eq-eqb, ltb-true, ltb-false, lt-ltb, leb-true, le-leb}
+use borrow.Author.Tests.{ne-eqb, leb-false, eqb-true, eqb-false, eq-eqb, ltb-false, lt-ltb, le-leb}
 use Rattle.lists.specs.Choice.{if_then_else_}
-use Rattle.lists.specs.Lists.{larger, index}
-use Rattle.lists.proofs.Bools.{and-left, and-intro, on, not-off}
-use Rattle.calls.specs.Numbers.{task, idle, sameTask, isIdle}
+use Rattle.lists.specs.Lists.{larger}
+use Rattle.lists.proofs.Bools.{and-intro, on, not-off}
+use Rattle.calls.specs.Numbers.{task, idle, isIdle}
 use Rattle.calls.specs.Asked.{asked}
 use Rattle.order.proofs.Lines.{one-number}
-use Rattle.slots.specs.Places.{isFree, isReady, isSuspended, isBlocked, isListed}
+use Rattle.slots.specs.Places.{isFree, isSuspended, isBlocked, isListed}
 use Rattle.slots.specs.Tasks.{freeTask, readyAt, brokenOff}
-use Rattle.slots.specs.Fine.{notDue, outcomeFine}
-use Rattle.kernel.specs.Types.{TaskNo, ObjNo, Wake, Place, Free, Ready, Delayed, Waiting, Suspended, Task, Call, Create, Delete, Suspend, Resume, SetPriority, Delay, Yield, Kernel}
-use Rattle.kernel.specs.Tables.{taskAt, kindAt, holds, freeSlot, withTask}
+use Rattle.kernel.specs.Types.{TaskNo, ObjNo, Place, Free, Ready, Delayed, Suspended, Task, Create, Delete, Suspend, Resume, SetPriority, Delay, Yield, Kernel}
+use Rattle.kernel.specs.Tables.{taskAt, holds, freeSlot, withTask}
 use Rattle.kernel.specs.Lines.{level, toTail, leaves}
-use Rattle.kernel.specs.Sentences.{Holds, Exists, Sound}
+use Rattle.kernel.specs.Sentences.{Holds, Sound}
 use Rattle.kernel.specs.Refusals.{outOfRange, namesNone, notForIdle, notWithHold, noSlot, inUse, notSuspended}
 use Rattle.kernel.specs.Waits.{later, readied, blocked}
 use Rattle.kernel.specs.Loans.{prioritized, movedIf, newPriority}
 use Rattle.kernel.specs.Effects.{created, deleted, suspended, resumed, yielded, delayed, effect}
-use Rattle.kernel.proofs.Says.{none-holds, not-held, is-ready}
-use Rattle.kernel.proofs.Passes.{Passed, InRange, range}
+use Rattle.kernel.proofs.Says.{none-holds, not-held}
+use Rattle.kernel.proofs.Passes.{Passed, range}
 use Rattle.kernel.proofs.Nearly.{settled, TaskFine, Nearly, Runs}
 use Rattle.kernel.proofs.Slotted.{tail-nearly, tail-listed, leave-nearly, leave-listed, moved-nearly}
 use Rattle.kernel.proofs.Chosen.{sound-nearly, sound-runs}

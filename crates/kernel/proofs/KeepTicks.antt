@@ -1,34 +1,34 @@
 -- Hold, release and tick keep soundness.
 use Prim.Native.Nat.{ℕ, zero, suc, _+_, _-_, _<_, _≤_}
 use mathlib.Core.Path.{_≡_, refl, sym, ap, _∙_, subst}
-use mathlib.Core.Bool.{Bool, true, false, not, _&&_, _||_, false≢true}
-use mathlib.Core.List.{List, [], _∷_}
+use mathlib.Core.Bool.{Bool, true, false, not, false≢true}
+use mathlib.Core.List.{List}
 use native.Mathlib.Omega.{arith}
-use lib.Dec.{eqb, ltb, leb}
+use lib.Dec.{eqb, ltb}
 use lib.ListN.{length}
-use borrow.Author.Tests.{eqb-true, eqb-false, ltb-true, ltb-false, lt-ltb, le-ltb, leb-true, le-leb}
+use borrow.Author.Tests.{eqb-true, eqb-false, ltb-true, ltb-false, lt-ltb, le-ltb}
 use Rattle.lists.specs.Choice.{if_then_else_}
 use Rattle.lists.specs.Lists.{upTo}
-use Rattle.lists.proofs.Bools.{and-left, and-right, and-intro, not-off}
-use Rattle.calls.specs.Numbers.{task, idle, sameTask}
+use Rattle.lists.proofs.Bools.{and-left, and-intro, not-off}
+use Rattle.calls.specs.Numbers.{task}
 use Rattle.calls.specs.Asked.{asked}
 use Rattle.order.specs.Order.{listed}
 use Rattle.order.proofs.Lines.{one-number}
-use Rattle.slots.specs.Places.{isFree, isReady, isListed, wakesAt, outcomeDue}
-use Rattle.slots.specs.Tasks.{freeTask, placed}
+use Rattle.slots.specs.Places.{wakesAt, outcomeDue}
+use Rattle.slots.specs.Tasks.{placed}
 use Rattle.slots.specs.Fine.{wakesInRange, notDue}
-use Rattle.kernel.specs.Types.{TaskNo, ObjNo, Place, Free, Ready, Delayed, Waiting, Suspended, Task, Hold, Release, Tick, Kernel}
+use Rattle.kernel.specs.Types.{TaskNo, Place, Free, Ready, Delayed, Waiting, Suspended, Task, Hold, Release, Tick, Kernel}
 use Rattle.kernel.specs.Tables.{taskAt, withTick, withHold}
 use Rattle.kernel.specs.Lines.{level, toTail}
 use Rattle.kernel.specs.Sound.{noHigher}
-use Rattle.kernel.specs.Sentences.{Listing, Sound}
+use Rattle.kernel.specs.Sentences.{Sound}
 use Rattle.kernel.specs.Refusals.{noDepth, noTick}
 use Rattle.kernel.specs.Waits.{later, readied}
 use Rattle.kernel.specs.Ticks.{wokenIfDue, wakes, oneTick, turned, ticked, ticks, released, held}
 use Rattle.kernel.specs.Effects.{effect}
 use Rattle.kernel.proofs.Slots.{past-tasks}
 use Rattle.kernel.proofs.Passes.{Passed}
-use Rattle.kernel.proofs.Nearly.{Owing, settled, TaskFine, Counted, Nearly, Runs}
+use Rattle.kernel.proofs.Nearly.{Owing, settled, Counted, Nearly, Runs}
 use Rattle.kernel.proofs.Slotted.{at-same, at-other, moved-nearly}
 use Rattle.kernel.proofs.Chosen.{sound-nearly, sound-runs}
 use Rattle.kernel.proofs.Blocks.{Same, readied-nearly}

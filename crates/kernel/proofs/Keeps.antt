@@ -10,16 +10,16 @@ use borrow.Author.Tests.{ltb-true, ltb-false, eqb-true}
 use Rattle.lists.specs.Choice.{if_then_else_}
 use Rattle.lists.specs.Lists.{index}
 use Rattle.calls.specs.Asked.{asked}
-use Rattle.slots.specs.Places.{isFree, isReady}
+use Rattle.slots.specs.Places.{isFree}
 use Rattle.slots.specs.Tasks.{freeTask}
-use Rattle.kernel.specs.Types.{TaskNo, Place, Free, Ready, Task, Call, Kernel}
+use Rattle.kernel.specs.Types.{TaskNo, Place, Ready, Task, Call, Kernel}
 use Rattle.kernel.specs.Tables.{taskAt}
 use Rattle.kernel.specs.Lines.{chosen}
 use Rattle.kernel.specs.Sound.{sound}
 use Rattle.kernel.specs.Sentences.{Exists, Sound}
 use Rattle.kernel.specs.Refusals.{laterRow, refusal}
 use Rattle.kernel.specs.Effects.{effect}
-use Rattle.kernel.specs.Step.{accepted, turnedAway, steppedBy, step}
+use Rattle.kernel.specs.Step.{accepted, turnedAway, step}
 use Rattle.kernel.proofs.Slots.{past-tasks}
 use Rattle.kernel.proofs.Says.{sound-says, says-sound}
 use Rattle.kernel.proofs.Passes.{Passed, passed}

@@ -1,31 +1,28 @@
 -- Soundness on the way: all but who runs, with what is still open named. A call's effect takes nearly sound kernels to nearly sound ones; choose comes last.
-use Prim.Native.Nat.{ℕ, _<_, _≤_}
-use mathlib.Core.Path.{_≡_, refl, sym, ap, _∙_}
-use mathlib.Core.Bool.{Bool, true, false, not, _&&_, _||_, false≢true}
-use mathlib.Core.List.{List, [], _∷_, _++_}
+use Prim.Native.Nat.{ℕ, _≤_}
+use mathlib.Core.Path.{_≡_, refl, ap, _∙_}
+use mathlib.Core.Bool.{Bool, true, false, not, _&&_}
+use mathlib.Core.List.{List, [], _∷_}
 use native.Mathlib.Omega.{arith}
-use lib.Dec.{eqb, ltb, leb}
-use lib.ListN.{length, getD, set, take, replicate, length-take, length-append, length-replicate, length-set}
-use lib.Seq.{getD-set-same, getD-set-other}
-use borrow.Author.Tests.{eqb-true, eqb-false, eq-eqb, ne-eqb, ltb-true, ltb-false, leb-true, le-leb}
+use lib.Dec.{eqb}
+use lib.ListN.{length, length-take, length-append, length-replicate}
 use Rattle.lists.specs.Choice.{if_then_else_}
 use Rattle.lists.specs.Lists.{head}
-use Rattle.lists.proofs.Bools.{and-left, and-right, and-intro, or-second}
-use Rattle.calls.specs.Numbers.{task, idle, sameTask}
+use Rattle.lists.proofs.Bools.{and-left}
+use Rattle.calls.specs.Numbers.{task, idle}
 use Rattle.order.specs.Order.{listed, ordered}
 use Rattle.order.specs.Tidy.{count, tidy}
-use Rattle.order.proofs.Lines.{one-number}
 use Rattle.order.proofs.Counts.{Exactly}
 use Rattle.order.proofs.Orders.{listed-ordered}
 use Rattle.order.proofs.Rooms.{tidy-few, tidy-zeros, exactly-room, exactly-tidy}
 use Rattle.order.proofs.Tests.{count-kept}
-use Rattle.slots.specs.Places.{isFree, isReady, isBlocked, isListed, waitsOn}
+use Rattle.slots.specs.Places.{isReady, isListed, waitsOn}
 use Rattle.slots.specs.Tasks.{freeTask, inLine}
 use Rattle.slots.specs.Fine.{notDue, outcomeFine}
-use Rattle.kernel.specs.Types.{TaskNo, ObjNo, Wake, At, Place, Free, Ready, Delayed, Waiting, Suspended, Task, Ring, Kind, Queue, Object, WaitersOf, Kernel}
-use Rattle.kernel.specs.Tables.{taskAt, kindAt, withTask, withOrder}
+use Rattle.kernel.specs.Types.{TaskNo, ObjNo, Wake, Place, Free, Ready, Delayed, Waiting, Suspended, Task, Ring, Queue, Object, WaitersOf, Kernel}
+use Rattle.kernel.specs.Tables.{taskAt, kindAt, withOrder}
 use Rattle.kernel.specs.Lines.{line, those, level}
-use Rattle.kernel.specs.Sentences.{Holds, Exists, MayWait, RingFits, Listing, Sound}
+use Rattle.kernel.specs.Sentences.{Holds, Exists, MayWait, RingFits, Listing}
 use Rattle.kernel.proofs.Slots.{past-tasks}
 
 -- what is open: which wake ticks may stand, and who may have a priority that it has to pay back

@@ -1,20 +1,19 @@
 -- An object changed: a nearly sound kernel stays so, if its waiters may wait on the new kind, its holder exists, and who gives it up has its own priority.
-use Prim.Native.Nat.{ℕ, _<_}
+use Prim.Native.Nat.{_<_}
 use mathlib.Core.Path.{_≡_, refl, sym, ap, _∙_}
 use mathlib.Core.Bool.{Bool, true, false, false≢true}
 use mathlib.Core.List.{List}
 use native.Mathlib.Omega.{arith}
-use lib.Dec.{eqb}
 use lib.ListN.{length, set, length-set}
 use lib.Seq.{getD-set-same, getD-set-other}
 use borrow.Author.Tests.{eqb-true, eqb-false, eq-eqb}
 use Rattle.calls.specs.Numbers.{idle, object, sameObject}
 use Rattle.slots.specs.Objects.{unused, heldBy}
-use Rattle.kernel.specs.Types.{TaskNo, ObjNo, Wake, Place, Waiting, Task, Ring, Kind, Queue, Mutex, By, Object, Kernel}
+use Rattle.kernel.specs.Types.{TaskNo, ObjNo, Wake, Waiting, Ring, Kind, Queue, Mutex, By, Object, Kernel}
 use Rattle.kernel.specs.Tables.{taskAt, kindAt, withObject}
-use Rattle.kernel.specs.Sentences.{Holds, Exists, MayWait, RingFits, Listing}
+use Rattle.kernel.specs.Sentences.{Holds, Exists, MayWait, RingFits}
 use Rattle.kernel.proofs.Says.{held-one}
-use Rattle.kernel.proofs.Nearly.{Owing, TaskFine, Nearly}
+use Rattle.kernel.proofs.Nearly.{Owing, Nearly}
 
 module _ (os : List Object) (o : ObjNo) (y : Kind) where
   abbrev pub kinds : List Object

@@ -1,11 +1,11 @@
 -- A task's slot changed, and its place in the order with it: a nearly sound kernel stays so, if what is asked of the task holds of its new value.
-use Prim.Native.Nat.{ℕ, _+_, _<_, _≤_}
+use Prim.Native.Nat.{ℕ, _+_, _<_}
 use mathlib.Core.Path.{_≡_, refl, sym, ap, _∙_}
 use mathlib.Core.Bool.{Bool, true, false}
 use mathlib.Core.List.{List, [], _∷_, _++_}
 use native.Mathlib.Omega.{arith}
 use lib.Dec.{eqb}
-use lib.ListN.{length, getD, set, length-set}
+use lib.ListN.{length, set, length-set}
 use lib.Seq.{getD-set-same, getD-set-other, set-getD}
 use borrow.Author.Tests.{eqb-true, eqb-false}
 use Rattle.lists.specs.Choice.{if_then_else_}
@@ -16,11 +16,11 @@ use Rattle.order.proofs.Lines.{one-number}
 use Rattle.order.proofs.Counts.{count-append, count-one, count-other, count-gone, count-stays}
 use Rattle.slots.specs.Places.{isListed}
 use Rattle.slots.specs.Tasks.{freeTask}
-use Rattle.kernel.specs.Types.{TaskNo, ObjNo, Place, Free, Ready, Task, Kernel}
+use Rattle.kernel.specs.Types.{TaskNo, ObjNo, Free, Ready, Task, Kernel}
 use Rattle.kernel.specs.Tables.{taskAt, withTask, withOrder}
 use Rattle.kernel.specs.Lines.{toTail, toHead, leaves}
-use Rattle.kernel.specs.Sentences.{Holds, Exists, Listing}
-use Rattle.kernel.proofs.Nearly.{Owing, TaskFine, Nearly, ones, Relisted, relisted}
+use Rattle.kernel.specs.Sentences.{Holds}
+use Rattle.kernel.proofs.Nearly.{Owing, TaskFine, Nearly, ones, relisted}
 
 -- what a slot holds after one is set
 module _ (ts : List Task) (t : TaskNo) (x : Task) where

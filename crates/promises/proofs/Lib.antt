@@ -1,2 +1,11 @@
 pub mod Gate
 pub mod Unique
+pub mod Caught
+pub mod Firsts
+pub mod Fits
+pub mod Twins
+pub mod Likewise
+pub mod Together
+pub mod Refused
+pub mod Surplus
+pub mod TwoOrders

@@ -1,9 +1,8 @@
 -- No second answer fits: two results that meet a promise are equal.
 use Prim.Native.Nat.{ℕ}
 use mathlib.Core.Path.{_≡_, refl, sym, _∙_}
-use mathlib.Core.List.{List, [], _∷_}
+use mathlib.Core.List.{List}
 use native.Mathlib.Omega.{arith}
-use Rattle.calls.specs.declared.TaskNo.{TaskNo}
 use Rattle.calls.proofs.Told.{one-answer}
 use Rattle.slots.specs.declared.Found.{Found}
 use Rattle.slots.specs.declared.Found.the-variants.{NoOne, Someone}

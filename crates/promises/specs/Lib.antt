@@ -1,2 +1,4 @@
 pub mod Types
 pub mod Cases
+pub mod Wrong
+pub mod Alike

@@ -1,0 +1,61 @@
+-- The idle programs and the easy mistakes are caught: one claim over the whole list, computed; so none of them is the step.
+use Prim.Native.Nat.{ℕ}
+use mathlib.Core.Path.{_≡_, refl, ap, sym, _∙_}
+use mathlib.Core.Bool.{true, not, false≢true}
+use mathlib.Core.List.{List, [], _∷_, map, List·Memᴰ, List·Memᴰ·cases-cons, List·Memᴰ·not-nil}
+use mathlib.Core.Logic.{⊎-elim}
+use store.Seg.{eqb-same}
+use Rattle.lists.specs.Lists.{every, allBelow, foldl, upTo, index, any, kept}
+use Rattle.calls.specs.Asked.{asked}
+use Rattle.order.specs.Order.{ordered, without}
+use Rattle.order.specs.Tidy.{count, tidy}
+use Rattle.items.specs.Bytes.{putAt}
+use Rattle.promises.specs.Types.{Call, Kernel}
+use Rattle.promises.specs.Cases.{Seen}
+use Rattle.promises.specs.Wrong.{Stepping, stepBy, turnsAllAway, alwaysDone, changesNothing, deletesHolders, Wrong, after, showsBy, ofWord, sameList, sameSeen, Verdict, found, told, idlePrograms, easyMistakes, wrongs}
+use Rattle.kernel.specs.Effects.{created, deleted, suspended, resumed, yielded, delayed, queueMade, mutexMade, removed, taken, handedOn, given, effect}
+use Rattle.kernel.specs.Items.{itemAt, outlet, sent, storeSent, received, storeReceived}
+use Rattle.kernel.specs.Lines.{line, those, highest, leader, first, chosen, toTail, toHead, leaves}
+use Rattle.kernel.specs.Loans.{moved, movedIf, prioritized, newPriority, lent, ownAgain}
+use Rattle.kernel.specs.Refusals.{outOfRange, namesNone, wrongSize, notForIdle, notWithHold, noSlot, inUse, notHis, hisAlready, notSuspended, mustWait, noDepth, noTick, table, laterRow, refusal}
+use Rattle.kernel.specs.Sound.{noHigher, runsFine, sound}
+use Rattle.kernel.specs.Step.{stored, answered, accepted, step}
+use Rattle.kernel.specs.Tables.{fresh, taskAt, kindAt, holds, freeSlot, freeObject}
+use Rattle.kernel.specs.Ticks.{wokenIfDue, wakes, oneTick, turned, ticked, ticks, released, held}
+use Rattle.kernel.specs.Waits.{readied, blocked, waitFor}
+
+-- what is changed is changed in the step itself: with the kernel's own effect and choose the frame is the step
+pub frame : (k : Kernel) (c : Call) (i s : List ℕ) → stepBy effect chosen k c i s ≡ step k c i s
+unfolding stepBy step accepted
+frame k c i s = refl
+
+pub caught : map found wrongs ≡ map told wrongs
+unfolding wrongs idlePrograms easyMistakes stepBy turnsAllAway alwaysDone changesNothing deletesHolders after showsBy sameList sameSeen every allBelow foldl upTo index any kept asked ordered without count tidy putAt created deleted suspended resumed yielded delayed queueMade mutexMade removed taken handedOn given effect itemAt outlet sent storeSent received storeReceived line those highest leader first chosen toTail toHead leaves moved movedIf prioritized newPriority lent ownAgain outOfRange namesNone wrongSize notForIdle notWithHold noSlot inUse notHis hisAlready notSuspended mustWait noDepth noTick table laterRow refusal noHigher runsFine sound stored answered accepted step fresh taskAt kindAt holds freeSlot freeObject wokenIfDue wakes oneTick turned ticked ticks released held readied blocked waitFor
+caught = refl
+
+same-list : (xs : List ℕ) → sameList xs xs ≡ true
+unfolding sameList
+same-list [] = refl
+same-list (x ∷ xs) = rw (eqb-same x, same-list xs)
+
+same-seen : (x : Seen) → sameSeen x x ≡ true
+unfolding sameSeen
+same-seen x = rw (eqb-same (ofWord (x .answer .word)), eqb-same (x .answer .number), eqb-same (x .running), same-list (x .looked))
+
+-- where all that is told of a wrong step is found, it is not the step
+not-the-step : (w : Wrong) → found w ≡ told w → w .step ≡ step → ⊥
+not-the-step w h e =
+    let shown : w .wrong ≡ w .right = sym (ap (λ (v : Verdict). v .wrong) h) ∙ (ap (λ (f : Stepping). showsBy f w) e ∙ ap (λ (v : Verdict). v .right) h) in
+    let apart : not (sameSeen (w .right) (w .wrong)) ≡ true = ap (λ (v : Verdict). v .apart) h in
+    false≢true (ap not (sym (same-seen (w .right))) ∙ rw shown at apart)
+
+-- so it is with each of a list
+none-of : (ws : List Wrong) → map found ws ≡ map told ws → (w : Wrong) → List·Memᴰ w ws → w .step ≡ step → ⊥
+none-of [] h w m = absurd (List·Memᴰ·not-nil m)
+none-of (x ∷ ws) h w m =
+    let front : found x ≡ told x = cc in
+    let rest : map found ws ≡ map told ws = cc in
+    ⊎-elim (λ e. not-the-step w (rw e front)) (λ n. none-of ws rest w n) (List·Memᴰ·cases-cons m)
+
+pub none-is-the-step : (w : Wrong) → List·Memᴰ w wrongs → w .step ≡ step → ⊥
+none-is-the-step = none-of wrongs caught

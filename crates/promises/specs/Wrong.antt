@@ -1,0 +1,234 @@
+-- The idle programs and the easy mistakes of document 01: each is the step with one thing changed, with a few calls that tell the two apart.
+use Prim.Native.Nat.{ℕ, _+_}
+use mathlib.Core.Bool.{Bool, true, false, not, _&&_}
+use mathlib.Core.List.{List, [], _∷_, _++_}
+use lib.Dec.{eqb, ltb, leb}
+use lib.ListN.{length, getD, replicate}
+use Rattle.lists.specs.Choice.{if_then_else_}
+use Rattle.lists.specs.Lists.{index, upTo}
+use Rattle.calls.specs.Numbers.{task, object, sameTask}
+use Rattle.calls.specs.Asked.{asked}
+use Rattle.calls.specs.Said.{Word, done, made, waiting, refused, says}
+use Rattle.slots.specs.Places.{isReady, isBlocked, wakesAt, outcomeDue}
+use Rattle.slots.specs.Objects.{holderOf}
+use Rattle.promises.specs.Types.{TaskNo, Asked, Call, Create, Delete, Suspend, Delay, Hold, Release, MakeQueue, MakeMutex, Send, Receive, Take, Give, Tick, Wake, Never, At, Place, Free, Ready, Delayed, Waiting, Suspended, Task, Kernel}
+use Rattle.promises.specs.Cases.{Seen, seen}
+use Rattle.kernel.specs.Tables.{fresh, taskAt, kindAt, withTick, withHold}
+use Rattle.kernel.specs.Lines.{level, first, chosen, toTail}
+use Rattle.kernel.specs.Waits.{later, readied}
+use Rattle.kernel.specs.Loans.{prioritized}
+use Rattle.kernel.specs.Ticks.{wokenIfDue, oneTick, turned, ticked, released}
+use Rattle.kernel.specs.Items.{slipOf}
+use Rattle.kernel.specs.Asking.{is}
+use Rattle.kernel.specs.Refusals.{laterRow, refusal}
+use Rattle.kernel.specs.Effects.{suspended, handedOn, effect}
+use Rattle.kernel.specs.Step.{Stepped, answered, stored, turnedAway, steppedBy, step}
+
+abbrev pub Stepping : Type 0
+Stepping = Kernel → Call → List ℕ → List ℕ → Stepped
+
+-- the step with another effect and another choose; with the kernel's own it is the step
+unfoldable pub stepBy : (Kernel → Call → Kernel) → (Kernel → Kernel) → Stepping
+stepBy does choose k c item s =
+    let n = refusal k (asked c) (length item) (length s) in
+    let next = choose (does k c) in
+    if eqb n 0 then record { kernel = next; answer = answered k (asked c) next; store = stored k c item s } else turnedAway k n s
+
+-- the effect with the row of call n changed
+abbrev pub changed : ℕ → (Kernel → Asked → Kernel) → Kernel → Call → Kernel
+changed n does k c = if is n (asked c) then does k (asked c) else effect k c
+
+-- "One that turns every call away"
+unfoldable pub turnsAllAway : Stepping
+turnsAllAway k c item s = turnedAway k 1 s
+
+-- "One that always answers done"
+unfoldable pub alwaysDone : Stepping
+alwaysDone k c item s = let r = step k c item s in record { kernel = r .kernel; answer = says done 0; store = r .store }
+
+-- "and one that changes nothing"
+unfoldable pub changesNothing : Stepping
+changesNothing k c item s = record { kernel = k; answer = step k c item s .answer; store = s }
+
+-- a tick whose wakes are other ones
+abbrev pub tickedBy : (Kernel → Kernel) → Kernel → Kernel
+tickedBy wake k =
+    if ltb 0 (k .hold) then withHold k (k .hold) (k .pended + 1) else turned (wake (withTick k (later (k .tick) 1)))
+
+-- "One that makes the first due task ready and skips the rest"
+abbrev pub firstWoken : Kernel → Kernel
+firstWoken k = wokenIfDue k (index (λ (x : Task). wakesAt (k .tick) (x .place)) (k .tasks))
+
+abbrev pub skipsTheRest : Kernel → Call → Kernel
+skipsTheRest = changed 17 (λ k a. tickedBy firstWoken k)
+
+-- "or runs one pended tick for all"
+abbrev pub oneForAll : Kernel → Call → Kernel
+oneForAll = changed 9 (λ k a. if eqb (k .hold) 1 && ltb 0 (k .pended) then oneTick (withHold k 0 0) else released k)
+
+-- "One that keeps a made-up pended count"
+abbrev pub madeUp : Kernel → Call → Kernel
+madeUp = changed 17 (λ k a. if ltb 0 (k .hold) then withHold k (k .hold) 7 else ticked k)
+
+-- "On give, dropping the giver although it still holds another mutex."
+abbrev pub ownPriority : Kernel → ℕ
+ownPriority k = taskAt (k .tasks) (k .running) .own
+
+abbrev pub dropsGiver : Kernel → Call → Kernel
+dropsGiver = changed 16 (λ k a. prioritized (handedOn k (a .object)) (k .running) (ownPriority k) (ownPriority k))
+
+-- "Treating a wake tick smaller than the count as past."
+abbrev pub wakePast : ℕ → Wake → Bool
+wakePast n Never = false
+wakePast n (At w) = leb w n
+
+abbrev pub past : ℕ → Place → Bool
+past n Free = false
+past n Ready = false
+past n (Delayed w) = leb w n
+past n (Waiting o w) = wakePast n w
+past n Suspended = false
+
+abbrev pub wokenIfPast : Kernel → ℕ → Kernel
+wokenIfPast k n =
+    let p = taskAt (k .tasks) (task n) .place in
+    if past (k .tick) p then readied k (task n) (outcomeDue p) else k
+
+abbrev pub wakesThePast : Kernel → Call → Kernel
+wakesThePast = changed 17 (λ k a. tickedBy (upTo wokenIfPast 16) k)
+
+-- "Putting an overtaken task at the tail, so it loses its turn."
+abbrev pub behind : Kernel → TaskNo → Kernel
+behind k t = if isReady (taskAt (k .tasks) t .place) then toTail k t else k
+
+abbrev pub losesTurn : Kernel → Kernel
+losesTurn k = let next = chosen k in if sameTask (next .running) (k .running) then next else behind next (k .running)
+
+-- "Letting a suspended task stay in an object's list, so an item lands in its slip."
+abbrev pub staysIfBlocked : Kernel → TaskNo → Kernel
+staysIfBlocked k t = if isBlocked (taskAt (k .tasks) t .place) then k else suspended k t
+
+abbrev pub staysListed : Kernel → Call → Kernel
+staysListed = changed 3 (λ k a. staysIfBlocked k (a .task))
+
+-- "Deleting a holder and leaving the next task in that slot as holder."; a kernel whose holder is gone is not sound, so this one does not ask that either
+unfoldable pub deletesHolders : Stepping
+deletesHolders k c item s =
+    let n = laterRow k (asked c) (length item) (length s) in
+    steppedBy (if is 2 (asked c) && eqb n 10 then 0 else n) k c item s
+
+-- a wrong step; a start, and calls from there; what is looked at; and what the right step and the wrong one show after the last call
+pub record Wrong : Type 0 where
+  pub step : Stepping
+  pub start : Kernel
+  pub calls : List Call
+  pub look : Stepped → List ℕ
+  pub right : Seen
+  pub wrong : Seen
+
+-- every call is lent this item
+abbrev pub item : List ℕ
+item = 7 ∷ []
+
+-- the calls one after the other
+unfoldable pub after : Stepping → Stepped → List Call → Stepped
+after f r [] = r
+after f r (c ∷ cs) = after f (f (r .kernel) c item (r .store)) cs
+
+-- what stands there before the first call, with a store of zeros
+abbrev pub before : Kernel → Stepped
+before k = record { kernel = k; answer = says done 0; store = replicate 9216 0 }
+
+abbrev pub shows : (Stepped → List ℕ) → Stepped → Seen
+shows look r = record { answer = r .answer; running = r .kernel .running .0; looked = look r }
+
+unfoldable pub showsBy : Stepping → Wrong → Seen
+showsBy f w = shows (w .look) (after f (before (w .start)) (w .calls))
+
+-- a test whether two are the same
+abbrev pub ofWord : Word → ℕ
+ofWord done = 0
+ofWord made = 1
+ofWord waiting = 2
+ofWord refused = 3
+
+unfoldable pub sameList : List ℕ → List ℕ → Bool
+sameList [] [] = true
+sameList [] (y ∷ ys) = false
+sameList (x ∷ xs) [] = false
+sameList (x ∷ xs) (y ∷ ys) = eqb x y && sameList xs ys
+
+unfoldable pub sameSeen : Seen → Seen → Bool
+sameSeen x y =
+    (eqb (ofWord (x .answer .word)) (ofWord (y .answer .word)) && eqb (x .answer .number) (y .answer .number))
+    && (eqb (x .running) (y .running) && sameList (x .looked) (y .looked))
+
+-- what comes of a wrong step: shown by the right one, shown by the wrong one, and whether these are two
+pub record Verdict : Type 0 where
+  pub right : Seen
+  pub wrong : Seen
+  pub apart : Bool
+
+abbrev pub found : Wrong → Verdict
+found w = record { right = showsBy step w; wrong = showsBy (w .step) w; apart = not (sameSeen (w .right) (w .wrong)) }
+
+abbrev pub told : Wrong → Verdict
+told w = record { right = w .right; wrong = w .wrong; apart = true }
+
+-- from the fresh kernel
+abbrev pub fails : Stepping → List Call → (Stepped → List ℕ) → Seen → Seen → Wrong
+fails f cs look x y = record { step = f; start = fresh; calls = cs; look = look; right = x; wrong = y }
+
+abbrev pub nothing : Stepped → List ℕ
+nothing r = []
+
+abbrev pub outcomes : Stepped → List ℕ
+outcomes r = taskAt (r .kernel .tasks) (task 1) .outcome ∷ taskAt (r .kernel .tasks) (task 2) .outcome ∷ []
+
+unfoldable pub idlePrograms : List Wrong
+idlePrograms =
+    fails turnsAllAway (Create 3 ∷ []) nothing (seen made 1 1 []) (seen refused 1 0 [])
+    ∷ fails alwaysDone (Create 3 ∷ []) nothing (seen made 1 1 []) (seen done 0 1 [])
+    ∷ fails changesNothing (Create 3 ∷ []) nothing (seen made 1 1 []) (seen made 1 0 [])
+    -- two tasks are due at one tick
+    ∷ fails (stepBy skipsTheRest chosen) (Create 3 ∷ Delay 1 ∷ Create 3 ∷ Delay 1 ∷ Tick ∷ []) outcomes (seen done 0 1 (1 ∷ 1 ∷ [])) (seen done 0 1 (1 ∷ 0 ∷ []))
+    -- the tick count after two pended ticks
+    ∷ fails (stepBy oneForAll chosen) (Hold ∷ Tick ∷ Tick ∷ Release ∷ []) (λ r. r .kernel .tick ∷ []) (seen done 0 0 (2 ∷ [])) (seen done 0 0 (1 ∷ []))
+    ∷ fails (stepBy madeUp chosen) (Hold ∷ Tick ∷ []) (λ r. r .kernel .pended ∷ []) (seen done 0 0 (1 ∷ [])) (seen done 0 0 (7 ∷ []))
+    ∷ []
+
+unfoldable pub easyMistakes : List Wrong
+easyMistakes =
+    -- task 1 has a loan of 5 on mutex 0 and gives mutex 1
+    fails (stepBy dropsGiver chosen)
+    (Create 3 ∷ MakeMutex ∷ MakeMutex ∷ Take (object 0) 0 ∷ Take (object 1) 0 ∷ Create 5 ∷ Take (object 0) 10 ∷ Give (object 1) ∷ [])
+    (λ r. level (r .kernel .tasks) (task 1) ∷ [])
+    (seen done 0 1 (5 ∷ []))
+    (seen done 0 1 (3 ∷ []))
+    -- the wake tick is 1, the count 4,294,967,295
+    ∷ record {
+      step = stepBy wakesThePast chosen;
+      start = withTick fresh 4294967294;
+      calls = Create 3 ∷ Delay 3 ∷ Tick ∷ [];
+      look = outcomes;
+      right = seen done 0 0 (0 ∷ 0 ∷ []);
+      wrong = seen done 0 1 (1 ∷ 0 ∷ []);
+    }
+    -- task 3 overtakes 1, ahead of 2 in its line, and leaves again
+    ∷ fails (stepBy effect losesTurn) (Create 3 ∷ Create 3 ∷ Create 5 ∷ Suspend (task 3) ∷ []) nothing (seen done 0 1 []) (seen done 0 2 [])
+    -- the first byte of task 1's slip, and of the queue
+    ∷ fails (stepBy staysListed chosen)
+    (MakeQueue 1 1 ∷ Create 3 ∷ Receive (object 0) 10 ∷ Suspend (task 1) ∷ Send (object 0) 0 ∷ [])
+    (λ r. getD (r .store) (slipOf (task 1)) 0 ∷ getD (r .store) 0 0 ∷ [])
+    (seen done 0 0 (0 ∷ 7 ∷ []))
+    (seen done 0 1 (7 ∷ 0 ∷ []))
+    -- the new task's number, and the holder of mutex 0
+    ∷ fails deletesHolders
+    (Create 3 ∷ MakeMutex ∷ Take (object 0) 0 ∷ Delete (task 1) ∷ Create 3 ∷ [])
+    (λ r. holderOf (kindAt (r .kernel .objects) (object 0)) .0 ∷ [])
+    (seen made 2 1 (1 ∷ []))
+    (seen made 1 1 (1 ∷ []))
+    ∷ []
+
+unfoldable pub wrongs : List Wrong
+wrongs = idlePrograms ++ easyMistakes

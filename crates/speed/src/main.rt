@@ -1,0 +1,118 @@
+// Steps to be timed from outside. Standard input has three letters: which pair of calls, how many tasks beside idle (a for none, p for fifteen), and how often, in hundreds of thousands (a for none).
+// What is written is a digit that depends on every step, so that none can be left out.
+ghost use Prim.Native.Nat.{_≤_};
+use calls::Call;
+use calls::ObjNo;
+use calls::TaskNo;
+use kernel::Kernel;
+
+// The two calls of a pair: together they leave the kernel as it was. `m` is the last task's number.
+fn first(pair: u8, m: u32) -> Call {
+    match pair {
+        97 => Call::Yield,
+        98 => Call::Hold,
+        99 => Call::Send(ObjNo::of(0), 0),
+        100 => Call::Take(ObjNo::of(1), 0),
+        101 => Call::Tick,
+        102 => Call::SetPriority(TaskNo::of(1), 4),
+        103 => Call::Suspend(TaskNo::of(m)),
+        104 => Call::Delete(TaskNo::of(m)),
+        105 => Call::MakeMutex,
+        106 => Call::MakeQueue(4, 8),
+        107 => Call::Delay(1),
+        _ => Call::Resume(TaskNo::of(1)),
+    }
+}
+
+fn second(pair: u8, m: u32) -> Call {
+    match pair {
+        97 => Call::Yield,
+        98 => Call::Release,
+        99 => Call::Receive(ObjNo::of(0), 0),
+        100 => Call::Give(ObjNo::of(1)),
+        101 => Call::Tick,
+        102 => Call::SetPriority(TaskNo::of(1), 3),
+        103 => Call::Resume(TaskNo::of(m)),
+        104 => Call::Create(3),
+        105 => Call::Remove(ObjNo::of(2)),
+        106 => Call::Remove(ObjNo::of(2)),
+        107 => Call::Tick,
+        _ => Call::Resume(TaskNo::of(1)),
+    }
+}
+
+// `m` tasks of one priority, a queue of four items of eight bytes, and a mutex.
+fn prepared(m: u32, store: &mut [u8]) -> Kernel {
+    let item = [0u8; 8];
+    let mut k = Kernel::fresh();
+    let mut i = 0u32;
+    while i < m {
+        k = k.step(Call::Create(3), &item, store).kernel;
+        i += 1;
+    }
+    k.step(Call::MakeQueue(4, 8), &item, store)
+        .kernel
+        .step(Call::MakeMutex, &item, store)
+        .kernel
+}
+
+fn both(k: Kernel, a: Call, b: Call, store: &mut [u8]) -> Kernel {
+    let item = [7u8; 8];
+    k.step(a, &item, store).kernel.step(b, &item, store).kernel
+}
+
+fn pairs(start: Kernel, a: Call, b: Call, times: u32, store: &mut [u8]) -> u32 {
+    let mut k = start;
+    let mut sum = 0u32;
+    let mut i = 0u32;
+    while i < times {
+        k = both(k, a, b, store);
+        sum = std::num::wrapping_add_u32(sum, k.running.number());
+        i += 1;
+    }
+    sum
+}
+
+// The soundness test by itself, twice a turn.
+fn tests(start: Kernel, times: u32) -> u32 {
+    let mut k = start;
+    let mut sum = 0u32;
+    let mut i = 0u32;
+    while i < times {
+        k.tick = i;
+        if k.sound() {
+            sum = std::num::wrapping_add_u32(sum, 1);
+        }
+        k.hold = 1;
+        if k.sound() {
+            sum = std::num::wrapping_add_u32(sum, 1);
+        }
+        k.hold = 0;
+        i += 1;
+    }
+    sum
+}
+
+fn letter(b: u8) -> u32
+    ensures { λ r. ⌜ r ≤ 158 ⌝ }
+{
+    if b < 97 { 0 } else { (b - 97) as u32 }
+}
+
+fn main() {
+    let mut input = [97u8; 4];
+    libc::read(libc::STDIN_FILENO, &mut input);
+    let mut store = [0u8; 9216];
+    let pair = input[0];
+    let m = letter(input[1]);
+    let times = letter(input[2]) * 100000;
+    let k = prepared(m, &mut store);
+    let mut sum = 0u32;
+    if pair == 122 {
+        sum = tests(k, times);
+    } else {
+        sum = pairs(k, first(pair, m), second(pair, m), times, &mut store);
+    }
+    let digit = [48 + (sum % 10) as u8, 10];
+    io::write_all(libc::STDOUT_FILENO, &digit);
+}

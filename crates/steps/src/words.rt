@@ -1,0 +1,101 @@
+// What a line says.
+use calls::Answer;
+use calls::Call;
+use calls::TaskNo;
+use kernel::Kernel;
+
+pub fn text(words: &[u8]) {
+    io::write_all(libc::STDOUT_FILENO, words);
+}
+
+fn number(n: u32) {
+    io::print_decimal(libc::STDOUT_FILENO, n as u64);
+}
+
+pub fn one(words: &[u8], n: u32) {
+    text(words);
+    text(b" ");
+    number(n);
+}
+
+fn two(words: &[u8], m: u32, then: &[u8], n: u32) {
+    one(words, m);
+    one(then, n);
+}
+
+fn sent(o: u32, length: usize, wait: u32) {
+    one(b"send to", o);
+    text(b", ");
+    io::print_decimal(libc::STDOUT_FILENO, length as u64);
+    one(b" bytes, wait", wait);
+}
+
+// The call and its arguments; `length` is that of the item lent with it.
+pub fn called(call: Call, length: usize) {
+    match call {
+        Call::Create(p) => one(b"create", p),
+        Call::Delete(t) => one(b"delete", t.number()),
+        Call::Suspend(t) => one(b"suspend", t.number()),
+        Call::Resume(t) => one(b"resume", t.number()),
+        Call::SetPriority(t, p) => two(b"set", t.number(), b" to priority", p),
+        Call::Delay(n) => one(b"delay", n),
+        Call::Yield => text(b"yield"),
+        Call::Hold => text(b"hold"),
+        Call::Release => text(b"release"),
+        Call::MakeQueue(c, s) => two(b"make queue of", c, b" items of size", s),
+        Call::MakeMutex => text(b"make mutex"),
+        Call::Remove(o) => one(b"remove", o.number()),
+        Call::Send(o, w) => sent(o.number(), length, w),
+        Call::Receive(o, w) => two(b"receive from", o.number(), b", wait", w),
+        Call::Take(o, w) => two(b"take", o.number(), b", wait", w),
+        Call::Give(o) => one(b"give", o.number()),
+        Call::Tick => text(b"tick"),
+    }
+}
+
+pub fn answered(a: Answer) {
+    text(b": ");
+    match a {
+        Answer::Done => one(b"done", 0),
+        Answer::Made(n) => one(b"made", n),
+        Answer::Waiting => one(b"waiting", 0),
+        Answer::Refused(n) => one(b"refused", n),
+    }
+}
+
+pub fn runs(t: u32) {
+    one(b", runs", t);
+    text(b"\n");
+}
+
+fn wide(b: u8) -> u64 {
+    b as u64
+}
+
+// The bytes of the store from one place up to another, in hex.
+pub fn bytes(words: &[u8], store: &[u8], from: usize, to: usize) {
+    text(words);
+    let mut i = from;
+    while i < to {
+        if i < store.len() {
+            io::print_hex(libc::STDOUT_FILENO, wide(store[i]), 2);
+        }
+        i += 1;
+    }
+    text(b"\n");
+}
+
+// The outcome of the task `t`.
+pub fn outcome(k: Kernel, t: TaskNo) {
+    let i = t.slot();
+    if i < 16 {
+        let x = k.tasks[i];
+        two(b"  outcome of", t.number(), b":", x.outcome as u32);
+        text(b"\n");
+    }
+}
+
+pub fn ticks(k: Kernel) {
+    one(b"  tick count:", k.tick);
+    text(b"\n");
+}

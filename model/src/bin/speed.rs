@@ -1,0 +1,59 @@
+//! The same steps as crates/speed, on the model: three letters on standard input, a digit on standard output.
+
+use model::calls::{step, Call};
+use model::check::soundness;
+use model::kernel::Kernel;
+use model::store::STORE_BYTES;
+use std::io::Read;
+
+const ITEM: [u8; 8] = [7; 8];
+
+fn pair(letter: u8, m: u32) -> (Call<'static>, Call<'static>) {
+    match letter {
+        b'a' => (Call::Yield, Call::Yield),
+        b'b' => (Call::Hold, Call::Release),
+        b'c' => (Call::Send { object: 0, item: &ITEM, wait: 0 }, Call::Receive { object: 0, wait: 0 }),
+        b'd' => (Call::Take { object: 1, wait: 0 }, Call::Give { object: 1 }),
+        b'e' => (Call::Tick, Call::Tick),
+        b'f' => (Call::SetPriority { task: 1, priority: 4 }, Call::SetPriority { task: 1, priority: 3 }),
+        b'g' => (Call::Suspend { task: m }, Call::Resume { task: m }),
+        b'h' => (Call::Delete { task: m }, Call::Create { priority: 3 }),
+        b'i' => (Call::MakeMutex, Call::Remove { object: 2 }),
+        b'j' => (Call::MakeQueue { capacity: 4, size: 8 }, Call::Remove { object: 2 }),
+        b'k' => (Call::Delay { ticks: 1 }, Call::Tick),
+        _ => (Call::Resume { task: 1 }, Call::Resume { task: 1 }),
+    }
+}
+
+fn letter(b: u8) -> u32 {
+    u32::from(b.saturating_sub(b'a'))
+}
+
+fn main() {
+    let mut input = Vec::new();
+    std::io::stdin().read_to_end(&mut input).expect("three letters");
+    let m = letter(input[1]);
+    let times = letter(input[2]) * 100_000;
+    let mut store = vec![0; STORE_BYTES];
+    let mut kernel = Kernel::fresh();
+    for _ in 0..m {
+        step(&mut kernel, &mut store, &Call::Create { priority: 3 });
+    }
+    step(&mut kernel, &mut store, &Call::MakeQueue { capacity: 4, size: 8 });
+    step(&mut kernel, &mut store, &Call::MakeMutex);
+    let mut sum = 0u32;
+    if input[0] == b'z' {
+        for _ in 0..times {
+            sum = sum.wrapping_add(u32::from(soundness(&kernel).is_ok()));
+            sum = sum.wrapping_add(u32::from(soundness(&kernel).is_ok()));
+        }
+    } else {
+        let (a, b) = pair(input[0], m);
+        for _ in 0..times {
+            step(&mut kernel, &mut store, &a);
+            step(&mut kernel, &mut store, &b);
+            sum = sum.wrapping_add(u32::from(kernel.running.number()));
+        }
+    }
+    println!("{}", sum % 10);
+}
