@@ -9,3 +9,5 @@ pub mod Together
 pub mod Refused
 pub mod Surplus
 pub mod TwoOrders
+pub mod Histories
+pub mod Faults

@@ -1,0 +1,61 @@
+-- After any calls from the fresh kernel each task is in one state and listed only where it belongs, and no ready task outranks the running one.
+use Prim.Native.Nat.{ℕ, _<_, _≤_}
+use mathlib.Core.Path.{_≡_, refl, sym, ap, _∙_}
+use mathlib.Core.Bool.{Bool, true, false, false≢true}
+use mathlib.Core.List.{List, [], _∷_}
+use native.Mathlib.Omega.{arith}
+use lib.Dec.{eqb, ltb}
+use borrow.Author.Tests.{ltb-true, ltb-false, eq-eqb}
+use Rattle.calls.specs.declared.TaskNo.{TaskNo}
+use Rattle.order.specs.Order.{listed}
+use Rattle.order.specs.Tidy.{count}
+use Rattle.slots.specs.declared.Place.{Place}
+use Rattle.slots.specs.declared.Place.the-variants.{Free, Ready, Delayed, Waiting, Suspended}
+use Rattle.slots.specs.Places.{isFree}
+use Rattle.kernel.specs.declared.Kernel.{Kernel}
+use Rattle.kernel.specs.Tables.{fresh, taskAt}
+use Rattle.kernel.specs.Lines.{line, level}
+use Rattle.kernel.specs.Sound.{sound}
+use Rattle.kernel.specs.Sentences.{Sound}
+use Rattle.kernel.proofs.Says.{sound-says}
+use Rattle.kernel.proofs.Every.{fresh-sound, step-kept}
+use Rattle.promises.specs.History.{Made, after, reached, once, states, Placed}
+
+-- soundness all the way
+pub after-sound : (k : Kernel) (ms : List Made) → sound k ≡ true → sound (after k ms) ≡ true
+unfolding after
+after-sound k [] e = e
+after-sound k (m ∷ ms) e = after-sound _ ms (step-kept k (m .call) (m .item) (m .store) e)
+
+pub reached-sound : (ms : List Made) → sound (reached ms) ≡ true
+reached-sound ms = after-sound fresh ms fresh-sound
+
+one-of-four : (p : Place) → isFree p ≡ false → states p ≡ 1
+one-of-four Free e = absurd (false≢true (sym e))
+one-of-four Ready e = refl
+one-of-four (Delayed w) e = refl
+one-of-four (Waiting o w) e = refl
+one-of-four Suspended e = refl
+
+none-listed : (n : ℕ) → count n [] ≡ 1 → ⊥
+unfolding count
+none-listed n e = omega arith
+
+pub placed : (k : Kernel) → Sound k → Placed k
+placed k S =
+    record {
+      one-state = λ t e. one-of-four (taskAt (k .tasks) t .place) e;
+      lines = S .lines;
+      lists = S .lists;
+      not-outranked = λ h t e. go h t e (ltb (level (k .tasks) (k .running)) (level (k .tasks) t)) refl;
+    }
+  where
+    go : k .hold ≡ 0 → (t : TaskNo) → taskAt (k .tasks) t .place ≡ Ready → (b : Bool) → ltb (level (k .tasks) (k .running)) (level (k .tasks) t) ≡ b → level (k .tasks) t ≤ level (k .tasks) (k .running)
+    go h t e true q =
+        let empty = S .no-higher h (level (k .tasks) t) (ltb-true _ _ q) in
+        absurd (none-listed (t .0) (ap (count (t .0)) (sym empty) ∙ S .lines (level (k .tasks) t) t ∙ rw (e, eq-eqb (level (k .tasks) t) (level (k .tasks) t) refl)))
+    go h t e false q = ltb-false _ _ q
+
+-- the first two sentences of the demand, after each history
+pub after-any-calls : (ms : List Made) → Placed (reached ms)
+after-any-calls ms = placed (reached ms) (sound-says (reached ms) (reached-sound ms))

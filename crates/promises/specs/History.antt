@@ -1,0 +1,67 @@
+-- "Start from the fresh kernel and make any calls, refused ones among them."
+use Prim.Native.Nat.{ℕ, _+_, _≤_}
+use mathlib.Core.Path.{_≡_}
+use mathlib.Core.Bool.{Bool, true, false}
+use mathlib.Core.List.{List, [], _∷_}
+use Rattle.lists.specs.Choice.{if_then_else_}
+use Rattle.calls.specs.declared.TaskNo.{TaskNo}
+use Rattle.calls.specs.declared.ObjNo.{ObjNo}
+use Rattle.calls.specs.declared.Call.{Call}
+use Rattle.order.specs.Order.{listed}
+use Rattle.order.specs.Tidy.{count}
+use Rattle.slots.specs.declared.Place.{Place}
+use Rattle.slots.specs.declared.Place.the-variants.{Free, Ready, Delayed, Waiting, Suspended}
+use Rattle.slots.specs.declared.Who.the-variants.{WaitersOf}
+use Rattle.slots.specs.Places.{isFree, isReady, isSuspended, waitsOn}
+use Rattle.slots.specs.Tasks.{inLine}
+use Rattle.kernel.specs.declared.Kernel.{Kernel}
+use Rattle.kernel.specs.Tables.{fresh, taskAt}
+use Rattle.kernel.specs.Lines.{line, those, level}
+use Rattle.kernel.specs.Step.{step}
+
+-- a call as it is made: with an item and a lent store, of whatever length
+pub record Made : Type 0 where
+  pub call : Call
+  pub item : List ℕ
+  pub store : List ℕ
+
+-- the kernel after the calls, one after the other
+unfoldable pub after : Kernel → List Made → Kernel
+after k [] = k
+after k (m ∷ ms) = after (step k (m .call) (m .item) (m .store) .kernel) ms
+
+-- "from the fresh kernel"
+abbrev pub reached : List Made → Kernel
+reached ms = after fresh ms
+
+-- delayed; waiting on an object
+abbrev pub isDelayed : Place → Bool
+isDelayed Free = false
+isDelayed Ready = false
+isDelayed (Delayed w) = true
+isDelayed (Waiting o w) = false
+isDelayed Suspended = false
+
+abbrev pub isWaiting : Place → Bool
+isWaiting Free = false
+isWaiting Ready = false
+isWaiting (Delayed w) = false
+isWaiting (Waiting o w) = true
+isWaiting Suspended = false
+
+abbrev pub once : Bool → ℕ
+once b = if b then 1 else 0
+
+-- in how many of the four states it is
+abbrev pub states : Place → ℕ
+states p = once (isReady p) + once (isDelayed p) + once (isWaiting p) + once (isSuspended p)
+
+pub record Placed (k : Kernel) : Type 0 where
+  -- "every existing task is in exactly one of the four states"
+  pub one-state : (t : TaskNo) → isFree (taskAt (k .tasks) t .place) ≡ false → states (taskAt (k .tasks) t .place) ≡ 1
+  -- "and listed only where that state belongs": in the line of its effective priority, once, if it is ready, and else in none
+  pub lines : (p : ℕ) (t : TaskNo) → count (t .0) (line (k .tasks) p (listed (k .order))) ≡ once (inLine p (taskAt (k .tasks) t))
+  -- in the list of the object that it waits on, once, and in no other
+  pub lists : (o : ObjNo) (t : TaskNo) → count (t .0) (those (k .tasks) (WaitersOf o) (listed (k .order))) ≡ once (waitsOn o (taskAt (k .tasks) t .place))
+  -- "and unless the scheduler is held no ready task outranks the running one"
+  pub not-outranked : k .hold ≡ 0 → (t : TaskNo) → taskAt (k .tasks) t .place ≡ Ready → level (k .tasks) t ≤ level (k .tasks) (k .running)
