@@ -1,15 +1,15 @@
 -- Take and give keep soundness.
 use Prim.Native.Nat.{ℕ, _<_, _≤_}
 use mathlib.Core.Path.{_≡_, refl, sym, ap, _∙_, subst}
-use mathlib.Core.Bool.{Bool, true, false, not, _&&_, false≢true}
+use mathlib.Core.Bool.{Bool, true, false, not, false≢true}
 use mathlib.Core.List.{List, [], _∷_}
 use native.Mathlib.Omega.{arith}
 use lib.Dec.{eqb, ltb}
 use lib.ListN.{length}
-use borrow.Author.Tests.{eqb-true, eqb-false, eq-eqb, ne-eqb, ltb-true, ltb-false, lt-ltb}
+use borrow.Author.Tests.{eqb-true, eqb-false, eq-eqb, ne-eqb, ltb-true, ltb-false}
 use Rattle.lists.specs.Choice.{if_then_else_}
 use Rattle.lists.specs.Lists.{larger}
-use Rattle.lists.proofs.Bools.{on}
+use Rattle.lists.proofs.Bools.{on, not-off}
 use Rattle.calls.specs.Numbers.{idle, sameTask}
 use Rattle.calls.specs.Asked.{asked}
 use Rattle.order.proofs.Lines.{one-number}
@@ -21,7 +21,7 @@ use Rattle.kernel.specs.Types.{TaskNo, ObjNo, Wake, Place, Free, Ready, 
 use Rattle.kernel.specs.Tables.{taskAt, kindAt, holds, withObject}
 use Rattle.kernel.specs.Lines.{level, first, toTail}
 use Rattle.kernel.specs.Sentences.{Holds, Exists, MayWait, taker, Sound}
-use Rattle.kernel.specs.Refusals.{namesNone, notForIdle, notWithHold, hisAlready, notHis, mustWait}
+use Rattle.kernel.specs.Refusals.{namesNone, notForIdle, hisAlready, notHis}
 use Rattle.kernel.specs.Waits.{wakeOf, readied, blocked, waitFor}
 use Rattle.kernel.specs.Loans.{prioritized, lent, ownAgain}
 use Rattle.kernel.specs.Effects.{takenFrom, taken, handedTo, handedOn, given, effect}
@@ -34,7 +34,7 @@ use Rattle.kernel.proofs.Slotted.{at-same}
 use Rattle.kernel.proofs.Objected.{object-nearly}
 use Rattle.kernel.proofs.Chosen.{sound-nearly, sound-runs}
 use Rattle.kernel.proofs.Blocks.{Same, prioritized-same, prioritized-tasks, prioritized-nearly, prioritized-runs, readied-nearly, readied-runs, blocked-nearly}
-use Rattle.kernel.proofs.Keeps.{Keeps, ready-low, apart}
+use Rattle.kernel.proofs.Keeps.{Keeps, wait-free, must-wait, some-wait, ready-low, apart}
 use Rattle.kernel.proofs.KeepTicks.{at-tick, readied-at, reopen}
 use Rattle.kernel.proofs.KeepObjects.{no-wait-free, object-low, object-runs, first-none, wake-ahead}
 
@@ -89,19 +89,13 @@ module _ (k : Kernel) (S : Sound k) (store : ℕ) where
     not-his = P .another
 
     -- where the mutex is held the wait is not 0, and there is no hold
-    some-wait : isHeld (kindAt (k .objects) o) ≡ true → 0 < w
-    unfolding asked mustWait
-    some-wait e = go (eqb w 0) refl (rw e at (P .may-wait))
-      where
-        go : (b : Bool) → eqb w 0 ≡ b → (not (not b) && true) ≡ false → 0 < w
-        go true q r = absurd (false≢true (sym r))
-        go false q r = omega (arith, eqb-false w 0 q)
+    some : isHeld (kindAt (k .objects) o) ≡ true → 0 < w
+    unfolding asked
+    some e = some-wait (asked (Take o w)) (must-wait k (asked (Take o w)) (P .may-wait) (rw e))
 
     no-hold : 0 < w → 0 < k .hold → ⊥
-    unfolding asked notWithHold
-    no-hold s h =
-        let f : eqb w 0 ≡ false = ne-eqb w 0 (λ e. omega arith) in
-        false≢true (sym (rw (lt-ltb 0 (k .hold) h, f) at (P .held)))
+    unfolding asked
+    no-hold s = wait-free k (asked (Take o w)) (P .held) (not-off (eqb w 0) (ne-eqb w 0 (λ e. omega arith)))
 
     free-taken : kindAt (k .objects) o ≡ Mutex Nobody → Keeps (withObject k o (Mutex (By (k .running))))
     free-taken e =
@@ -133,7 +127,7 @@ module _ (k : Kernel) (S : Sound k) (store : ℕ) where
         s = prioritized-same k h (taskAt (k .tasks) h .own) eff
 
         wait : 0 < w
-        wait = some-wait (ap isHeld e)
+        wait = some (ap isHeld e)
 
         holder-low : h .0 < 16
         holder-low = go (ltb (h .0) 16) refl

@@ -1,13 +1,13 @@
 -- Send and receive keep soundness.
 use Prim.Native.Nat.{ℕ, _-_, _<_}
 use mathlib.Core.Path.{_≡_, refl, sym, ap, subst}
-use mathlib.Core.Bool.{Bool, true, false, not, _&&_, false≢true}
+use mathlib.Core.Bool.{Bool, true, false, not, false≢true}
 use mathlib.Core.List.{List, [], _∷_}
 use native.Mathlib.Omega.{arith}
 use lib.Dec.{eqb, ltb}
-use borrow.Author.Tests.{eqb-true, eqb-false, eq-eqb, ne-eqb, ltb-true, ltb-false, lt-ltb}
+use borrow.Author.Tests.{eqb-true, eqb-false, eq-eqb, ne-eqb, ltb-true, ltb-false}
 use Rattle.lists.specs.Choice.{if_then_else_}
-use Rattle.lists.proofs.Bools.{on}
+use Rattle.lists.proofs.Bools.{on, not-off}
 use Rattle.calls.specs.Asked.{asked}
 use Rattle.slots.specs.Places.{waitsOn}
 use Rattle.slots.specs.Objects.{isUnused, isQueue, isMutex}
@@ -15,7 +15,7 @@ use Rattle.kernel.specs.Types.{TaskNo, ObjNo, Wake, Place, Free, Ready, 
 use Rattle.kernel.specs.Tables.{taskAt, kindAt, withObject}
 use Rattle.kernel.specs.Lines.{first, toTail}
 use Rattle.kernel.specs.Sentences.{MayWait, receiver, sender, taker, RingFits, Sound}
-use Rattle.kernel.specs.Refusals.{namesNone, notForIdle, notWithHold, mustWait}
+use Rattle.kernel.specs.Refusals.{namesNone}
 use Rattle.kernel.specs.Waits.{wakeOf, readied, blocked, waitFor}
 use Rattle.kernel.specs.Items.{oneMore, oneLess, roomOr, outletFor, outlet, sentBy, sent, sentTo, refilledBy, received, receivedFrom}
 use Rattle.kernel.specs.Effects.{effect}
@@ -25,7 +25,7 @@ use Rattle.kernel.proofs.Nearly.{settled, Nearly, Runs}
 use Rattle.kernel.proofs.Objected.{object-nearly}
 use Rattle.kernel.proofs.Chosen.{sound-nearly, sound-runs}
 use Rattle.kernel.proofs.Blocks.{readied-nearly, readied-runs, blocked-nearly}
-use Rattle.kernel.proofs.Keeps.{Keeps, ready-low, apart}
+use Rattle.kernel.proofs.Keeps.{Keeps, wait-busy, wait-free, must-wait, some-wait, ready-low, apart}
 use Rattle.kernel.proofs.KeepObjects.{not-by, object-low, object-runs, first-none, wake-ahead}
 
 queue-used : (x : Kind) → isQueue x ≡ true → isUnused x ≡ false
@@ -156,34 +156,26 @@ module _ (k : Kernel) (S : Sound k) (o : ObjNo) (q : Ring) (kind : kindAt (k .ob
 
 -- ── the rows of the table, at the two calls
 module _ (k : Kernel) (S : Sound k) (store : ℕ) (o : ObjNo) (w : ℕ) where
+  -- a wait other than 0
+  waiting : 0 < w → not (eqb w 0) ≡ true
+  waiting s = not-off (eqb w 0) (ne-eqb w 0 (λ e. omega arith))
+
   module _ (P : Passed k (asked (Send o w)) store) where
     sends-queue : isQueue (kindAt (k .objects) o) ≡ true
     unfolding asked namesNone
     sends-queue = on (isQueue (kindAt (k .objects) o)) (P .named)
 
-    send-busy : 0 < w → k .running .0 ≡ 0 → ⊥
-    unfolding asked notForIdle
-    send-busy s = eqb-false (k .running .0) 0 (rw (ne-eqb w 0 (λ e. omega arith)) at (P .idle))
-
-    send-free : 0 < w → 0 < k .hold → ⊥
-    unfolding asked notWithHold
-    send-free s h = false≢true (sym (rw (lt-ltb 0 (k .hold) h, ne-eqb w 0 (λ e. omega arith)) at (P .held)))
-
     send-waits : (q : Ring) → kindAt (k .objects) o ≡ Queue q → q .count ≡ q .capacity → 0 < w
-    unfolding asked mustWait
-    send-waits q e full = go (eqb w 0) refl (rw (e, eq-eqb (q .count) (q .capacity) full) at (P .may-wait))
-      where
-        go : (b : Bool) → eqb w 0 ≡ b → (not (not b) && true) ≡ false → 0 < w
-        go true z r = absurd (false≢true (sym r))
-        go false z r = omega (arith, eqb-false w 0 z)
+    unfolding asked
+    send-waits q e full = some-wait (asked (Send o w)) (must-wait k (asked (Send o w)) (P .may-wait) (rw (e, eq-eqb (q .count) (q .capacity) full)))
 
     pub send-keeps : Keeps (effect k (Send o w))
-    unfolding effect
+    unfolding effect asked
     send-keeps = go (kindAt (k .objects) o) refl sends-queue
       where
         go : (x : Kind) → kindAt (k .objects) o ≡ x → isQueue x ≡ true → Keeps (sentTo k o x w)
         go Unused e m = absurd (false≢true m)
-        go (Queue q) e m = sent-keeps k S o q e w (send-waits q e) send-busy send-free
+        go (Queue q) e m = sent-keeps k S o q e w (send-waits q e) (λ s. wait-busy k (asked (Send o w)) (P .idle) (waiting s)) (λ s. wait-free k (asked (Send o w)) (P .held) (waiting s))
         go (Mutex h) e m = absurd (false≢true m)
 
   module _ (P : Passed k (asked (Receive o w)) store) where
@@ -191,27 +183,15 @@ module _ (k : Kernel) (S : Sound k) (store : ℕ) (o : ObjNo) (w : ℕ) where
     unfolding asked namesNone
     receives-queue = on (isQueue (kindAt (k .objects) o)) (P .named)
 
-    receive-busy : 0 < w → k .running .0 ≡ 0 → ⊥
-    unfolding asked notForIdle
-    receive-busy s = eqb-false (k .running .0) 0 (rw (ne-eqb w 0 (λ e. omega arith)) at (P .idle))
-
-    receive-free : 0 < w → 0 < k .hold → ⊥
-    unfolding asked notWithHold
-    receive-free s h = false≢true (sym (rw (lt-ltb 0 (k .hold) h, ne-eqb w 0 (λ e. omega arith)) at (P .held)))
-
     receive-waits : (q : Ring) → kindAt (k .objects) o ≡ Queue q → q .count ≡ 0 → 0 < w
-    unfolding asked mustWait
-    receive-waits q e none = go (eqb w 0) refl (rw (e, eq-eqb (q .count) 0 none) at (P .may-wait))
-      where
-        go : (b : Bool) → eqb w 0 ≡ b → (not (not b) && true) ≡ false → 0 < w
-        go true z r = absurd (false≢true (sym r))
-        go false z r = omega (arith, eqb-false w 0 z)
+    unfolding asked
+    receive-waits q e none = some-wait (asked (Receive o w)) (must-wait k (asked (Receive o w)) (P .may-wait) (rw (e, eq-eqb (q .count) 0 none)))
 
     pub receive-keeps : Keeps (effect k (Receive o w))
-    unfolding effect
+    unfolding effect asked
     receive-keeps = go (kindAt (k .objects) o) refl receives-queue
       where
         go : (x : Kind) → kindAt (k .objects) o ≡ x → isQueue x ≡ true → Keeps (receivedFrom k o x w)
         go Unused e m = absurd (false≢true m)
-        go (Queue q) e m = received-keeps k S o q e w (receive-waits q e) receive-busy receive-free
+        go (Queue q) e m = received-keeps k S o q e w (receive-waits q e) (λ s. wait-busy k (asked (Receive o w)) (P .idle) (waiting s)) (λ s. wait-free k (asked (Receive o w)) (P .held) (waiting s))
         go (Mutex h) e m = absurd (false≢true m)

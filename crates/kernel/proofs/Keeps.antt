@@ -1,23 +1,26 @@
 -- What a call's effect has to keep, and how it makes the step keep soundness.
 use Prim.Native.Nat.{ℕ, suc, _<_, _≤_}
 use mathlib.Core.Path.{_≡_, refl, sym, ap, _∙_}
-use mathlib.Core.Bool.{Bool, true, false, _||_, false≢true}
+use mathlib.Core.Bool.{Bool, true, false, not, _&&_, _||_, false≢true}
 use mathlib.Core.List.{List, [], _∷_}
 use native.Mathlib.Omega.{arith}
 use lib.Dec.{eqb, ltb}
 use lib.ListN.{length, getD}
-use borrow.Author.Tests.{ltb-true, ltb-false, eqb-true}
+use borrow.Author.Tests.{ltb-true, ltb-false, lt-ltb, eqb-true, eqb-false}
 use Rattle.lists.specs.Choice.{if_then_else_}
 use Rattle.lists.specs.Lists.{index}
+use Rattle.lists.proofs.Bools.{off}
+use Rattle.calls.specs.Numbers.{sameTask, isIdle}
 use Rattle.calls.specs.Asked.{asked}
 use Rattle.slots.specs.Places.{isFree}
 use Rattle.slots.specs.Tasks.{freeTask}
-use Rattle.kernel.specs.Types.{TaskNo, Place, Ready, Task, Call, Kernel}
-use Rattle.kernel.specs.Tables.{taskAt}
+use Rattle.kernel.specs.Types.{TaskNo, Place, Ready, Task, Asked, Call, Kernel}
+use Rattle.kernel.specs.Tables.{taskAt, kindAt}
 use Rattle.kernel.specs.Lines.{chosen}
 use Rattle.kernel.specs.Sound.{sound}
 use Rattle.kernel.specs.Sentences.{Exists, Sound}
-use Rattle.kernel.specs.Refusals.{laterRow, refusal}
+use Rattle.kernel.specs.Asking.{is, stops, waits}
+use Rattle.kernel.specs.Refusals.{notForIdle, notWithHold, stopsAt, mustWait, laterRow, refusal}
 use Rattle.kernel.specs.Effects.{effect}
 use Rattle.kernel.specs.Step.{accepted, turnedAway, step}
 use Rattle.kernel.proofs.Slots.{past-tasks}
@@ -47,6 +50,36 @@ kept k c item s e f = rw e (go (eqb (laterRow k (asked c) (length item) (length 
 pub or-off : (a b : Bool) → (a || b) ≡ false → (a ≡ false) × (b ≡ false)
 or-off true b e = absurd (false≢true (sym e))
 or-off false b e = (refl, e)
+
+-- a call with a wait is not idle's, and not made with a hold
+or-true : (a b : Bool) → b ≡ true → (a || b) ≡ true
+or-true true b e = refl
+or-true false b e = e
+
+pub wait-busy : (k : Kernel) (a : Asked) → notForIdle k a ≡ false → waits a ≡ true → k .running .0 ≡ 0 → ⊥
+unfolding notForIdle
+wait-busy k a e w =
+    let f : ((is 6 a || (is 15 a || waits a)) && isIdle (k .running)) ≡ false = or-off (is 5 a && (isIdle (a .task) && not (eqb (a .priority) 0))) _ (or-off (stops a && isIdle (a .task)) _ e .1) .1 in
+    let g : (is 6 a || (is 15 a || waits a)) ≡ true = or-true (is 6 a) (is 15 a || waits a) (or-true (is 15 a) (waits a) w) in
+    eqb-false (k .running .0) 0 (rw g at f)
+
+pub wait-free : (k : Kernel) (a : Asked) → notWithHold k a ≡ false → waits a ≡ true → 0 < k .hold → ⊥
+unfolding notWithHold
+wait-free k a e w h =
+    let f : (is 6 a || (is 7 a || (waits a || (stops a && sameTask (a .task) (k .running))))) ≡ false = rw (lt-ltb 0 (k .hold) h) at e in
+    false≢true (sym (or-off (waits a) _ (or-off (is 7 a) _ (or-off (is 6 a) _ f .1) .1) .0) ∙ w)
+
+-- where the caller would have to wait, the wait is not 0
+pub must-wait : (k : Kernel) (a : Asked) → mustWait k a ≡ false → stopsAt a (kindAt (k .objects) (a .object)) ≡ true → waits a ≡ true
+unfolding mustWait
+must-wait k a e s = go (waits a) (rw s at e)
+  where
+    go : (b : Bool) → (not b && true) ≡ false → b ≡ true
+    go true q = refl
+    go false q = absurd (false≢true (sym q))
+
+pub some-wait : (a : Asked) → waits a ≡ true → 0 < a .wait
+some-wait a e = omega (arith, eqb-false (a .wait) 0 (off (eqb (a .wait) 0) e))
 
 -- a task that exists has a slot
 pub exists-low : (ts : List Task) (t : TaskNo) → length ts ≡ 16 → isFree (taskAt ts t .place) ≡ false → t .0 < 16

@@ -1,7 +1,7 @@
 -- Five faults that the published models or FreeRTOS itself have, and that cannot happen here: after any calls from the fresh kernel.
 use Prim.Native.Nat.{ℕ, _<_, _≤_}
-use mathlib.Core.Path.{_≡_, refl, sym, ap, _∙_}
-use mathlib.Core.Bool.{Bool, true, false}
+use mathlib.Core.Path.{_≡_, ap, _∙_}
+use mathlib.Core.Bool.{true}
 use mathlib.Core.List.{List}
 use lib.ListN.{length}
 use native.Mathlib.Omega.{arith}
@@ -12,8 +12,7 @@ use Rattle.calls.specs.Numbers.{idle}
 use Rattle.slots.specs.declared.Wake.{Wake}
 use Rattle.slots.specs.declared.Place.the-variants.{Ready, Waiting}
 use Rattle.slots.specs.declared.Kind.{Kind}
-use Rattle.slots.specs.declared.Kind.the-variants.{Unused, Queue, Mutex}
-use Rattle.slots.specs.declared.Task.{Task}
+use Rattle.slots.specs.declared.Kind.the-variants.{Unused}
 use Rattle.slots.specs.Tasks.{ranked}
 use Rattle.kernel.specs.declared.Kernel.{Kernel}
 use Rattle.kernel.specs.Tables.{taskAt, kindAt, holds}

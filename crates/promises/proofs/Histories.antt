@@ -1,10 +1,10 @@
 -- After any calls from the fresh kernel each task is in one state and listed only where it belongs, and no ready task outranks the running one.
-use Prim.Native.Nat.{ℕ, _<_, _≤_}
+use Prim.Native.Nat.{ℕ, _≤_}
 use mathlib.Core.Path.{_≡_, refl, sym, ap, _∙_}
 use mathlib.Core.Bool.{Bool, true, false, false≢true}
 use mathlib.Core.List.{List, [], _∷_}
 use native.Mathlib.Omega.{arith}
-use lib.Dec.{eqb, ltb}
+use lib.Dec.{ltb}
 use borrow.Author.Tests.{ltb-true, ltb-false, eq-eqb}
 use Rattle.calls.specs.declared.TaskNo.{TaskNo}
 use Rattle.order.specs.Order.{listed}
@@ -14,12 +14,12 @@ use Rattle.slots.specs.declared.Place.the-variants.{Free, Ready, Delayed, Waiti
 use Rattle.slots.specs.Places.{isFree}
 use Rattle.kernel.specs.declared.Kernel.{Kernel}
 use Rattle.kernel.specs.Tables.{fresh, taskAt}
-use Rattle.kernel.specs.Lines.{line, level}
+use Rattle.kernel.specs.Lines.{level}
 use Rattle.kernel.specs.Sound.{sound}
 use Rattle.kernel.specs.Sentences.{Sound}
 use Rattle.kernel.proofs.Says.{sound-says}
 use Rattle.kernel.proofs.Every.{fresh-sound, step-kept}
-use Rattle.promises.specs.History.{Made, after, reached, once, states, Placed}
+use Rattle.promises.specs.History.{Made, after, reached, states, Placed}
 
 -- soundness all the way
 pub after-sound : (k : Kernel) (ms : List Made) → sound k ≡ true → sound (after k ms) ≡ true
