@@ -1,4 +1,4 @@
-// Whether a kernel value is sound: one pass over each table, and the order counted once.
+// Whether a kernel value is sound: the order counted into tallies, the holders marked, then each table walked once; nothing is searched for each slot.
 ghost use mathlib.Core.Path.{_≡_};
 ghost use Prim.Native.Nat.{ℕ};
 ghost use mathlib.Core.List.{List};
