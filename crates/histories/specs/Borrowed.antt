@@ -1,0 +1,60 @@
+-- "Borrowed priority is paid back": what a task's effective priority is, told by the moments of the history alone.
+use Prim.Native.Nat.{ℕ}
+use mathlib.Core.Bool.{Bool, _&&_, _||_}
+use mathlib.Core.List.{List, [], _∷_, _++_, map}
+use Rattle.lists.specs.Choice.{if_then_else_}
+use Rattle.lists.specs.Lists.{larger, kept}
+use Rattle.calls.specs.Numbers.{sameTask}
+use Rattle.calls.specs.Asked.{asked}
+use Rattle.slots.specs.Places.{waited}
+use Rattle.slots.specs.Objects.{heldBy}
+use Rattle.kernel.specs.Tables.{taskAt, kindAt}
+use Rattle.kernel.specs.Lines.{level}
+use Rattle.kernel.specs.Asking.{is}
+use Rattle.histories.specs.Types.{TaskNo, Kernel}
+use Rattle.histories.specs.Moments.{Moment, hasMutex, appears, begins, accepted, tasksBelow}
+
+-- the largest of several, 0 for none
+unfoldable pub largest : List ℕ → ℕ
+largest [] = 0
+largest (n ∷ ns) = larger n (largest ns)
+
+-- "given to it by its creation": by a create at which the task appears
+abbrev pub isCreated : TaskNo → Moment → Bool
+isCreated t m = is 1 (asked (m .call)) && appears m t
+
+-- "or an accepted change": by a set priority of this task
+abbrev pub isChanged : TaskNo → Moment → Bool
+isChanged t m = is 5 (asked (m .call)) && (sameTask (asked (m .call) .task) t && accepted m)
+
+-- the priority given to t at the moment: a list of one, or of none
+unfoldable pub given : TaskNo → Moment → List ℕ
+given t m = if isCreated t m || isChanged t m then asked (m .call) .priority ∷ [] else []
+
+-- "the priority last given to it": its creation gives one, so a slot's earlier tasks are not asked; idle counts as created with 0
+abbrev pub lastOf : List ℕ → ℕ → ℕ
+lastOf [] n = n
+lastOf (p ∷ ps) n = p
+
+unfoldable pub lastGiven : TaskNo → List Moment → ℕ
+lastGiven t [] = 0
+lastGiven t (m ∷ earlier) = lastOf (given t m) (lastGiven t earlier)
+
+-- the task u "began to wait on a mutex this task then held"
+abbrev pub lends : TaskNo → Moment → TaskNo → Bool
+lends t m u =
+    let o = waited (taskAt (m .after .tasks) u .place) in begins m u o && heldBy t (kindAt (m .after .objects) o)
+
+-- each such "waiter's effective priority at that moment"
+unfoldable pub lent : TaskNo → Moment → List ℕ
+lent t m = map (level (m .after .tasks)) (kept (lends t m) (tasksBelow 16))
+
+-- "the priority it had when it went from none to one, those given to it since, and, for each later moment .., the waiter's effective priority"
+unfoldable pub counted : TaskNo → List Moment → List ℕ
+counted t [] = []
+counted t (m ∷ earlier) =
+    if hasMutex (m .before) t then given t m ++ (lent t m ++ counted t earlier) else level (m .before .tasks) t ∷ []
+
+-- "a task without a mutex has exactly the priority last given to it"; "A task with one has the largest of" those counted
+unfoldable pub due : Kernel → List Moment → TaskNo → ℕ
+due k past t = if hasMutex k t then largest (counted t past) else lastGiven t past

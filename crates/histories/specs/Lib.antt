@@ -1,0 +1,4 @@
+pub mod Types
+pub mod Moments
+pub mod Borrowed
+pub mod Tales

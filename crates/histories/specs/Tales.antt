@@ -1,0 +1,98 @@
+-- Histories of a task's effective priority: calls, and what the task has after each of them.
+use Prim.Native.Nat.{ℕ}
+use mathlib.Core.List.{List, [], _∷_, map}
+use lib.ListN.{replicate}
+use Rattle.lists.specs.Choice.{if_then_else_}
+use Rattle.calls.specs.Numbers.{task, object}
+use Rattle.kernel.specs.Tables.{fresh}
+use Rattle.kernel.specs.Lines.{level}
+use Rattle.promises.specs.History.{Made}
+use Rattle.histories.specs.Types.{TaskNo, Kernel, Call, Create, Delete, SetPriority, Delay, MakeMutex, Take, Give, Tick}
+use Rattle.histories.specs.Moments.{Moment, momentOf, exists}
+use Rattle.histories.specs.Borrowed.{due}
+
+-- what the kernel says and what its history says, after a call; nothing where the task does not exist
+abbrev pub shownIn : TaskNo → Kernel → List Moment → List ℕ
+shownIn t k past = if exists k t then level (k .tasks) t ∷ due k past t ∷ [] else []
+
+-- every call with an empty item and a store of zeros
+abbrev pub plain : Call → Made
+plain c = record { call = c; item = []; store = replicate 9216 0 }
+
+unfoldable pub shownFrom : TaskNo → Kernel → List Moment → List Call → List (List ℕ)
+shownFrom t k past [] = []
+shownFrom t k past (c ∷ cs) =
+    let n = momentOf k (plain c) in shownIn t (n .after) (n ∷ past) ∷ shownFrom t (n .after) (n ∷ past) cs
+
+pub record Tale : Type 0 where
+  pub task : TaskNo
+  pub calls : List Call
+  pub expected : List (List ℕ)
+
+abbrev pub shown : Tale → List (List ℕ)
+shown w = shownFrom (w .task) fresh [] (w .calls)
+
+-- kernel and history agree; there is no such task
+abbrev pub both : ℕ → List ℕ
+both n = n ∷ n ∷ []
+
+abbrev pub gone : List ℕ
+gone = []
+
+-- task 2 lends 5 on mutex 0; task 1 gives that one, then the other
+unfoldable pub twoGives : Tale
+twoGives = record {
+  task = task 1;
+  calls = Create 3 ∷ MakeMutex ∷ MakeMutex ∷ Take (object 0) 0 ∷ Take (object 1) 0 ∷ Create 5 ∷ Take (object 0) 10 ∷ Give (object 0) ∷ Give (object 1) ∷ [];
+  expected = both 3 ∷ both 3 ∷ both 3 ∷ both 3 ∷ both 3 ∷ both 3 ∷ both 5 ∷ both 5 ∷ both 3 ∷ [];
+}
+
+-- with a loan of 5 the task is set to 2, then to 7, then to 4
+unfoldable pub setWithLoan : Tale
+setWithLoan = record {
+  task = task 1;
+  calls = Create 3 ∷ MakeMutex ∷ Take (object 0) 0 ∷ Create 5 ∷ Take (object 0) 10 ∷ SetPriority (task 1) 2 ∷ SetPriority (task 1) 7 ∷ SetPriority (task 1) 4 ∷ Give (object 0) ∷ [];
+  expected = both 3 ∷ both 3 ∷ both 3 ∷ both 3 ∷ both 5 ∷ both 5 ∷ both 7 ∷ both 7 ∷ both 4 ∷ [];
+}
+
+-- the waiter's time runs out, and then it delays: the loan stays until the give
+unfoldable pub timeRunsOut : Tale
+timeRunsOut = record {
+  task = task 1;
+  calls = Create 3 ∷ MakeMutex ∷ Take (object 0) 0 ∷ Create 5 ∷ Take (object 0) 1 ∷ Tick ∷ Delay 9 ∷ Give (object 0) ∷ [];
+  expected = both 3 ∷ both 3 ∷ both 3 ∷ both 3 ∷ both 5 ∷ both 5 ∷ both 5 ∷ both 3 ∷ [];
+}
+
+-- task 2 is handed the mutex, and with it the waiter 3, which is then set to 9; task 4 begins to wait later
+unfoldable pub handedWithWaiter : Tale
+handedWithWaiter = record {
+  task = task 2;
+  calls =
+      Create 3
+      ∷ MakeMutex
+      ∷ Take (object 0) 0
+      ∷ Create 6
+      ∷ Take (object 0) 10
+      ∷ Create 7
+      ∷ Take (object 0) 10
+      ∷ SetPriority (task 3) 5
+      ∷ Give (object 0)
+      ∷ SetPriority (task 3) 9
+      ∷ Create 8
+      ∷ Take (object 0) 10
+      ∷ Give (object 0)
+      ∷ [];
+  expected = gone ∷ gone ∷ gone ∷ both 6 ∷ both 6 ∷ both 6 ∷ both 6 ∷ both 6 ∷ both 6 ∷ both 6 ∷ both 6 ∷ both 8 ∷ both 6 ∷ [];
+}
+
+-- a change to 40 is refused, without a mutex and with one
+unfoldable pub refusedChange : Tale
+refusedChange = record {
+  task = task 1;
+  calls = Create 3 ∷ SetPriority (task 1) 40 ∷ MakeMutex ∷ Take (object 0) 0 ∷ SetPriority (task 1) 40 ∷ Give (object 0) ∷ [];
+  expected = both 3 ∷ both 3 ∷ both 3 ∷ both 3 ∷ both 3 ∷ both 3 ∷ [];
+}
+
+-- the slot's first task had 5, the next has 3
+unfoldable pub slotUsedAgain : Tale
+slotUsedAgain = record { task = task 1; calls = Create 5 ∷ Delete (task 1) ∷ Create 3 ∷ []; expected = both 5 ∷ gone ∷ both 3 ∷ [] }
