@@ -1,1 +1,3 @@
-pub mod Told
+pub mod Largest
+pub mod Quiet
+pub mod QuietCalls

@@ -1,0 +1,162 @@
+-- The calls that give and lend no priority are quiet, for every task.
+use Prim.Native.Nat.{ℕ, zero, suc, _+_, _-_}
+use mathlib.Core.Path.{_≡_, refl, sym, ap, _∙_, subst}
+use mathlib.Core.Bool.{Bool, true, false, false≢true}
+use mathlib.Core.List.{List, [], _∷_}
+use native.Mathlib.Omega.{arith}
+use lib.Dec.{eqb, ltb}
+use borrow.Author.Tests.{eqb-true}
+use Rattle.lists.specs.Choice.{if_then_else_}
+use Rattle.lists.specs.Lists.{upTo}
+use Rattle.lists.proofs.Bools.{on}
+use Rattle.calls.specs.Numbers.{task}
+use Rattle.calls.specs.Asked.{asked}
+use Rattle.order.specs.Order.{listed}
+use Rattle.slots.specs.Places.{isFree, isSuspended, isBlocked, isListed, waitsOn, wakesAt, outcomeDue}
+use Rattle.slots.specs.Tasks.{brokenOff}
+use Rattle.slots.specs.Objects.{isQueue}
+use Rattle.kernel.specs.Tables.{taskAt, kindAt, withTask, withTick, withHold}
+use Rattle.kernel.specs.Lines.{level, first, toTail, leaves}
+use Rattle.kernel.specs.Sound.{noHigher}
+use Rattle.kernel.specs.Sentences.{Holds, Sound}
+use Rattle.kernel.specs.Refusals.{namesNone, notSuspended}
+use Rattle.kernel.specs.Waits.{later, wakeOf, readied, blocked, waitFor}
+use Rattle.kernel.specs.Ticks.{wokenIfDue, wakes, oneTick, turned, ticked, ticks, released, held}
+use Rattle.kernel.specs.Items.{oneLess, oneMore, roomOr, outletFor, outlet, sentBy, sent, sentTo, refilledBy, received, receivedFrom}
+use Rattle.kernel.specs.Effects.{suspended, resumed, yielded, delayed, queueMade, mutexMade, removed, handedTo, handedOn, effect}
+use Rattle.kernel.proofs.Within.{first-meant, first-single}
+use Rattle.kernel.proofs.Passes.{Passed}
+use Rattle.histories.specs.Types.{TaskNo, ObjNo, Place, Free, Ready, Delayed, Waiting, Suspended, Ring, By, Kind, Unused, Queue, Mutex, Object, WaitersOf, toWaiter, toQueue, toCaller, Kernel, Suspend, Resume, Delay, Yield, Hold, Release, MakeQueue, MakeMutex, Remove, Send, Receive, Tick}
+use Rattle.histories.proofs.Quiet.{Quiet, still, onward, placed-quiet}
+
+-- from a kernel to the next
+abbrev pub Quietly : TaskNo → Kernel → Kernel → Type 0
+Quietly t k j = Quiet t (j .objects) (k .tasks) (j .tasks)
+
+-- who waits, is due or is suspended exists
+waits-there : (o : ObjNo) (p : Place) → waitsOn o p ≡ true → isFree p ≡ false
+waits-there o Free e = absurd (false≢true e)
+waits-there o Ready e = refl
+waits-there o (Delayed w) e = refl
+waits-there o (Waiting q w) e = refl
+waits-there o Suspended e = refl
+
+due-there : (n : ℕ) (p : Place) → wakesAt n p ≡ true → isFree p ≡ false
+due-there n Free e = absurd (false≢true e)
+due-there n Ready e = refl
+due-there n (Delayed w) e = refl
+due-there n (Waiting q w) e = refl
+due-there n Suspended e = refl
+
+one-object : (x y : ObjNo) → x .0 ≡ y .0 → x ≡ y
+one-object x y e = λ i. record { 0 = e i }
+
+-- ── the building blocks
+module _ (t : TaskNo) (os : List Object) where
+  pub readied-quiet : (j : Kernel) (u : TaskNo) (n : ℕ) → isFree (taskAt (j .tasks) u .place) ≡ false → Quiet t os (j .tasks) (readied j u n .tasks)
+  unfolding readied toTail
+  readied-quiet j u n e = placed-quiet t os (j .tasks) u Ready n refl e (λ o h w. false≢true w)
+
+  -- the caller waits on what is no mutex of t
+  pub wait-quiet : (j : Kernel) (o : ObjNo) (w : ℕ) → isFree (taskAt (j .tasks) (j .running) .place) ≡ false → (Holds os t o → ⊥) → Quiet t os (j .tasks) (waitFor j o w .tasks)
+  unfolding waitFor blocked toTail
+  wait-quiet j o w e n = placed-quiet t os (j .tasks) (j .running) (Waiting o (wakeOf (j .tick) w)) 0 refl e (λ p h q. n (subst (λ x. Holds os t x) (one-object p o (sym (eqb-true (o .0) (p .0) q))) h))
+
+  woken-quiet : (j : Kernel) (n : ℕ) → Quiet t os (j .tasks) (wokenIfDue j n .tasks)
+  unfolding wokenIfDue
+  woken-quiet j n = go (wakesAt (j .tick) (taskAt (j .tasks) (task n) .place)) refl
+    where
+      go : (b : Bool) → wakesAt (j .tick) (taskAt (j .tasks) (task n) .place) ≡ b
+          → Quiet t os (j .tasks) ((if b then readied j (task n) (outcomeDue (taskAt (j .tasks) (task n) .place)) else j) .tasks)
+      go true e = readied-quiet j (task n) _ (due-there (j .tick) (taskAt (j .tasks) (task n) .place) e)
+      go false e = still
+
+  loop-quiet : (f : Kernel → ℕ → Kernel) → ((j : Kernel) (n : ℕ) → Quiet t os (j .tasks) (f j n .tasks)) → (n : ℕ) (j : Kernel) → Quiet t os (j .tasks) (upTo f n j .tasks)
+  unfolding upTo
+  loop-quiet f q zero j = still
+  loop-quiet f q (suc n) j = onward (loop-quiet f q n j) (q (upTo f n j) n)
+
+  tick-quiet : (j : Kernel) → Quiet t os (j .tasks) (oneTick j .tasks)
+  unfolding oneTick wakes
+  tick-quiet j = loop-quiet wokenIfDue woken-quiet 16 (withTick j (later (j .tick) 1))
+
+  ticked-quiet : (j : Kernel) → Quiet t os (j .tasks) (ticked j .tasks)
+  unfolding ticked turned toTail
+  ticked-quiet j = go (ltb 0 (j .hold)) (noHigher (oneTick j .tasks) (level (oneTick j .tasks) (oneTick j .running)) (listed (oneTick j .order)))
+    where
+      go : (a b : Bool) → Quiet t os (j .tasks) ((if a then withHold j (j .hold) (j .pended + 1) else (if b then toTail (oneTick j) (oneTick j .running) else oneTick j)) .tasks)
+      go true b = still
+      go false true = tick-quiet j
+      go false false = tick-quiet j
+
+  released-quiet : (j : Kernel) → Quiet t os (j .tasks) (released j .tasks)
+  unfolding released ticks
+  released-quiet j = go (eqb (j .hold) 1)
+    where
+      go : (b : Bool) → Quiet t os (j .tasks) ((if b then ticks (j .pended) (withHold j 0 0) else withHold j (j .hold - 1) (j .pended)) .tasks)
+      go true = loop-quiet (λ x i. oneTick x) (λ x i. tick-quiet x) (j .pended) (withHold j 0 0)
+      go false = still
+
+-- ── the calls
+module _ (k : Kernel) (S : Sound k) (t : TaskNo) where
+  caller-there : isFree (taskAt (k .tasks) (k .running) .place) ≡ false
+  caller-there = ap isFree (S .runs)
+
+  first-there : (o : ObjNo) (u : TaskNo) (r : List TaskNo) → first k (WaitersOf o) ≡ u ∷ r → isFree (taskAt (k .tasks) u .place) ≡ false
+  first-there o u r e = waits-there o (taskAt (k .tasks) u .place) (first-meant k (WaitersOf o) u (first-single k (WaitersOf o) u r e))
+
+  -- the first waiter is made ready, and takes the mutex over
+  pub handed-quiet : (o : ObjNo) → Quietly t k (handedOn k o)
+  unfolding handedOn
+  handed-quiet o = go (first k (WaitersOf o)) refl
+    where
+      go : (f : List TaskNo) → first k (WaitersOf o) ≡ f → Quietly t k (handedTo k o f)
+      go [] e = still
+      go (u ∷ r) e = readied-quiet t (handedTo k o (u ∷ r) .objects) k u 1 (first-there o u r e)
+
+  delayed-quiet : (n : ℕ) → Quietly t k (delayed k n)
+  unfolding delayed yielded blocked toTail
+  delayed-quiet n = go (eqb n 0)
+    where
+      go : (b : Bool) → Quietly t k (if b then yielded k else blocked k (Delayed (later (k .tick) n)))
+      go true = still
+      go false = placed-quiet t (k .objects) (k .tasks) (k .running) (Delayed (later (k .tick) n)) 0 refl caller-there (λ o h w. false≢true w)
+
+  suspended-quiet : (u : TaskNo) → isFree (taskAt (k .tasks) u .place) ≡ false → Quietly t k (suspended k u)
+  unfolding suspended leaves
+  suspended-quiet u e = go (isListed (taskAt (k .tasks) u .place))
+    where
+      go : (b : Bool) → Quietly t k (if b then leaves (withTask k u (brokenOff (taskAt (k .tasks) u))) u else k)
+      go true = placed-quiet t (k .objects) (k .tasks) u Suspended (if isBlocked (taskAt (k .tasks) u .place) then 3 else taskAt (k .tasks) u .outcome) refl e (λ o h w. false≢true w)
+      go false = still
+
+  -- a queue is no mutex of t
+  module _ (o : ObjNo) (q : Ring) (w : ℕ) (kind : kindAt (k .objects) o ≡ Queue q) where
+    caller-waits : Quietly t k (waitFor k o w)
+    unfolding waitFor blocked toTail
+    caller-waits = wait-quiet t (k .objects) k o w caller-there (λ h. let z : _≡_ {A = ℕ} 0 1 = cc in omega arith)
+
+    sent-quiet : Quietly t k (sent k o q w)
+    unfolding sent outlet
+    sent-quiet = go (first k (WaitersOf o)) refl
+      where
+        room : (b : Bool) → Quietly t k (sentBy k o q w (if b then toQueue else toCaller))
+        room true = still
+        room false = caller-waits
+
+        told : (u : TaskNo) (r : List TaskNo) → first k (WaitersOf o) ≡ u ∷ r → (b : Bool) → Quietly t k (sentBy k o q w (if b then toWaiter u else roomOr q))
+        told u r e true = readied-quiet t (readied k u 1 .objects) k u 1 (first-there o u r e)
+        told u r e false = room (ltb (q .count) (q .capacity))
+
+        go : (f : List TaskNo) → first k (WaitersOf o) ≡ f → Quietly t k (sentBy k o q w (outletFor q f))
+        go [] e = room (ltb (q .count) (q .capacity))
+        go (u ∷ r) e = told u r e (eqb (q .count) 0)
+
+    received-quiet : Quietly t k (received k o q w)
+    unfolding received
+    received-quiet = go (eqb (q .count) 0) (first k (WaitersOf o)) refl
+      where
+        go : (b : Bool) (f : List TaskNo) → first k (WaitersOf o) ≡ f → Quietly t k (if b then waitFor k o w else refilledBy k o (oneLess q) f)
+        go true f e = caller-waits
+        go false [] e = still
+        go false (u ∷ r) e = readied-quiet t (refilledBy k o (oneLess q) (u ∷ r) .objects) _ u 1 (first-there o u r e)
