@@ -1,3 +1,5 @@
 pub mod Largest
 pub mod Quiet
 pub mod QuietCalls
+pub mod Fair
+pub mod FairTasks

@@ -1,0 +1,191 @@
+-- Create, delete and set priority are fair.
+use Prim.Native.Nat.{ℕ, _<_}
+use mathlib.Core.Path.{_≡_, refl, sym, ap, _∙_, subst}
+use mathlib.Core.Bool.{Bool, true, false, not, _&&_, false≢true}
+use mathlib.Core.List.{List, [], _∷_}
+use native.Mathlib.Omega.{arith}
+use lib.Dec.{eqb}
+use lib.ListN.{length, set}
+use borrow.Author.Tests.{eqb-true, eqb-false, eq-eqb, ne-eqb}
+use Rattle.lists.specs.Choice.{if_then_else_}
+use Rattle.lists.specs.Lists.{larger}
+use Rattle.calls.specs.Numbers.{task, sameTask}
+use Rattle.calls.specs.Asked.{asked}
+use Rattle.calls.specs.Said.{Saying}
+use Rattle.order.proofs.Lines.{one-number}
+use Rattle.slots.specs.Places.{isFree, waitsOn}
+use Rattle.slots.specs.Tasks.{freeTask, readyAt, ranked}
+use Rattle.kernel.specs.Tables.{taskAt, kindAt, holds, freeSlot}
+use Rattle.kernel.specs.Lines.{level, toTail, leaves}
+use Rattle.kernel.specs.Sentences.{Holds, Sound}
+use Rattle.kernel.specs.Refusals.{namesNone, noSlot, inUse}
+use Rattle.kernel.specs.Loans.{prioritized, newPriority}
+use Rattle.kernel.specs.Effects.{created, deleted}
+use Rattle.kernel.proofs.Says.{none-holds}
+use Rattle.kernel.proofs.Passes.{Passed}
+use Rattle.kernel.proofs.Slotted.{at-same}
+use Rattle.kernel.proofs.Blocks.{prioritized-same, prioritized-tasks}
+use Rattle.kernel.proofs.Keeps.{or-off, exists-low, index-most, index-passes}
+use Rattle.histories.specs.Types.{TaskNo, ObjNo, Place, Free, Ready, Delayed, Waiting, Suspended, Task, Kernel, Call, Create, Delete, SetPriority}
+use Rattle.histories.specs.Moments.{Moment, isRefusal, appears}
+use Rattle.histories.specs.Borrowed.{largest, given, lent}
+use Rattle.histories.proofs.Largest.{larger-max}
+use Rattle.histories.proofs.Quiet.{Quiet, each, slot-quiet, ranked-quiet}
+use Rattle.histories.proofs.QuietCalls.{Quietly}
+use Rattle.histories.proofs.Fair.{Fair, Lends, on, none-given, none-lent, quiet-fair, bare-fair}
+
+-- the moment of an accepted call
+abbrev pub at : Kernel → Call → Saying → Kernel → Moment
+at k c a j = record { before = k; call = c; answer = a; after = j }
+
+-- one task, and every other
+pub that-or-other : (u t : TaskNo) (P : TaskNo → Type 0) → P u → ((u .0 ≡ t .0 → ⊥) → P t) → P t
+that-or-other u t P h o = go (sameTask u t) refl
+  where
+    go : (b : Bool) → sameTask u t ≡ b → P t
+    go true e = subst P (one-number u t (eqb-true (u .0) (t .0) e)) h
+    go false e = o (eqb-false (u .0) (t .0) e)
+
+pub no-place : (p : Place) → isFree p ≡ true → p ≡ Free
+no-place Free e = refl
+no-place Ready e = absurd (false≢true e)
+no-place (Delayed w) e = absurd (false≢true e)
+no-place (Waiting o w) e = absurd (false≢true e)
+no-place Suspended e = absurd (false≢true e)
+
+-- a priority changed leaves every place
+pub places-kept : (k : Kernel) (t : TaskNo) (own eff : ℕ) (v : TaskNo) → taskAt (prioritized k t own eff .tasks) v .place ≡ taskAt (k .tasks) v .place
+places-kept k t own eff v =
+    ap (λ ts. taskAt ts v .place) (prioritized-tasks k t own eff)
+    ∙ each (k .tasks) t (ranked (taskAt (k .tasks) t) own eff) (λ v y. y .place ≡ taskAt (k .tasks) v .place) refl (λ v. refl) v
+
+pub ranked-at : (k : Kernel) (t : TaskNo) (own eff : ℕ) → t .0 < length (k .tasks) → taskAt (prioritized k t own eff .tasks) t ≡ ranked (taskAt (k .tasks) t) own eff
+ranked-at k t own eff low = ap (λ ts. taskAt ts t) (prioritized-tasks k t own eff) ∙ at-same (k .tasks) t (ranked (taskAt (k .tasks) t) own eff) low
+
+pub prioritized-quiet : (k : Kernel) (t u : TaskNo) (own eff : ℕ) → (u .0 ≡ t .0 → ⊥) → Quietly t k (prioritized k u own eff)
+prioritized-quiet k t u own eff d = subst (λ us. Quiet t (prioritized k u own eff .objects) (k .tasks) us) (sym (prioritized-tasks k u own eff)) (ranked-quiet t (prioritized k u own eff .objects) (k .tasks) u own eff d)
+
+some-given : {p : ℕ} {l : List ℕ} → l ≡ p ∷ [] → l ≡ [] → ⊥
+some-given e f = let z : _≡_ {A = ℕ} 0 1 = cc in omega arith
+
+module _ (k : Kernel) (S : Sound k) (n : ℕ) (a : Saying) where
+  -- 1: create
+  module _ (p : ℕ) (P : Passed k (asked (Create p)) n) where
+    abbrev new : TaskNo
+    new = task (freeSlot (k .tasks))
+
+    abbrev creation : Moment
+    creation = at k (Create p) a (created k p)
+
+    has-slot : new .0 < length (k .tasks)
+    unfolding asked noSlot freeSlot
+    has-slot =
+        let most = index-most (λ (x : Task). isFree (x .place)) freeTask (k .tasks) in
+        let d = eqb-false (freeSlot (k .tasks)) 16 (or-off (eqb (freeSlot (k .tasks)) 16) false (P .slot) .0) in
+        omega (arith, d, S .task-slots)
+
+    was-free : isFree (taskAt (k .tasks) new .place) ≡ true
+    unfolding freeSlot taskAt
+    was-free = index-passes (λ (x : Task). isFree (x .place)) freeTask (k .tasks) has-slot
+
+    now-there : taskAt (created k p .tasks) new ≡ readyAt p
+    unfolding created toTail
+    now-there = at-same (k .tasks) new (readyAt p) has-slot
+
+    holds-none : holds (created k p .objects) new ≡ false
+    unfolding created toTail
+    holds-none = none-holds (k .objects) new (λ o h. S .holders new o h (no-place _ was-free))
+
+    given-first : given new creation ≡ p ∷ []
+    unfolding given asked
+    given-first = rw (now-there, was-free)
+
+    others : (t : TaskNo) → (new .0 ≡ t .0 → ⊥) → Quietly t k (created k p)
+    unfolding created toTail
+    others t d = slot-quiet t (k .objects) (k .tasks) new (readyAt p) (λ e. absurd (d e)) (λ o h w. absurd (false≢true w))
+
+    not-new : (b c : Bool) → b ≡ c → (not b && not (not c)) ≡ false
+    not-new true true e = refl
+    not-new true false e = refl
+    not-new false true e = absurd (false≢true e)
+    not-new false false e = refl
+
+    pub create-fair : (t : TaskNo) → Fair creation t
+    unfolding asked
+    create-fair t =
+        that-or-other new t (λ v. Fair creation v)
+        (bare-fair creation new holds-none (λ e. rw given-first (ap (λ (x : Task). x .own) now-there)) (λ e g. absurd (some-given given-first g)))
+        (λ d. let q = others t d in quiet-fair creation t (none-given t creation (not-new _ _ (q .there)) refl) q)
+
+  -- 2: delete
+  module _ (u : TaskNo) (P : Passed k (asked (Delete u)) n) where
+    abbrev deletion : Moment
+    deletion = at k (Delete u) a (deleted k u)
+
+    was-there : isFree (taskAt (k .tasks) u .place) ≡ false
+    unfolding asked namesNone
+    was-there = P .named
+
+    held-none : holds (k .objects) u ≡ false
+    unfolding asked inUse
+    held-none = or-off (holds (k .objects) u) _ (P .unused) .0
+
+    now-gone : isFree (taskAt (deleted k u .tasks) u .place) ≡ true
+    unfolding deleted leaves
+    now-gone = ap (λ (x : Task). isFree (x .place)) (at-same (k .tasks) u freeTask (omega (arith, exists-low (k .tasks) u (S .task-slots) was-there, S .task-slots)))
+
+    pub delete-fair : (t : TaskNo) → Fair deletion t
+    unfolding deleted leaves asked
+    delete-fair t =
+        that-or-other u t (λ v. Fair deletion v)
+        (bare-fair deletion u held-none (λ e. absurd (false≢true (sym e ∙ now-gone))) (λ e g. absurd (false≢true (sym e ∙ now-gone))))
+        (λ d. quiet-fair deletion t (none-given t deletion refl refl) (slot-quiet t (k .objects) (k .tasks) u freeTask (λ e. absurd (d e)) (λ o h w. absurd (false≢true w))))
+
+  -- 5: set priority
+  module _ (ok : isRefusal (a .word) ≡ false) (u : TaskNo) (p : ℕ) (P : Passed k (asked (SetPriority u p)) n) where
+    abbrev change : Moment
+    change = at k (SetPriority u p) a (newPriority k u p)
+
+    abbrev eff : ℕ
+    eff = if holds (k .objects) u then larger (level (k .tasks) u) p else p
+
+    named : isFree (taskAt (k .tasks) u .place) ≡ false
+    unfolding asked namesNone
+    named = P .named
+
+    changed : taskAt (newPriority k u p .tasks) u ≡ ranked (taskAt (k .tasks) u) p eff
+    unfolding newPriority
+    changed = ranked-at k u p eff (omega (arith, exists-low (k .tasks) u (S .task-slots) named, S .task-slots))
+
+    same-holds : holds (newPriority k u p .objects) u ≡ holds (k .objects) u
+    unfolding newPriority
+    same-holds = ap (λ os. holds os u) (prioritized-same k u p eff .objects)
+
+    given-now : given u change ≡ p ∷ []
+    unfolding given asked
+    given-now = rw (eq-eqb (u .0) (u .0) refl, ok)
+
+    nobody : (v : TaskNo) → Lends u change v → ⊥
+    unfolding newPriority
+    nobody v l = false≢true (sym (l .not-before) ∙ sym (ap (waitsOn (on change v)) (places-kept k u p eff v)) ∙ l .now)
+
+    raised : holds (k .objects) u ≡ true → level (newPriority k u p .tasks) u ≡ larger (larger p 0) (larger 0 (level (k .tasks) u))
+    raised h =
+        ap (λ (x : Task). x .effective) changed
+        ∙ rw (h, larger-max (level (k .tasks) u) p, larger-max (larger p 0) (larger 0 (level (k .tasks) u)), larger-max p 0, larger-max 0 (level (k .tasks) u)) (omega arith)
+
+    his : Fair change u
+    unfolding largest
+    his =
+        record {
+          own = λ e. rw given-now (ap (λ (x : Task). x .own) changed);
+          there = λ e g. absurd (some-given given-now g);
+          kept = λ b h. rw (given-now, none-lent u change nobody) (raised h);
+          first = λ b h. absurd (false≢true (sym h ∙ sym same-holds ∙ b));
+        }
+
+    pub change-fair : (t : TaskNo) → Fair change t
+    unfolding asked newPriority
+    change-fair t =
+        that-or-other u t (λ v. Fair change v) his
+        (λ d. quiet-fair change t (none-given t change refl (rw (ne-eqb (u .0) (t .0) d))) (prioritized-quiet k t u p eff d))
