@@ -3,3 +3,4 @@ pub mod Quiet
 pub mod QuietCalls
 pub mod Fair
 pub mod FairTasks
+pub mod FairMutexes

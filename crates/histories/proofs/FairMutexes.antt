@@ -1,0 +1,204 @@
+-- Take and give are fair.
+use Prim.Native.Nat.{ℕ, _<_}
+use mathlib.Core.Path.{_≡_, refl, sym, ap, _∙_, subst}
+use mathlib.Core.Bool.{Bool, true, false, not, _&&_, false≢true}
+use mathlib.Core.List.{List, [], _∷_}
+use native.Mathlib.Omega.{arith}
+use lib.Dec.{eqb}
+use lib.ListN.{length, set, length-set}
+use borrow.Author.Tests.{eqb-true, eqb-false, eq-eqb}
+use Rattle.lists.specs.Choice.{if_then_else_}
+use Rattle.lists.specs.Lists.{larger}
+use Rattle.calls.specs.Numbers.{sameTask}
+use Rattle.calls.specs.Asked.{asked}
+use Rattle.calls.specs.Said.{Saying}
+use Rattle.order.proofs.Lines.{one-number}
+use Rattle.slots.specs.Places.{isFree, waitsOn}
+use Rattle.slots.specs.Tasks.{placed, ranked}
+use Rattle.slots.specs.Objects.{heldBy}
+use Rattle.kernel.specs.Tables.{taskAt, kindAt, holds}
+use Rattle.kernel.specs.Lines.{level, toTail}
+use Rattle.kernel.specs.Sentences.{Holds, Exists, Sound}
+use Rattle.kernel.specs.Refusals.{hisAlready}
+use Rattle.kernel.specs.Waits.{wakeOf, blocked, waitFor}
+use Rattle.kernel.specs.Loans.{prioritized, lent as lentIn, ownAgain}
+use Rattle.kernel.specs.Effects.{takenFrom, taken, handedOn, given as givenIn}
+use Rattle.kernel.proofs.Says.{some-holds}
+use Rattle.kernel.proofs.Passes.{Passed}
+use Rattle.kernel.proofs.Slotted.{at-same, at-other}
+use Rattle.kernel.proofs.Blocks.{Same, prioritized-same, prioritized-tasks}
+use Rattle.kernel.proofs.Keeps.{exists-low, ready-low}
+use Rattle.histories.specs.Types.{TaskNo, ObjNo, Wake, Place, Free, Ready, Delayed, Waiting, Suspended, Task, Nobody, By, Kind, Unused, Queue, Mutex, Object, Kernel, Take, Give}
+use Rattle.histories.specs.Moments.{Moment, waitsIn}
+use Rattle.histories.specs.Borrowed.{largest, given, lends, lent}
+use Rattle.histories.proofs.Largest.{larger-max, one-passes}
+use Rattle.histories.proofs.Quiet.{Quiet, still, onward, each}
+use Rattle.histories.proofs.QuietCalls.{Quietly, wait-quiet, handed-quiet}
+use Rattle.histories.proofs.Fair.{Fair, Lends, lending, on, none-given, quiet-fair, bare-fair}
+use Rattle.histories.proofs.FairTasks.{at, that-or-other, places-kept, ranked-at, prioritized-quiet}
+
+exists-there : (p : Place) → (p ≡ Free → ⊥) → isFree p ≡ false
+exists-there Free n = absurd (n refl)
+exists-there Ready n = refl
+exists-there (Delayed w) n = refl
+exists-there (Waiting o w) n = refl
+exists-there Suspended n = refl
+
+-- a task's effective priority changed leaves every own one
+owns-kept : (k : Kernel) (t : TaskNo) (eff : ℕ) (v : TaskNo) → taskAt (prioritized k t (taskAt (k .tasks) t .own) eff .tasks) v .own ≡ taskAt (k .tasks) v .own
+owns-kept k t eff v =
+    ap (λ ts. taskAt ts v .own) (prioritized-tasks k t (taskAt (k .tasks) t .own) eff)
+    ∙ each (k .tasks) t (ranked (taskAt (k .tasks) t) (taskAt (k .tasks) t .own) eff) (λ v y. y .own ≡ taskAt (k .tasks) v .own) refl (λ v. refl) v
+
+-- who waits on a mutex of t, and did not before, lends
+lends-on : (t : TaskNo) (m : Moment) (u : TaskNo) (o : ObjNo) (w : Wake) → taskAt (m .after .tasks) u .place ≡ Waiting o w → waitsIn (m .before) u o ≡ false → Holds (m .after .objects) t o → lends t m u ≡ true
+lends-on t m u o w e b h = rw (e, eq-eqb (o .0) (o .0) refl, b, h, eq-eqb (t .0) (t .0) refl)
+
+module _ (k : Kernel) (S : Sound k) (n : ℕ) (a : Saying) where
+  abbrev r : TaskNo
+  r = k .running
+
+  caller-low : r .0 < 16
+  caller-low = ready-low (k .tasks) r (S .task-slots) (S .runs)
+
+  -- 15: take of a mutex that h holds
+  module _ (o : ObjNo) (w : ℕ) (P : Passed k (asked (Take o w)) n) (h : TaskNo) (kind : kindAt (k .objects) o ≡ Mutex (By h)) where
+    abbrev eff : ℕ
+    eff = larger (level (k .tasks) h) (level (k .tasks) r)
+
+    abbrev j : Kernel
+    j = prioritized k h (taskAt (k .tasks) h .own) eff
+
+    abbrev wait : Moment
+    wait = at k (Take o w) a (waitFor j o w)
+
+    s : Same j k
+    s = prioritized-same k h (taskAt (k .tasks) h .own) eff
+
+    -- the holder is there, and is not the caller
+    holder-there : isFree (taskAt (k .tasks) h .place) ≡ false
+    holder-there = exists-there (taskAt (k .tasks) h .place) (S .holders h o kind)
+
+    holder-low : h .0 < length (k .tasks)
+    holder-low = omega (arith, exists-low (k .tasks) h (S .task-slots) holder-there, S .task-slots)
+
+    not-caller : h .0 ≡ r .0 → ⊥
+    unfolding asked hisAlready
+    not-caller = eqb-false (h .0) (r .0) (sym (ap (heldBy r) kind) ∙ P .another)
+
+    abbrev place : Place
+    place = Waiting o (wakeOf (j .tick) w)
+
+    -- the tables afterwards
+    tables : waitFor j o w .tasks ≡ set (j .tasks) (r .0) (placed (taskAt (j .tasks) r) place 0)
+    unfolding waitFor blocked toTail
+    tables = ap (λ (v : TaskNo). set (j .tasks) (v .0) (placed (taskAt (j .tasks) v) place 0)) (s .running)
+
+    same-objects : waitFor j o w .objects ≡ k .objects
+    unfolding waitFor blocked toTail
+    same-objects = s .objects
+
+    still-his : Holds (waitFor j o w .objects) h o
+    still-his = ap (λ os. kindAt os o) same-objects ∙ kind
+
+    slots : length (j .tasks) ≡ 16
+    slots = ap length (prioritized-tasks k h (taskAt (k .tasks) h .own) eff) ∙ length-set (k .tasks) (h .0) (ranked (taskAt (k .tasks) h) (taskAt (k .tasks) h .own) eff) ∙ S .task-slots
+
+    caller-now : taskAt (waitFor j o w .tasks) r ≡ placed (taskAt (j .tasks) r) place 0
+    caller-now = ap (λ ts. taskAt ts r) tables ∙ at-same (j .tasks) r (placed (taskAt (j .tasks) r) place 0) (omega (arith, caller-low, slots))
+
+    other-now : (v : TaskNo) → (v .0 ≡ r .0 → ⊥) → taskAt (waitFor j o w .tasks) v ≡ taskAt (j .tasks) v
+    other-now v d = ap (λ ts. taskAt ts v) tables ∙ at-other (j .tasks) r (placed (taskAt (j .tasks) r) place 0) v d
+
+    holder-now : taskAt (waitFor j o w .tasks) h ≡ ranked (taskAt (k .tasks) h) (taskAt (k .tasks) h .own) eff
+    holder-now = other-now h not-caller ∙ ranked-at k h (taskAt (k .tasks) h .own) eff holder-low
+
+    -- the caller's effective priority is as before
+    caller-level : level (waitFor j o w .tasks) r ≡ level (k .tasks) r
+    caller-level = ap (λ (x : Task). x .effective) caller-now ∙ prioritized-quiet k r h (taskAt (k .tasks) h .own) eff not-caller .effective
+
+    caller-lends : lends h wait r ≡ true
+    caller-lends = lends-on h wait r o (wakeOf (j .tick) w) (ap (λ (x : Task). x .place) caller-now) (ap (waitsOn o) (S .runs)) still-his
+
+    only-caller : (v : TaskNo) → lends h wait v ≡ true → v ≡ r
+    only-caller v e = go (sameTask v r) refl
+      where
+        l : Lends h wait v
+        l = lending h wait v e
+
+        go : (b : Bool) → sameTask v r ≡ b → v ≡ r
+        go true q = one-number v r (eqb-true (v .0) (r .0) q)
+        go false q =
+            let same : taskAt (waitFor j o w .tasks) v .place ≡ taskAt (k .tasks) v .place = ap (λ (x : Task). x .place) (other-now v (eqb-false (v .0) (r .0) q)) ∙ places-kept k h (taskAt (k .tasks) h .own) eff v in
+            absurd (false≢true (sym (l .not-before) ∙ sym (ap (waitsOn (on wait v)) same) ∙ l .now))
+
+    lent-one : largest (lent h wait) ≡ level (k .tasks) r
+    unfolding lent
+    lent-one = one-passes (level (waitFor j o w .tasks)) (lends h wait) 16 r caller-low caller-lends only-caller ∙ caller-level
+
+    holder-fair : Fair wait h
+    unfolding asked largest
+    holder-fair =
+        let g : given h wait ≡ [] = none-given h wait refl refl in
+        record {
+          own = λ e. rw g (ap (λ (x : Task). x .own) holder-now);
+          there = λ e q. holder-there;
+          kept = λ b c. rw (g, lent-one) (ap (λ (x : Task). x .effective) holder-now ∙ rw (larger-max (level (k .tasks) h) (level (k .tasks) r), larger-max 0 (larger (level (k .tasks) r) (level (k .tasks) h)), larger-max (level (k .tasks) r) (level (k .tasks) h)) (omega arith));
+          first = λ b c. absurd (false≢true (sym c ∙ some-holds (k .objects) h o kind));
+        }
+
+    others : (t : TaskNo) → (h .0 ≡ t .0 → ⊥) → Quietly t k (waitFor j o w)
+    others t d =
+        onward (prioritized-tables t d)
+        (wait-quiet t (waitFor j o w .objects) j o w caller-there (λ q. let z : Mutex (By h) ≡ Mutex (By t) = sym still-his ∙ q in let y : h ≡ t = cc in d (ap (λ (v : TaskNo). v .0) y)))
+      where
+        prioritized-tables : (t : TaskNo) → (h .0 ≡ t .0 → ⊥) → Quiet t (waitFor j o w .objects) (k .tasks) (j .tasks)
+        prioritized-tables t d = subst (λ os. Quiet t os (k .tasks) (j .tasks)) (s .objects ∙ sym same-objects) (prioritized-quiet k t h (taskAt (k .tasks) h .own) eff d)
+
+        caller-there : isFree (taskAt (j .tasks) (j .running) .place) ≡ false
+        caller-there = ap isFree (places-kept k h (taskAt (k .tasks) h .own) eff (j .running) ∙ ap (λ v. taskAt (k .tasks) v .place) (s .running) ∙ S .runs)
+
+    wait-fair : (t : TaskNo) → Fair wait t
+    unfolding asked
+    wait-fair t = that-or-other h t (λ v. Fair wait v) holder-fair (λ d. quiet-fair wait t (none-given t wait refl refl) (others t d))
+
+  pub take-fair : (o : ObjNo) (w : ℕ) → Passed k (asked (Take o w)) n → (t : TaskNo) → Fair (at k (Take o w) a (taken k o w)) t
+  unfolding taken asked lentIn
+  take-fair o w P t = go (kindAt (k .objects) o) refl
+    where
+      go : (x : Kind) → kindAt (k .objects) o ≡ x → Fair (at k (Take o w) a (takenFrom k o x w)) t
+      go Unused e = quiet-fair _ t (none-given t _ refl refl) still
+      go (Queue q) e = quiet-fair _ t (none-given t _ refl refl) still
+      go (Mutex Nobody) e = quiet-fair _ t (none-given t _ refl refl) still
+      go (Mutex (By h)) e = wait-fair o w P h e t
+
+  -- 16: give
+  module _ (o : ObjNo) where
+    abbrev i : Kernel
+    i = handedOn k o
+
+    abbrev own : ℕ
+    own = taskAt (i .tasks) r .own
+
+    abbrev gift : Kernel → Moment
+    gift x = at k (Give o) a x
+
+    giver-fair : holds (i .objects) r ≡ false → Fair (gift (prioritized i r own own)) r
+    unfolding asked
+    giver-fair e =
+        let q = handed-quiet k S r o in
+        let g : given r (gift (prioritized i r own own)) ≡ [] = none-given r _ refl refl in
+        bare-fair (gift (prioritized i r own own)) r (ap (λ os. holds os r) (prioritized-same i r own own .objects) ∙ e)
+        (λ f. rw g (owns-kept i r own r ∙ q .own))
+        (λ f z. ap isFree (S .runs))
+
+    pub give-fair : (t : TaskNo) → Fair (gift (givenIn k o)) t
+    unfolding givenIn ownAgain asked
+    give-fair t = go (holds (i .objects) r) refl
+      where
+        go : (b : Bool) → holds (i .objects) r ≡ b → Fair (gift (if b then i else prioritized i r own own)) t
+        go true e = quiet-fair (gift i) t (none-given t _ refl refl) (handed-quiet k S t o)
+        go false e =
+            that-or-other r t (λ v. Fair (gift (prioritized i r own own)) v) (giver-fair e)
+            (λ d. quiet-fair (gift (prioritized i r own own)) t (none-given t _ refl refl)
+            (onward (subst (λ os. Quiet t os (k .tasks) (i .tasks)) (sym (prioritized-same i r own own .objects)) (handed-quiet k S t o)) (prioritized-quiet i t r own own d)))
