@@ -37,7 +37,7 @@ use Rattle.histories.proofs.QuietCalls.{Quietly, wait-quiet, handed-qui
 use Rattle.histories.proofs.Fair.{Fair, Lends, lending, on, none-given, quiet-fair, bare-fair}
 use Rattle.histories.proofs.FairTasks.{at, that-or-other, places-kept, ranked-at, prioritized-quiet}
 
-exists-there : (p : Place) → (p ≡ Free → ⊥) → isFree p ≡ false
+pub exists-there : (p : Place) → (p ≡ Free → ⊥) → isFree p ≡ false
 exists-there Free n = absurd (n refl)
 exists-there Ready n = refl
 exists-there (Delayed w) n = refl

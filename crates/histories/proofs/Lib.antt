@@ -4,3 +4,6 @@ pub mod QuietCalls
 pub mod Fair
 pub mod FairTasks
 pub mod FairMutexes
+pub mod FairSteps
+pub mod PaidBack
+pub mod Told

@@ -80,7 +80,7 @@ module _ (t : TaskNo) (os : List Object) where
   unfolding oneTick wakes
   tick-quiet j = loop-quiet wokenIfDue woken-quiet 16 (withTick j (later (j .tick) 1))
 
-  ticked-quiet : (j : Kernel) → Quiet t os (j .tasks) (ticked j .tasks)
+  pub ticked-quiet : (j : Kernel) → Quiet t os (j .tasks) (ticked j .tasks)
   unfolding ticked turned toTail
   ticked-quiet j = go (ltb 0 (j .hold)) (noHigher (oneTick j .tasks) (level (oneTick j .tasks) (oneTick j .running)) (listed (oneTick j .order)))
     where
@@ -89,7 +89,7 @@ module _ (t : TaskNo) (os : List Object) where
       go false true = tick-quiet j
       go false false = tick-quiet j
 
-  released-quiet : (j : Kernel) → Quiet t os (j .tasks) (released j .tasks)
+  pub released-quiet : (j : Kernel) → Quiet t os (j .tasks) (released j .tasks)
   unfolding released ticks
   released-quiet j = go (eqb (j .hold) 1)
     where
@@ -114,7 +114,7 @@ module _ (k : Kernel) (S : Sound k) (t : TaskNo) where
       go [] e = still
       go (u ∷ r) e = readied-quiet t (handedTo k o (u ∷ r) .objects) k u 1 (first-there o u r e)
 
-  delayed-quiet : (n : ℕ) → Quietly t k (delayed k n)
+  pub delayed-quiet : (n : ℕ) → Quietly t k (delayed k n)
   unfolding delayed yielded blocked toTail
   delayed-quiet n = go (eqb n 0)
     where
@@ -122,7 +122,7 @@ module _ (k : Kernel) (S : Sound k) (t : TaskNo) where
       go true = still
       go false = placed-quiet t (k .objects) (k .tasks) (k .running) (Delayed (later (k .tick) n)) 0 refl caller-there (λ o h w. false≢true w)
 
-  suspended-quiet : (u : TaskNo) → isFree (taskAt (k .tasks) u .place) ≡ false → Quietly t k (suspended k u)
+  pub suspended-quiet : (u : TaskNo) → isFree (taskAt (k .tasks) u .place) ≡ false → Quietly t k (suspended k u)
   unfolding suspended leaves
   suspended-quiet u e = go (isListed (taskAt (k .tasks) u .place))
     where
@@ -160,3 +160,19 @@ module _ (k : Kernel) (S : Sound k) (t : TaskNo) where
         go true f e = caller-waits
         go false [] e = still
         go false (u ∷ r) e = readied-quiet t (refilledBy k o (oneLess q) (u ∷ r) .objects) _ u 1 (first-there o u r e)
+
+  pub send-quiet : (o : ObjNo) (w : ℕ) → Quietly t k (sentTo k o (kindAt (k .objects) o) w)
+  send-quiet o w = go (kindAt (k .objects) o) refl
+    where
+      go : (x : Kind) → kindAt (k .objects) o ≡ x → Quietly t k (sentTo k o x w)
+      go Unused e = still
+      go (Queue q) e = sent-quiet o q w e
+      go (Mutex h) e = still
+
+  pub receive-quiet : (o : ObjNo) (w : ℕ) → Quietly t k (receivedFrom k o (kindAt (k .objects) o) w)
+  receive-quiet o w = go (kindAt (k .objects) o) refl
+    where
+      go : (x : Kind) → kindAt (k .objects) o ≡ x → Quietly t k (receivedFrom k o x w)
+      go Unused e = still
+      go (Queue q) e = received-quiet o q w e
+      go (Mutex h) e = still

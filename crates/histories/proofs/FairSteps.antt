@@ -1,0 +1,103 @@
+-- Every step is fair to every task, whatever the call, the item and the store.
+use Prim.Native.Nat.{ℕ}
+use mathlib.Core.Path.{_≡_, refl, sym, ap, subst}
+use mathlib.Core.Bool.{Bool, true, false, not, _&&_, _||_}
+use mathlib.Core.List.{List, [], _∷_}
+use lib.Dec.{eqb}
+use lib.ListN.{length}
+use borrow.Author.Tests.{eqb-true}
+use Rattle.lists.specs.Choice.{if_then_else_}
+use Rattle.calls.specs.Numbers.{sameTask}
+use Rattle.calls.specs.Asked.{asked}
+use Rattle.calls.specs.Said.{Saying, says, done, made, waiting, refused}
+use Rattle.slots.specs.Places.{isFree, isBlocked}
+use Rattle.kernel.specs.Tables.{taskAt, freeSlot, freeObject}
+use Rattle.kernel.specs.Lines.{first, runsIf, chosen, toTail}
+use Rattle.kernel.specs.Sound.{sound}
+use Rattle.kernel.specs.Sentences.{Sound}
+use Rattle.kernel.specs.Asking.{is}
+use Rattle.kernel.specs.Refusals.{namesNone, laterRow, refusal}
+use Rattle.kernel.specs.Ticks.{held}
+use Rattle.kernel.specs.Effects.{resumed, yielded, queueMade, mutexMade, removed, effect}
+use Rattle.kernel.specs.Step.{answered, accepted, turnedAway, steppedBy, step}
+use Rattle.kernel.proofs.Says.{sound-says}
+use Rattle.kernel.proofs.Passes.{Passed, passed}
+use Rattle.promises.specs.History.{Made}
+use Rattle.histories.specs.Types.{TaskNo, Call, Create, Delete, Suspend, Resume, SetPriority, Delay, Yield, Hold, Release, MakeQueue, MakeMutex, Remove, Send, Receive, Take, Give, Tick, AllReady, Kernel}
+use Rattle.histories.specs.Moments.{Moment, exists, isRefusal, momentOf}
+use Rattle.histories.specs.Borrowed.{given, lent}
+use Rattle.histories.proofs.Quiet.{still}
+use Rattle.histories.proofs.QuietCalls.{Quietly, readied-quiet, suspended-quiet, delayed-quiet, send-quiet, receive-quiet, ticked-quiet, released-quiet}
+use Rattle.histories.proofs.Fair.{Fair, none-given, quiet-fair}
+use Rattle.histories.proofs.FairTasks.{at, create-fair, delete-fair, change-fair}
+use Rattle.histories.proofs.FairMutexes.{take-fair, give-fair}
+
+effect-fair : (k : Kernel) → Sound k → (n : ℕ) (a : Saying) → isRefusal (a .word) ≡ false → (t : TaskNo) (c : Call) → Passed k (asked c) n → Fair (at k c a (effect k c)) t
+unfolding effect asked namesNone resumed yielded held queueMade mutexMade removed toTail
+effect-fair k S n a ok t (Create p) P = create-fair k S n a p P t
+effect-fair k S n a ok t (Delete u) P = delete-fair k S n a u P t
+effect-fair k S n a ok t (Suspend u) P = quiet-fair _ t (none-given t _ refl refl) (suspended-quiet k S t u (P .named))
+effect-fair k S n a ok t (Resume u) P = quiet-fair _ t (none-given t _ refl refl) (readied-quiet t (resumed k u .objects) k u _ (P .named))
+effect-fair k S n a ok t (SetPriority u p) P = change-fair k S n a ok u p P t
+effect-fair k S n a ok t (Delay d) P = quiet-fair _ t (none-given t _ refl refl) (delayed-quiet k S t d)
+effect-fair k S n a ok t Yield P = quiet-fair _ t (none-given t _ refl refl) still
+effect-fair k S n a ok t Hold P = quiet-fair _ t (none-given t _ refl refl) still
+effect-fair k S n a ok t Release P = quiet-fair _ t (none-given t _ refl refl) (released-quiet t _ k)
+effect-fair k S n a ok t (MakeQueue c z) P = quiet-fair _ t (none-given t _ refl refl) still
+effect-fair k S n a ok t MakeMutex P = quiet-fair _ t (none-given t _ refl refl) still
+effect-fair k S n a ok t (Remove o) P = quiet-fair _ t (none-given t _ refl refl) still
+effect-fair k S n a ok t (Send o w) P = quiet-fair _ t (none-given t _ refl refl) (send-quiet k S t o w)
+effect-fair k S n a ok t (Receive o w) P = quiet-fair _ t (none-given t _ refl refl) (receive-quiet k S t o w)
+effect-fair k S n a ok t (Take o w) P = take-fair k S n a o w P t
+effect-fair k S n a ok t (Give o) P = give-fair k S n a o t
+effect-fair k S n a ok t Tick P = quiet-fair _ t (none-given t _ refl refl) (ticked-quiet t _ k)
+
+-- choose changes who runs, and nothing else
+chosen-fair : (k : Kernel) (c : Call) (a : Saying) (j : Kernel) (t : TaskNo) → Fair (at k c a j) t → Fair (at k c a (chosen j)) t
+unfolding chosen given lent
+chosen-fair k c a j t F = go (eqb (j .hold) 0) (first j AllReady)
+  where
+    go : (b : Bool) (l : List TaskNo) → Fair (at k c a (if b then runsIf j l else j)) t
+    go true [] = F
+    go true (u ∷ l) = record { own = F .own; there = F .there; kept = F .kept; first = F .first }
+    go false l = F
+
+-- a refused call gives nothing
+refused-fair : (k : Kernel) (c : Call) (n : ℕ) (t : TaskNo) → Fair (at k c (says refused n) k) t
+refused-fair k c n t = quiet-fair _ t (none-given t _ (not-both (is 1 (asked c)) (exists k t)) (not-third (is 5 (asked c)) (sameTask (asked c .task) t))) still
+  where
+    not-both : (x b : Bool) → (x && (b && not b)) ≡ false
+    not-both true true = refl
+    not-both true false = refl
+    not-both false b = refl
+
+    not-third : (x y : Bool) → (x && (y && false)) ≡ false
+    not-third true true = refl
+    not-third true false = refl
+    not-third false y = refl
+
+answered-accepts : (k : Kernel) (c : Call) (j : Kernel) → isRefusal (answered k (asked c) j .word) ≡ false
+unfolding answered
+answered-accepts k c j = go (is 1 (asked c)) (is 10 (asked c) || is 11 (asked c)) (isBlocked (taskAt (j .tasks) (k .running) .place))
+  where
+    go : (x y z : Bool) → isRefusal ((if x then says made (freeSlot (k .tasks)) else if y then says made (freeObject (k .objects)) else if z then says waiting 0 else says done 0) .word) ≡ false
+    go true y z = refl
+    go false true z = refl
+    go false false true = refl
+    go false false false = refl
+
+pub step-fair : (k : Kernel) → sound k ≡ true → (m : Made) (t : TaskNo) → Fair (momentOf k m) t
+unfolding step refusal accepted
+step-fair k e m t = subst (λ b. Fair (by (if b then row else 1)) t) (sym e) (go (eqb row 0) refl)
+  where
+    row : ℕ
+    row = laterRow k (asked (m .call)) (length (m .item)) (length (m .store))
+
+    by : ℕ → Moment
+    by n = let r = steppedBy n k (m .call) (m .item) (m .store) in at k (m .call) (r .answer) (r .kernel)
+
+    go : (b : Bool) → eqb row 0 ≡ b → Fair (let r = if b then accepted k (m .call) (m .item) (m .store) else turnedAway k row (m .store) in at k (m .call) (r .answer) (r .kernel)) t
+    go true q =
+        chosen-fair k (m .call) _ (effect k (m .call)) t
+        (effect-fair k (sound-says k e) (length (m .store)) _ (answered-accepts k (m .call) (chosen (effect k (m .call)))) t (m .call) (passed k (asked (m .call)) (length (m .item)) (length (m .store)) (eqb-true row 0 q)))
+    go false q = refused-fair k (m .call) row t

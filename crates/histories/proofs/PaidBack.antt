@@ -1,0 +1,105 @@
+-- "Borrowed priority is paid back": after any calls from the fresh kernel the effective priorities are what the history says.
+use Prim.Native.Nat.{ℕ, zero, suc}
+use mathlib.Core.Path.{_≡_, refl, sym, ap, _∙_}
+use mathlib.Core.Bool.{Bool, true, false, false≢true}
+use mathlib.Core.List.{List, [], _∷_, _++_}
+use lib.ListN.{getD, replicate}
+use Rattle.lists.specs.Choice.{if_then_else_}
+use Rattle.lists.specs.Lists.{larger, any}
+use Rattle.slots.specs.Places.{isFree}
+use Rattle.slots.specs.Tasks.{freeTask}
+use Rattle.kernel.specs.Tables.{fresh, taskAt, holds}
+use Rattle.kernel.specs.Lines.{level}
+use Rattle.kernel.specs.Sound.{sound}
+use Rattle.kernel.specs.Sentences.{Exists, Sound}
+use Rattle.kernel.proofs.Says.{sound-says, not-held}
+use Rattle.kernel.proofs.Every.{fresh-sound, step-kept}
+use Rattle.promises.specs.History.{Made, after, reached}
+use Rattle.histories.specs.Types.{TaskNo, Kernel}
+use Rattle.histories.specs.Moments.{Moment, momentOf, momentsFrom, moments, hasMutex}
+use Rattle.histories.specs.Borrowed.{largest, given, lastOf, lastGiven, lent, counted, due}
+use Rattle.histories.proofs.Largest.{largest-append, larger-none}
+use Rattle.histories.proofs.Fair.{Fair}
+use Rattle.histories.proofs.FairMutexes.{exists-there}
+use Rattle.histories.proofs.FairSteps.{step-fair}
+
+-- what the past accounts for
+record Accounts (k : Kernel) (past : List Moment) : Type 0 where
+  fine : sound k ≡ true
+  -- every task's own priority is the last given
+  own : (t : TaskNo) → isFree (taskAt (k .tasks) t .place) ≡ false → taskAt (k .tasks) t .own ≡ lastGiven t past
+  -- the effective one of a task with a mutex is the largest of those counted
+  borrowed : (t : TaskNo) → hasMutex k t ≡ true → level (k .tasks) t ≡ largest (counted t past)
+
+-- the fresh kernel: idle alone, with 0
+fresh-own : (n : ℕ) → getD (fresh .tasks) n freeTask .own ≡ 0
+unfolding fresh
+fresh-own zero = refl
+fresh-own (suc n) = rest 15 n
+  where
+    rest : (m n : ℕ) → getD (replicate m freeTask) n freeTask .own ≡ 0
+    rest zero n = refl
+    rest (suc m) zero = refl
+    rest (suc m) (suc n) = rest m n
+
+starts : Accounts fresh []
+unfolding fresh taskAt holds any lastGiven
+starts = record { fine = fresh-sound; own = λ t e. fresh-own (t .0); borrowed = λ t e. absurd (false≢true e) }
+
+-- one call more
+module _ (k : Kernel) (past : List Moment) (m : Made) (A : Accounts k past) where
+  abbrev now : Moment
+  now = momentOf k m
+
+  F : (t : TaskNo) → Fair now t
+  F = step-fair k (A .fine) m
+
+  own-now : (t : TaskNo) → isFree (taskAt (now .after .tasks) t .place) ≡ false → taskAt (now .after .tasks) t .own ≡ lastGiven t (now ∷ past)
+  unfolding lastGiven
+  own-now t e = F t .own e ∙ go (given t now) refl
+    where
+      go : (g : List ℕ) → given t now ≡ g → lastOf g (taskAt (k .tasks) t .own) ≡ lastOf g (lastGiven t past)
+      go [] n = A .own t (F t .there e n)
+      go (p ∷ ps) n = refl
+
+  borrowed-now : (t : TaskNo) → hasMutex (now .after) t ≡ true → level (now .after .tasks) t ≡ largest (counted t (now ∷ past))
+  unfolding counted largest
+  borrowed-now t e = go (hasMutex k t) refl
+    where
+      go : (b : Bool) → hasMutex k t ≡ b → level (now .after .tasks) t ≡ largest (if b then given t now ++ (lent t now ++ counted t past) else level (k .tasks) t ∷ [])
+      go true h =
+          F t .kept e h
+          ∙ sym (largest-append (given t now) (lent t now ++ counted t past)
+          ∙ ap (larger (largest (given t now))) (largest-append (lent t now) (counted t past) ∙ ap (larger (largest (lent t now))) (sym (A .borrowed t h))))
+      go false h = F t .first e h ∙ sym (larger-none (level (k .tasks) t) .0)
+
+  onward : Accounts (now .after) (now ∷ past)
+  onward = record { fine = step-kept k (m .call) (m .item) (m .store) (A .fine); own = own-now; borrowed = borrowed-now }
+
+accounts : (k : Kernel) (past : List Moment) (ms : List Made) → Accounts k past → Accounts (after k ms) (momentsFrom k past ms)
+unfolding after momentsFrom
+accounts k past [] A = A
+accounts k past (m ∷ ms) A = accounts _ _ ms (onward k past m A)
+
+module _ (ms : List Made) (t : TaskNo) (there : Exists ((reached ms) .tasks) t) where
+  A : Accounts (reached ms) (moments ms)
+  A = accounts fresh [] ms starts
+
+  -- "a task without a mutex has exactly the priority last given to it by its creation or an accepted change since"
+  pub without-mutex : hasMutex (reached ms) t ≡ false → level ((reached ms) .tasks) t ≡ lastGiven t (moments ms)
+  without-mutex e =
+      sym (sound-says (reached ms) (A .fine) .equal t (not-held ((reached ms) .objects) t e))
+      ∙ A .own t (exists-there (taskAt ((reached ms) .tasks) t .place) there)
+
+  -- "A task with one has the largest of" those counted since it went from none to one
+  pub with-mutex : hasMutex (reached ms) t ≡ true → level ((reached ms) .tasks) t ≡ largest (counted t (moments ms))
+  with-mutex e = A .borrowed t e
+
+  -- both
+  pub paid-back : level ((reached ms) .tasks) t ≡ due (reached ms) (moments ms) t
+  unfolding due
+  paid-back = go (hasMutex (reached ms) t) refl
+    where
+      go : (b : Bool) → hasMutex (reached ms) t ≡ b → level ((reached ms) .tasks) t ≡ (if b then largest (counted t (moments ms)) else lastGiven t (moments ms))
+      go true e = with-mutex e
+      go false e = without-mutex e

@@ -1,0 +1,45 @@
+-- Loans made, kept and paid back: computed histories, in which the kernel and its history tell the same.
+use mathlib.Core.Path.{_≡_, refl}
+use Rattle.lists.specs.Lists.{every, allBelow, foldl, upTo, index, any, kept}
+use Rattle.calls.specs.Asked.{asked}
+use Rattle.order.specs.Order.{ordered, without}
+use Rattle.order.specs.Tidy.{count, tidy}
+use Rattle.items.specs.Bytes.{putAt}
+use Rattle.kernel.specs.Effects.{created, deleted, suspended, resumed, yielded, delayed, queueMade, mutexMade, removed, taken, handedOn, given, effect}
+use Rattle.kernel.specs.Items.{itemAt, outlet, sent, storeSent, received, storeReceived}
+use Rattle.kernel.specs.Lines.{line, those, highest, leader, first, chosen, toTail, toHead, leaves}
+use Rattle.kernel.specs.Loans.{moved, movedIf, prioritized, newPriority, lent, ownAgain}
+use Rattle.kernel.specs.Refusals.{outOfRange, namesNone, wrongSize, notForIdle, notWithHold, noSlot, inUse, notHis, hisAlready, notSuspended, mustWait, noDepth, noTick, table, laterRow, refusal}
+use Rattle.kernel.specs.Sound.{noHigher, runsFine, sound}
+use Rattle.kernel.specs.Step.{stored, answered, accepted, step}
+use Rattle.kernel.specs.Tables.{fresh, taskAt, kindAt, holds, freeSlot, freeObject}
+use Rattle.kernel.specs.Ticks.{wokenIfDue, wakes, oneTick, turned, ticked, ticks, released, held}
+use Rattle.kernel.specs.Waits.{readied, blocked, waitFor}
+use Rattle.histories.specs.Moments.{tasksBelow}
+use Rattle.histories.specs.Borrowed.{largest, given as givenAt, lastGiven, lent as lentAt, counted, due}
+use Rattle.histories.specs.Tales.{shownFrom, shown, twoGives, setWithLoan, timeRunsOut, handedWithWaiter, refusedChange, slotUsedAgain}
+
+pub record Told : Type 0 where
+  -- a loan is made, kept over the first of two gives, and paid back at the last
+  pub kept-over-first-give : shown twoGives ≡ twoGives .expected
+  -- a change below a loan waits for the give, one above it counts at once
+  pub set-below-loan : shown setWithLoan ≡ setWithLoan .expected
+  -- the loan outlives the wait for which it was made
+  pub stays-after-wait : shown timeRunsOut ≡ timeRunsOut .expected
+  -- who waited already when the mutex was handed on does not count
+  pub not-who-came-along : shown handedWithWaiter ≡ handedWithWaiter .expected
+  -- a refused change gives nothing
+  pub not-if-refused : shown refusedChange ≡ refusedChange .expected
+  -- a slot used again is another task
+  pub another-task : shown slotUsedAgain ≡ slotUsedAgain .expected
+
+pub told : Told
+unfolding shownFrom twoGives setWithLoan timeRunsOut handedWithWaiter refusedChange slotUsedAgain tasksBelow largest givenAt lastGiven lentAt counted due every allBelow foldl upTo index any kept asked ordered without count tidy putAt created deleted suspended resumed yielded delayed queueMade mutexMade removed taken handedOn given effect itemAt outlet sent storeSent received storeReceived line those highest leader first chosen toTail toHead leaves moved movedIf prioritized newPriority lent ownAgain outOfRange namesNone wrongSize notForIdle notWithHold noSlot inUse notHis hisAlready notSuspended mustWait noDepth noTick table laterRow refusal noHigher runsFine sound stored answered accepted step fresh taskAt kindAt holds freeSlot freeObject wokenIfDue wakes oneTick turned ticked ticks released held readied blocked waitFor
+told = record {
+  kept-over-first-give = refl;
+  set-below-loan = refl;
+  stays-after-wait = refl;
+  not-who-came-along = refl;
+  not-if-refused = refl;
+  another-task = refl;
+}
