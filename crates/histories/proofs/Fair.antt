@@ -1,30 +1,27 @@
 -- What one moment does to a task's priorities, in the words of the definition: the law of a step, and the quiet moments that obey it.
-use Prim.Native.Nat.{ℕ}
-use mathlib.Core.Path.{_≡_, refl, sym, ap, _∙_}
-use mathlib.Core.Bool.{Bool, true, false, not, _&&_, _||_, false≢true}
-use mathlib.Core.List.{List, [], _∷_, map}
-use Rattle.lists.specs.Choice.{if_then_else_}
+use mathlib.Core.Path.{_≡_, sym, ap, _∙_}
+use mathlib.Core.Bool.{true, false, false≢true}
+use mathlib.Core.List.{[], map}
 use Rattle.lists.specs.Lists.{larger}
 use Rattle.lists.proofs.Bools.{and-left, and-right, off, untrue}
 use Rattle.slots.specs.Places.{isFree, waited}
-use Rattle.slots.specs.Objects.{heldBy}
 use Rattle.kernel.specs.Tables.{taskAt, kindAt}
 use Rattle.kernel.specs.Lines.{level}
 use Rattle.kernel.specs.Sentences.{Holds}
 use Rattle.kernel.proofs.Says.{held-one}
 use Rattle.histories.specs.Types.{TaskNo, ObjNo}
 use Rattle.histories.specs.Moments.{Moment, hasMutex, waitsIn, begins, tasksBelow}
-use Rattle.histories.specs.Borrowed.{largest, isCreated, isChanged, given, lastOf, lends, lent}
+use Rattle.histories.specs.Borrowed.{largest, isCreated, isChanged, givenAt, lastOf, lends, lentAt}
 use Rattle.histories.proofs.Largest.{larger-none, none-pass}
 use Rattle.histories.proofs.QuietCalls.{Quietly}
 
 pub record Fair (m : Moment) (t : TaskNo) : Type 0 where
   -- its own priority is the one given then, or the one before
-  pub own : isFree (taskAt (m .after .tasks) t .place) ≡ false → taskAt (m .after .tasks) t .own ≡ lastOf (given t m) (taskAt (m .before .tasks) t .own)
+  pub own : isFree (taskAt (m .after .tasks) t .place) ≡ false → taskAt (m .after .tasks) t .own ≡ lastOf (givenAt t m) (taskAt (m .before .tasks) t .own)
   -- who is given none was there before
-  pub there : isFree (taskAt (m .after .tasks) t .place) ≡ false → given t m ≡ [] → isFree (taskAt (m .before .tasks) t .place) ≡ false
+  pub there : isFree (taskAt (m .after .tasks) t .place) ≡ false → givenAt t m ≡ [] → isFree (taskAt (m .before .tasks) t .place) ≡ false
   -- with a mutex before and after: the largest of those given, those lent and the effective one before
-  pub kept : hasMutex (m .after) t ≡ true → hasMutex (m .before) t ≡ true → level (m .after .tasks) t ≡ larger (largest (given t m)) (larger (largest (lent t m)) (level (m .before .tasks) t))
+  pub kept : hasMutex (m .after) t ≡ true → hasMutex (m .before) t ≡ true → level (m .after .tasks) t ≡ larger (largest (givenAt t m)) (larger (largest (lentAt t m)) (level (m .before .tasks) t))
   -- with none before: the effective one before
   pub first : hasMutex (m .after) t ≡ true → hasMutex (m .before) t ≡ false → level (m .after .tasks) t ≡ level (m .before .tasks) t
 
@@ -47,17 +44,17 @@ lending t m u e =
       his = held-one t (kindAt (m .after .objects) (on m u)) (and-right (begins m u (on m u)) _ e);
     }
 
-pub none-given : (t : TaskNo) (m : Moment) → isCreated t m ≡ false → isChanged t m ≡ false → given t m ≡ []
-unfolding given
+pub none-given : (t : TaskNo) (m : Moment) → isCreated t m ≡ false → isChanged t m ≡ false → givenAt t m ≡ []
+unfolding givenAt
 none-given t m a b = rw (a, b)
 
-pub none-lent : (t : TaskNo) (m : Moment) → ((u : TaskNo) → Lends t m u → ⊥) → lent t m ≡ []
-unfolding lent
+pub none-lent : (t : TaskNo) (m : Moment) → ((u : TaskNo) → Lends t m u → ⊥) → lentAt t m ≡ []
+unfolding lentAt
 none-lent t m n = ap (map (level (m .after .tasks))) (none-pass (level (m .after .tasks)) (lends t m) (λ u. untrue _ (λ e. n u (lending t m u e))) (tasksBelow 16))
 
 module _ (m : Moment) (t : TaskNo) where
   -- nothing given, and quiet
-  pub quiet-fair : given t m ≡ [] → Quietly t (m .before) (m .after) → Fair m t
+  pub quiet-fair : givenAt t m ≡ [] → Quietly t (m .before) (m .after) → Fair m t
   unfolding largest
   quiet-fair g q =
       record {
@@ -72,7 +69,7 @@ module _ (m : Moment) (t : TaskNo) where
 
   -- without a mutex afterwards the own priority is all
   pub bare-fair : hasMutex (m .after) t ≡ false
-      → (isFree (taskAt (m .after .tasks) t .place) ≡ false → taskAt (m .after .tasks) t .own ≡ lastOf (given t m) (taskAt (m .before .tasks) t .own))
-      → (isFree (taskAt (m .after .tasks) t .place) ≡ false → given t m ≡ [] → isFree (taskAt (m .before .tasks) t .place) ≡ false) → Fair m t
+      → (isFree (taskAt (m .after .tasks) t .place) ≡ false → taskAt (m .after .tasks) t .own ≡ lastOf (givenAt t m) (taskAt (m .before .tasks) t .own))
+      → (isFree (taskAt (m .after .tasks) t .place) ≡ false → givenAt t m ≡ [] → isFree (taskAt (m .before .tasks) t .place) ≡ false) → Fair m t
   bare-fair n own there =
       record { own = own; there = there; kept = λ a b. absurd (false≢true (sym n ∙ a)); first = λ a b. absurd (false≢true (sym n ∙ a)) }

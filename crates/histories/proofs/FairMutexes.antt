@@ -1,10 +1,9 @@
 -- Take and give are fair.
 use Prim.Native.Nat.{ℕ, _<_}
 use mathlib.Core.Path.{_≡_, refl, sym, ap, _∙_, subst}
-use mathlib.Core.Bool.{Bool, true, false, not, _&&_, false≢true}
-use mathlib.Core.List.{List, [], _∷_}
+use mathlib.Core.Bool.{Bool, true, false, false≢true}
+use mathlib.Core.List.{[]}
 use native.Mathlib.Omega.{arith}
-use lib.Dec.{eqb}
 use lib.ListN.{length, set, length-set}
 use borrow.Author.Tests.{eqb-true, eqb-false, eq-eqb}
 use Rattle.lists.specs.Choice.{if_then_else_}
@@ -18,24 +17,24 @@ use Rattle.slots.specs.Tasks.{placed, ranked}
 use Rattle.slots.specs.Objects.{heldBy}
 use Rattle.kernel.specs.Tables.{taskAt, kindAt, holds}
 use Rattle.kernel.specs.Lines.{level, toTail}
-use Rattle.kernel.specs.Sentences.{Holds, Exists, Sound}
+use Rattle.kernel.specs.Sentences.{Holds, Sound}
 use Rattle.kernel.specs.Refusals.{hisAlready}
 use Rattle.kernel.specs.Waits.{wakeOf, blocked, waitFor}
-use Rattle.kernel.specs.Loans.{prioritized, lent as lentIn, ownAgain}
-use Rattle.kernel.specs.Effects.{takenFrom, taken, handedOn, given as givenIn}
+use Rattle.kernel.specs.Loans.{prioritized, lent, ownAgain}
+use Rattle.kernel.specs.Effects.{takenFrom, taken, handedOn, given}
 use Rattle.kernel.proofs.Says.{some-holds}
 use Rattle.kernel.proofs.Passes.{Passed}
 use Rattle.kernel.proofs.Slotted.{at-same, at-other}
 use Rattle.kernel.proofs.Blocks.{Same, prioritized-same, prioritized-tasks}
 use Rattle.kernel.proofs.Keeps.{exists-low, ready-low}
-use Rattle.histories.specs.Types.{TaskNo, ObjNo, Wake, Place, Free, Ready, Delayed, Waiting, Suspended, Task, Nobody, By, Kind, Unused, Queue, Mutex, Object, Kernel, Take, Give}
+use Rattle.histories.specs.Types.{TaskNo, ObjNo, Wake, Place, Free, Ready, Delayed, Waiting, Suspended, Task, Nobody, By, Kind, Unused, Queue, Mutex, Kernel, Take, Give}
 use Rattle.histories.specs.Moments.{Moment, waitsIn}
-use Rattle.histories.specs.Borrowed.{largest, given, lends, lent}
+use Rattle.histories.specs.Borrowed.{largest, givenAt, lends, lentAt}
 use Rattle.histories.proofs.Largest.{larger-max, one-passes}
 use Rattle.histories.proofs.Quiet.{Quiet, still, onward, each}
 use Rattle.histories.proofs.QuietCalls.{Quietly, wait-quiet, handed-quiet}
 use Rattle.histories.proofs.Fair.{Fair, Lends, lending, on, none-given, quiet-fair, bare-fair}
-use Rattle.histories.proofs.FairTasks.{at, that-or-other, places-kept, ranked-at, prioritized-quiet}
+use Rattle.histories.proofs.FairTasks.{moment, that-or-other, places-kept, ranked-at, prioritized-quiet}
 
 pub exists-there : (p : Place) → (p ≡ Free → ⊥) → isFree p ≡ false
 exists-there Free n = absurd (n refl)
@@ -70,7 +69,7 @@ module _ (k : Kernel) (S : Sound k) (n : ℕ) (a : Saying) where
     j = prioritized k h (taskAt (k .tasks) h .own) eff
 
     abbrev wait : Moment
-    wait = at k (Take o w) a (waitFor j o w)
+    wait = moment k (Take o w) a (waitFor j o w)
 
     s : Same j k
     s = prioritized-same k h (taskAt (k .tasks) h .own) eff
@@ -132,14 +131,14 @@ module _ (k : Kernel) (S : Sound k) (n : ℕ) (a : Saying) where
             let same : taskAt (waitFor j o w .tasks) v .place ≡ taskAt (k .tasks) v .place = ap (λ (x : Task). x .place) (other-now v (eqb-false (v .0) (r .0) q)) ∙ places-kept k h (taskAt (k .tasks) h .own) eff v in
             absurd (false≢true (sym (l .not-before) ∙ sym (ap (waitsOn (on wait v)) same) ∙ l .now))
 
-    lent-one : largest (lent h wait) ≡ level (k .tasks) r
-    unfolding lent
+    lent-one : largest (lentAt h wait) ≡ level (k .tasks) r
+    unfolding lentAt
     lent-one = one-passes (level (waitFor j o w .tasks)) (lends h wait) 16 r caller-low caller-lends only-caller ∙ caller-level
 
     holder-fair : Fair wait h
     unfolding asked largest
     holder-fair =
-        let g : given h wait ≡ [] = none-given h wait refl refl in
+        let g : givenAt h wait ≡ [] = none-given h wait refl refl in
         record {
           own = λ e. rw g (ap (λ (x : Task). x .own) holder-now);
           there = λ e q. holder-there;
@@ -162,11 +161,11 @@ module _ (k : Kernel) (S : Sound k) (n : ℕ) (a : Saying) where
     unfolding asked
     wait-fair t = that-or-other h t (λ v. Fair wait v) holder-fair (λ d. quiet-fair wait t (none-given t wait refl refl) (others t d))
 
-  pub take-fair : (o : ObjNo) (w : ℕ) → Passed k (asked (Take o w)) n → (t : TaskNo) → Fair (at k (Take o w) a (taken k o w)) t
-  unfolding taken asked lentIn
+  pub take-fair : (o : ObjNo) (w : ℕ) → Passed k (asked (Take o w)) n → (t : TaskNo) → Fair (moment k (Take o w) a (taken k o w)) t
+  unfolding taken asked lent
   take-fair o w P t = go (kindAt (k .objects) o) refl
     where
-      go : (x : Kind) → kindAt (k .objects) o ≡ x → Fair (at k (Take o w) a (takenFrom k o x w)) t
+      go : (x : Kind) → kindAt (k .objects) o ≡ x → Fair (moment k (Take o w) a (takenFrom k o x w)) t
       go Unused e = quiet-fair _ t (none-given t _ refl refl) still
       go (Queue q) e = quiet-fair _ t (none-given t _ refl refl) still
       go (Mutex Nobody) e = quiet-fair _ t (none-given t _ refl refl) still
@@ -181,19 +180,19 @@ module _ (k : Kernel) (S : Sound k) (n : ℕ) (a : Saying) where
     own = taskAt (i .tasks) r .own
 
     abbrev gift : Kernel → Moment
-    gift x = at k (Give o) a x
+    gift x = moment k (Give o) a x
 
     giver-fair : holds (i .objects) r ≡ false → Fair (gift (prioritized i r own own)) r
     unfolding asked
     giver-fair e =
         let q = handed-quiet k S r o in
-        let g : given r (gift (prioritized i r own own)) ≡ [] = none-given r _ refl refl in
+        let g : givenAt r (gift (prioritized i r own own)) ≡ [] = none-given r _ refl refl in
         bare-fair (gift (prioritized i r own own)) r (ap (λ os. holds os r) (prioritized-same i r own own .objects) ∙ e)
         (λ f. rw g (owns-kept i r own r ∙ q .own))
         (λ f z. ap isFree (S .runs))
 
-    pub give-fair : (t : TaskNo) → Fair (gift (givenIn k o)) t
-    unfolding givenIn ownAgain asked
+    pub give-fair : (t : TaskNo) → Fair (gift (given k o)) t
+    unfolding given ownAgain asked
     give-fair t = go (holds (i .objects) r) refl
       where
         go : (b : Bool) → holds (i .objects) r ≡ b → Fair (gift (if b then i else prioritized i r own own)) t

@@ -1,6 +1,6 @@
 -- Every step is fair to every task, whatever the call, the item and the store.
 use Prim.Native.Nat.{ℕ}
-use mathlib.Core.Path.{_≡_, refl, sym, ap, subst}
+use mathlib.Core.Path.{_≡_, refl, sym, subst}
 use mathlib.Core.Bool.{Bool, true, false, not, _&&_, _||_}
 use mathlib.Core.List.{List, [], _∷_}
 use lib.Dec.{eqb}
@@ -10,7 +10,7 @@ use Rattle.lists.specs.Choice.{if_then_else_}
 use Rattle.calls.specs.Numbers.{sameTask}
 use Rattle.calls.specs.Asked.{asked}
 use Rattle.calls.specs.Said.{Saying, says, done, made, waiting, refused}
-use Rattle.slots.specs.Places.{isFree, isBlocked}
+use Rattle.slots.specs.Places.{isBlocked}
 use Rattle.kernel.specs.Tables.{taskAt, freeSlot, freeObject}
 use Rattle.kernel.specs.Lines.{first, runsIf, chosen, toTail}
 use Rattle.kernel.specs.Sound.{sound}
@@ -25,14 +25,14 @@ use Rattle.kernel.proofs.Passes.{Passed, passed}
 use Rattle.promises.specs.History.{Made}
 use Rattle.histories.specs.Types.{TaskNo, Call, Create, Delete, Suspend, Resume, SetPriority, Delay, Yield, Hold, Release, MakeQueue, MakeMutex, Remove, Send, Receive, Take, Give, Tick, AllReady, Kernel}
 use Rattle.histories.specs.Moments.{Moment, exists, isRefusal, momentOf}
-use Rattle.histories.specs.Borrowed.{given, lent}
+use Rattle.histories.specs.Borrowed.{givenAt, lentAt}
 use Rattle.histories.proofs.Quiet.{still}
-use Rattle.histories.proofs.QuietCalls.{Quietly, readied-quiet, suspended-quiet, delayed-quiet, send-quiet, receive-quiet, ticked-quiet, released-quiet}
+use Rattle.histories.proofs.QuietCalls.{readied-quiet, suspended-quiet, delayed-quiet, send-quiet, receive-quiet, ticked-quiet, released-quiet}
 use Rattle.histories.proofs.Fair.{Fair, none-given, quiet-fair}
-use Rattle.histories.proofs.FairTasks.{at, create-fair, delete-fair, change-fair}
+use Rattle.histories.proofs.FairTasks.{moment, create-fair, delete-fair, change-fair}
 use Rattle.histories.proofs.FairMutexes.{take-fair, give-fair}
 
-effect-fair : (k : Kernel) → Sound k → (n : ℕ) (a : Saying) → isRefusal (a .word) ≡ false → (t : TaskNo) (c : Call) → Passed k (asked c) n → Fair (at k c a (effect k c)) t
+effect-fair : (k : Kernel) → Sound k → (n : ℕ) (a : Saying) → isRefusal (a .word) ≡ false → (t : TaskNo) (c : Call) → Passed k (asked c) n → Fair (moment k c a (effect k c)) t
 unfolding effect asked namesNone resumed yielded held queueMade mutexMade removed toTail
 effect-fair k S n a ok t (Create p) P = create-fair k S n a p P t
 effect-fair k S n a ok t (Delete u) P = delete-fair k S n a u P t
@@ -53,17 +53,17 @@ effect-fair k S n a ok t (Give o) P = give-fair k S n a o t
 effect-fair k S n a ok t Tick P = quiet-fair _ t (none-given t _ refl refl) (ticked-quiet t _ k)
 
 -- choose changes who runs, and nothing else
-chosen-fair : (k : Kernel) (c : Call) (a : Saying) (j : Kernel) (t : TaskNo) → Fair (at k c a j) t → Fair (at k c a (chosen j)) t
-unfolding chosen given lent
+chosen-fair : (k : Kernel) (c : Call) (a : Saying) (j : Kernel) (t : TaskNo) → Fair (moment k c a j) t → Fair (moment k c a (chosen j)) t
+unfolding chosen givenAt lentAt
 chosen-fair k c a j t F = go (eqb (j .hold) 0) (first j AllReady)
   where
-    go : (b : Bool) (l : List TaskNo) → Fair (at k c a (if b then runsIf j l else j)) t
+    go : (b : Bool) (l : List TaskNo) → Fair (moment k c a (if b then runsIf j l else j)) t
     go true [] = F
     go true (u ∷ l) = record { own = F .own; there = F .there; kept = F .kept; first = F .first }
     go false l = F
 
 -- a refused call gives nothing
-refused-fair : (k : Kernel) (c : Call) (n : ℕ) (t : TaskNo) → Fair (at k c (says refused n) k) t
+refused-fair : (k : Kernel) (c : Call) (n : ℕ) (t : TaskNo) → Fair (moment k c (says refused n) k) t
 refused-fair k c n t = quiet-fair _ t (none-given t _ (not-both (is 1 (asked c)) (exists k t)) (not-third (is 5 (asked c)) (sameTask (asked c .task) t))) still
   where
     not-both : (x b : Bool) → (x && (b && not b)) ≡ false
@@ -94,9 +94,9 @@ step-fair k e m t = subst (λ b. Fair (by (if b then row else 1)) t) (sym e) (go
     row = laterRow k (asked (m .call)) (length (m .item)) (length (m .store))
 
     by : ℕ → Moment
-    by n = let r = steppedBy n k (m .call) (m .item) (m .store) in at k (m .call) (r .answer) (r .kernel)
+    by n = let r = steppedBy n k (m .call) (m .item) (m .store) in moment k (m .call) (r .answer) (r .kernel)
 
-    go : (b : Bool) → eqb row 0 ≡ b → Fair (let r = if b then accepted k (m .call) (m .item) (m .store) else turnedAway k row (m .store) in at k (m .call) (r .answer) (r .kernel)) t
+    go : (b : Bool) → eqb row 0 ≡ b → Fair (let r = if b then accepted k (m .call) (m .item) (m .store) else turnedAway k row (m .store) in moment k (m .call) (r .answer) (r .kernel)) t
     go true q =
         chosen-fair k (m .call) _ (effect k (m .call)) t
         (effect-fair k (sound-says k e) (length (m .store)) _ (answered-accepts k (m .call) (chosen (effect k (m .call)))) t (m .call) (passed k (asked (m .call)) (length (m .item)) (length (m .store)) (eqb-true row 0 q)))

@@ -5,7 +5,7 @@ use mathlib.Core.Bool.{Bool, true, false, not, _&&_, false≢true}
 use mathlib.Core.List.{List, [], _∷_}
 use native.Mathlib.Omega.{arith}
 use lib.Dec.{eqb}
-use lib.ListN.{length, set}
+use lib.ListN.{length}
 use borrow.Author.Tests.{eqb-true, eqb-false, eq-eqb, ne-eqb}
 use Rattle.lists.specs.Choice.{if_then_else_}
 use Rattle.lists.specs.Lists.{larger}
@@ -15,9 +15,9 @@ use Rattle.calls.specs.Said.{Saying}
 use Rattle.order.proofs.Lines.{one-number}
 use Rattle.slots.specs.Places.{isFree, waitsOn}
 use Rattle.slots.specs.Tasks.{freeTask, readyAt, ranked}
-use Rattle.kernel.specs.Tables.{taskAt, kindAt, holds, freeSlot}
+use Rattle.kernel.specs.Tables.{taskAt, holds, freeSlot}
 use Rattle.kernel.specs.Lines.{level, toTail, leaves}
-use Rattle.kernel.specs.Sentences.{Holds, Sound}
+use Rattle.kernel.specs.Sentences.{Sound}
 use Rattle.kernel.specs.Refusals.{namesNone, noSlot, inUse}
 use Rattle.kernel.specs.Loans.{prioritized, newPriority}
 use Rattle.kernel.specs.Effects.{created, deleted}
@@ -26,17 +26,17 @@ use Rattle.kernel.proofs.Passes.{Passed}
 use Rattle.kernel.proofs.Slotted.{at-same}
 use Rattle.kernel.proofs.Blocks.{prioritized-same, prioritized-tasks}
 use Rattle.kernel.proofs.Keeps.{or-off, exists-low, index-most, index-passes}
-use Rattle.histories.specs.Types.{TaskNo, ObjNo, Place, Free, Ready, Delayed, Waiting, Suspended, Task, Kernel, Call, Create, Delete, SetPriority}
-use Rattle.histories.specs.Moments.{Moment, isRefusal, appears}
-use Rattle.histories.specs.Borrowed.{largest, given, lent}
+use Rattle.histories.specs.Types.{TaskNo, Place, Free, Ready, Delayed, Waiting, Suspended, Task, Kernel, Call, Create, Delete, SetPriority}
+use Rattle.histories.specs.Moments.{Moment, isRefusal}
+use Rattle.histories.specs.Borrowed.{largest, givenAt}
 use Rattle.histories.proofs.Largest.{larger-max}
 use Rattle.histories.proofs.Quiet.{Quiet, each, slot-quiet, ranked-quiet}
 use Rattle.histories.proofs.QuietCalls.{Quietly}
 use Rattle.histories.proofs.Fair.{Fair, Lends, on, none-given, none-lent, quiet-fair, bare-fair}
 
 -- the moment of an accepted call
-abbrev pub at : Kernel → Call → Saying → Kernel → Moment
-at k c a j = record { before = k; call = c; answer = a; after = j }
+abbrev pub moment : Kernel → Call → Saying → Kernel → Moment
+moment k c a j = record { before = k; call = c; answer = a; after = j }
 
 -- one task, and every other
 pub that-or-other : (u t : TaskNo) (P : TaskNo → Type 0) → P u → ((u .0 ≡ t .0 → ⊥) → P t) → P t
@@ -75,7 +75,7 @@ module _ (k : Kernel) (S : Sound k) (n : ℕ) (a : Saying) where
     new = task (freeSlot (k .tasks))
 
     abbrev creation : Moment
-    creation = at k (Create p) a (created k p)
+    creation = moment k (Create p) a (created k p)
 
     has-slot : new .0 < length (k .tasks)
     unfolding asked noSlot freeSlot
@@ -96,8 +96,8 @@ module _ (k : Kernel) (S : Sound k) (n : ℕ) (a : Saying) where
     unfolding created toTail
     holds-none = none-holds (k .objects) new (λ o h. S .holders new o h (no-place _ was-free))
 
-    given-first : given new creation ≡ p ∷ []
-    unfolding given asked
+    given-first : givenAt new creation ≡ p ∷ []
+    unfolding givenAt asked
     given-first = rw (now-there, was-free)
 
     others : (t : TaskNo) → (new .0 ≡ t .0 → ⊥) → Quietly t k (created k p)
@@ -120,7 +120,7 @@ module _ (k : Kernel) (S : Sound k) (n : ℕ) (a : Saying) where
   -- 2: delete
   module _ (u : TaskNo) (P : Passed k (asked (Delete u)) n) where
     abbrev deletion : Moment
-    deletion = at k (Delete u) a (deleted k u)
+    deletion = moment k (Delete u) a (deleted k u)
 
     was-there : isFree (taskAt (k .tasks) u .place) ≡ false
     unfolding asked namesNone
@@ -144,7 +144,7 @@ module _ (k : Kernel) (S : Sound k) (n : ℕ) (a : Saying) where
   -- 5: set priority
   module _ (ok : isRefusal (a .word) ≡ false) (u : TaskNo) (p : ℕ) (P : Passed k (asked (SetPriority u p)) n) where
     abbrev change : Moment
-    change = at k (SetPriority u p) a (newPriority k u p)
+    change = moment k (SetPriority u p) a (newPriority k u p)
 
     abbrev eff : ℕ
     eff = if holds (k .objects) u then larger (level (k .tasks) u) p else p
@@ -161,8 +161,8 @@ module _ (k : Kernel) (S : Sound k) (n : ℕ) (a : Saying) where
     unfolding newPriority
     same-holds = ap (λ os. holds os u) (prioritized-same k u p eff .objects)
 
-    given-now : given u change ≡ p ∷ []
-    unfolding given asked
+    given-now : givenAt u change ≡ p ∷ []
+    unfolding givenAt asked
     given-now = rw (eq-eqb (u .0) (u .0) refl, ok)
 
     nobody : (v : TaskNo) → Lends u change v → ⊥

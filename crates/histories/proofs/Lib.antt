@@ -1,3 +1,4 @@
+pub mod Told
 pub mod Largest
 pub mod Quiet
 pub mod QuietCalls
@@ -6,4 +7,3 @@ pub mod FairTasks
 pub mod FairMutexes
 pub mod FairSteps
 pub mod PaidBack
-pub mod Told

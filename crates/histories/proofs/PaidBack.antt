@@ -11,13 +11,13 @@ use Rattle.slots.specs.Tasks.{freeTask}
 use Rattle.kernel.specs.Tables.{fresh, taskAt, holds}
 use Rattle.kernel.specs.Lines.{level}
 use Rattle.kernel.specs.Sound.{sound}
-use Rattle.kernel.specs.Sentences.{Exists, Sound}
+use Rattle.kernel.specs.Sentences.{Exists}
 use Rattle.kernel.proofs.Says.{sound-says, not-held}
 use Rattle.kernel.proofs.Every.{fresh-sound, step-kept}
 use Rattle.promises.specs.History.{Made, after, reached}
 use Rattle.histories.specs.Types.{TaskNo, Kernel}
 use Rattle.histories.specs.Moments.{Moment, momentOf, momentsFrom, moments, hasMutex}
-use Rattle.histories.specs.Borrowed.{largest, given, lastOf, lastGiven, lent, counted, due}
+use Rattle.histories.specs.Borrowed.{largest, givenAt, lastOf, lastGiven, lentAt, counted, due}
 use Rattle.histories.proofs.Largest.{largest-append, larger-none}
 use Rattle.histories.proofs.Fair.{Fair}
 use Rattle.histories.proofs.FairMutexes.{exists-there}
@@ -56,9 +56,9 @@ module _ (k : Kernel) (past : List Moment) (m : Made) (A : Accounts k past) wher
 
   own-now : (t : TaskNo) → isFree (taskAt (now .after .tasks) t .place) ≡ false → taskAt (now .after .tasks) t .own ≡ lastGiven t (now ∷ past)
   unfolding lastGiven
-  own-now t e = F t .own e ∙ go (given t now) refl
+  own-now t e = F t .own e ∙ go (givenAt t now) refl
     where
-      go : (g : List ℕ) → given t now ≡ g → lastOf g (taskAt (k .tasks) t .own) ≡ lastOf g (lastGiven t past)
+      go : (g : List ℕ) → givenAt t now ≡ g → lastOf g (taskAt (k .tasks) t .own) ≡ lastOf g (lastGiven t past)
       go [] n = A .own t (F t .there e n)
       go (p ∷ ps) n = refl
 
@@ -66,20 +66,20 @@ module _ (k : Kernel) (past : List Moment) (m : Made) (A : Accounts k past) wher
   unfolding counted largest
   borrowed-now t e = go (hasMutex k t) refl
     where
-      go : (b : Bool) → hasMutex k t ≡ b → level (now .after .tasks) t ≡ largest (if b then given t now ++ (lent t now ++ counted t past) else level (k .tasks) t ∷ [])
+      go : (b : Bool) → hasMutex k t ≡ b → level (now .after .tasks) t ≡ largest (if b then givenAt t now ++ (lentAt t now ++ counted t past) else level (k .tasks) t ∷ [])
       go true h =
           F t .kept e h
-          ∙ sym (largest-append (given t now) (lent t now ++ counted t past)
-          ∙ ap (larger (largest (given t now))) (largest-append (lent t now) (counted t past) ∙ ap (larger (largest (lent t now))) (sym (A .borrowed t h))))
+          ∙ sym (largest-append (givenAt t now) (lentAt t now ++ counted t past)
+          ∙ ap (larger (largest (givenAt t now))) (largest-append (lentAt t now) (counted t past) ∙ ap (larger (largest (lentAt t now))) (sym (A .borrowed t h))))
       go false h = F t .first e h ∙ sym (larger-none (level (k .tasks) t) .0)
 
-  onward : Accounts (now .after) (now ∷ past)
-  onward = record { fine = step-kept k (m .call) (m .item) (m .store) (A .fine); own = own-now; borrowed = borrowed-now }
+  one-more : Accounts (now .after) (now ∷ past)
+  one-more = record { fine = step-kept k (m .call) (m .item) (m .store) (A .fine); own = own-now; borrowed = borrowed-now }
 
 accounts : (k : Kernel) (past : List Moment) (ms : List Made) → Accounts k past → Accounts (after k ms) (momentsFrom k past ms)
 unfolding after momentsFrom
 accounts k past [] A = A
-accounts k past (m ∷ ms) A = accounts _ _ ms (onward k past m A)
+accounts k past (m ∷ ms) A = accounts _ _ ms (one-more k past m A)
 
 module _ (ms : List Made) (t : TaskNo) (there : Exists ((reached ms) .tasks) t) where
   A : Accounts (reached ms) (moments ms)

@@ -1,6 +1,6 @@
 -- The calls that give and lend no priority are quiet, for every task.
 use Prim.Native.Nat.{ℕ, zero, suc, _+_, _-_}
-use mathlib.Core.Path.{_≡_, refl, sym, ap, _∙_, subst}
+use mathlib.Core.Path.{_≡_, refl, sym, ap, subst}
 use mathlib.Core.Bool.{Bool, true, false, false≢true}
 use mathlib.Core.List.{List, [], _∷_}
 use native.Mathlib.Omega.{arith}
@@ -8,25 +8,20 @@ use lib.Dec.{eqb, ltb}
 use borrow.Author.Tests.{eqb-true}
 use Rattle.lists.specs.Choice.{if_then_else_}
 use Rattle.lists.specs.Lists.{upTo}
-use Rattle.lists.proofs.Bools.{on}
 use Rattle.calls.specs.Numbers.{task}
-use Rattle.calls.specs.Asked.{asked}
 use Rattle.order.specs.Order.{listed}
-use Rattle.slots.specs.Places.{isFree, isSuspended, isBlocked, isListed, waitsOn, wakesAt, outcomeDue}
+use Rattle.slots.specs.Places.{isFree, isBlocked, isListed, waitsOn, wakesAt, outcomeDue}
 use Rattle.slots.specs.Tasks.{brokenOff}
-use Rattle.slots.specs.Objects.{isQueue}
 use Rattle.kernel.specs.Tables.{taskAt, kindAt, withTask, withTick, withHold}
 use Rattle.kernel.specs.Lines.{level, first, toTail, leaves}
 use Rattle.kernel.specs.Sound.{noHigher}
 use Rattle.kernel.specs.Sentences.{Holds, Sound}
-use Rattle.kernel.specs.Refusals.{namesNone, notSuspended}
 use Rattle.kernel.specs.Waits.{later, wakeOf, readied, blocked, waitFor}
-use Rattle.kernel.specs.Ticks.{wokenIfDue, wakes, oneTick, turned, ticked, ticks, released, held}
-use Rattle.kernel.specs.Items.{oneLess, oneMore, roomOr, outletFor, outlet, sentBy, sent, sentTo, refilledBy, received, receivedFrom}
-use Rattle.kernel.specs.Effects.{suspended, resumed, yielded, delayed, queueMade, mutexMade, removed, handedTo, handedOn, effect}
+use Rattle.kernel.specs.Ticks.{wokenIfDue, wakes, oneTick, turned, ticked, ticks, released}
+use Rattle.kernel.specs.Items.{oneLess, roomOr, outletFor, outlet, sentBy, sent, sentTo, refilledBy, received, receivedFrom}
+use Rattle.kernel.specs.Effects.{suspended, yielded, delayed, handedTo, handedOn}
 use Rattle.kernel.proofs.Within.{first-meant, first-single}
-use Rattle.kernel.proofs.Passes.{Passed}
-use Rattle.histories.specs.Types.{TaskNo, ObjNo, Place, Free, Ready, Delayed, Waiting, Suspended, Ring, By, Kind, Unused, Queue, Mutex, Object, WaitersOf, toWaiter, toQueue, toCaller, Kernel, Suspend, Resume, Delay, Yield, Hold, Release, MakeQueue, MakeMutex, Remove, Send, Receive, Tick}
+use Rattle.histories.specs.Types.{TaskNo, ObjNo, Place, Free, Ready, Delayed, Waiting, Suspended, Ring, Kind, Unused, Queue, Mutex, Object, WaitersOf, toWaiter, toQueue, toCaller, Kernel}
 use Rattle.histories.proofs.Quiet.{Quiet, still, onward, placed-quiet}
 
 -- from a kernel to the next

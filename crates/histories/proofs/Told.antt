@@ -16,8 +16,8 @@ use Rattle.kernel.specs.Tables.{fresh, taskAt, kindAt, holds, freeSlot, freeObj
 use Rattle.kernel.specs.Ticks.{wokenIfDue, wakes, oneTick, turned, ticked, ticks, released, held}
 use Rattle.kernel.specs.Waits.{readied, blocked, waitFor}
 use Rattle.histories.specs.Moments.{tasksBelow}
-use Rattle.histories.specs.Borrowed.{largest, given as givenAt, lastGiven, lent as lentAt, counted, due}
-use Rattle.histories.specs.Tales.{shownFrom, shown, twoGives, setWithLoan, timeRunsOut, handedWithWaiter, refusedChange, slotUsedAgain}
+use Rattle.histories.specs.Borrowed.{largest, givenAt, lastGiven, lentAt, counted, due}
+use Rattle.histories.specs.Tales.{shownFrom, shown, twoGives, setWithLoan, timeRunsOut, handedWithWaiter, lendsBorrowed, refusedChange, slotUsedAgain}
 
 pub record Told : Type 0 where
   -- a loan is made, kept over the first of two gives, and paid back at the last
@@ -28,18 +28,21 @@ pub record Told : Type 0 where
   pub stays-after-wait : shown timeRunsOut ≡ timeRunsOut .expected
   -- who waited already when the mutex was handed on does not count
   pub not-who-came-along : shown handedWithWaiter ≡ handedWithWaiter .expected
+  -- the waiter lends its effective priority, not its own
+  pub lends-effective : shown lendsBorrowed ≡ lendsBorrowed .expected
   -- a refused change gives nothing
   pub not-if-refused : shown refusedChange ≡ refusedChange .expected
   -- a slot used again is another task
   pub another-task : shown slotUsedAgain ≡ slotUsedAgain .expected
 
 pub told : Told
-unfolding shownFrom twoGives setWithLoan timeRunsOut handedWithWaiter refusedChange slotUsedAgain tasksBelow largest givenAt lastGiven lentAt counted due every allBelow foldl upTo index any kept asked ordered without count tidy putAt created deleted suspended resumed yielded delayed queueMade mutexMade removed taken handedOn given effect itemAt outlet sent storeSent received storeReceived line those highest leader first chosen toTail toHead leaves moved movedIf prioritized newPriority lent ownAgain outOfRange namesNone wrongSize notForIdle notWithHold noSlot inUse notHis hisAlready notSuspended mustWait noDepth noTick table laterRow refusal noHigher runsFine sound stored answered accepted step fresh taskAt kindAt holds freeSlot freeObject wokenIfDue wakes oneTick turned ticked ticks released held readied blocked waitFor
+unfolding shownFrom twoGives setWithLoan timeRunsOut handedWithWaiter lendsBorrowed refusedChange slotUsedAgain tasksBelow largest givenAt lastGiven lentAt counted due every allBelow foldl upTo index any kept asked ordered without count tidy putAt created deleted suspended resumed yielded delayed queueMade mutexMade removed taken handedOn given effect itemAt outlet sent storeSent received storeReceived line those highest leader first chosen toTail toHead leaves moved movedIf prioritized newPriority lent ownAgain outOfRange namesNone wrongSize notForIdle notWithHold noSlot inUse notHis hisAlready notSuspended mustWait noDepth noTick table laterRow refusal noHigher runsFine sound stored answered accepted step fresh taskAt kindAt holds freeSlot freeObject wokenIfDue wakes oneTick turned ticked ticks released held readied blocked waitFor
 told = record {
   kept-over-first-give = refl;
   set-below-loan = refl;
   stays-after-wait = refl;
   not-who-came-along = refl;
+  lends-effective = refl;
   not-if-refused = refl;
   another-task = refl;
 }

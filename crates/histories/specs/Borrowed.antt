@@ -28,8 +28,8 @@ abbrev pub isChanged : TaskNo → Moment → Bool
 isChanged t m = is 5 (asked (m .call)) && (sameTask (asked (m .call) .task) t && accepted m)
 
 -- the priority given to t at the moment: a list of one, or of none
-unfoldable pub given : TaskNo → Moment → List ℕ
-given t m = if isCreated t m || isChanged t m then asked (m .call) .priority ∷ [] else []
+unfoldable pub givenAt : TaskNo → Moment → List ℕ
+givenAt t m = if isCreated t m || isChanged t m then asked (m .call) .priority ∷ [] else []
 
 -- "the priority last given to it": its creation gives one, so a slot's earlier tasks are not asked; idle counts as created with 0
 abbrev pub lastOf : List ℕ → ℕ → ℕ
@@ -38,7 +38,7 @@ lastOf (p ∷ ps) n = p
 
 unfoldable pub lastGiven : TaskNo → List Moment → ℕ
 lastGiven t [] = 0
-lastGiven t (m ∷ earlier) = lastOf (given t m) (lastGiven t earlier)
+lastGiven t (m ∷ earlier) = lastOf (givenAt t m) (lastGiven t earlier)
 
 -- the task u "began to wait on a mutex this task then held"
 abbrev pub lends : TaskNo → Moment → TaskNo → Bool
@@ -46,14 +46,14 @@ lends t m u =
     let o = waited (taskAt (m .after .tasks) u .place) in begins m u o && heldBy t (kindAt (m .after .objects) o)
 
 -- each such "waiter's effective priority at that moment"
-unfoldable pub lent : TaskNo → Moment → List ℕ
-lent t m = map (level (m .after .tasks)) (kept (lends t m) (tasksBelow 16))
+unfoldable pub lentAt : TaskNo → Moment → List ℕ
+lentAt t m = map (level (m .after .tasks)) (kept (lends t m) (tasksBelow 16))
 
 -- "the priority it had when it went from none to one, those given to it since, and, for each later moment .., the waiter's effective priority"
 unfoldable pub counted : TaskNo → List Moment → List ℕ
 counted t [] = []
 counted t (m ∷ earlier) =
-    if hasMutex (m .before) t then given t m ++ (lent t m ++ counted t earlier) else level (m .before .tasks) t ∷ []
+    if hasMutex (m .before) t then givenAt t m ++ (lentAt t m ++ counted t earlier) else level (m .before .tasks) t ∷ []
 
 -- "a task without a mutex has exactly the priority last given to it"; "A task with one has the largest of" those counted
 unfoldable pub due : Kernel → List Moment → TaskNo → ℕ

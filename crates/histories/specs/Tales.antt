@@ -1,6 +1,6 @@
 -- Histories of a task's effective priority: calls, and what the task has after each of them.
 use Prim.Native.Nat.{ℕ}
-use mathlib.Core.List.{List, [], _∷_, map}
+use mathlib.Core.List.{List, [], _∷_}
 use lib.ListN.{replicate}
 use Rattle.lists.specs.Choice.{if_then_else_}
 use Rattle.calls.specs.Numbers.{task, object}
@@ -83,6 +83,14 @@ handedWithWaiter = record {
       ∷ Give (object 0)
       ∷ [];
   expected = gone ∷ gone ∷ gone ∷ both 6 ∷ both 6 ∷ both 6 ∷ both 6 ∷ both 6 ∷ both 6 ∷ both 6 ∷ both 6 ∷ both 8 ∷ both 6 ∷ [];
+}
+
+-- task 2, of priority 4, has a loan of 7 when it begins to wait for task 1
+unfoldable pub lendsBorrowed : Tale
+lendsBorrowed = record {
+  task = task 1;
+  calls = Create 3 ∷ MakeMutex ∷ MakeMutex ∷ Take (object 0) 0 ∷ Create 4 ∷ Take (object 1) 0 ∷ Create 7 ∷ Take (object 1) 10 ∷ Take (object 0) 10 ∷ Give (object 0) ∷ [];
+  expected = both 3 ∷ both 3 ∷ both 3 ∷ both 3 ∷ both 3 ∷ both 3 ∷ both 3 ∷ both 3 ∷ both 7 ∷ both 3 ∷ [];
 }
 
 -- a change to 40 is refused, without a mutex and with one
