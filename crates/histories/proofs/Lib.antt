@@ -1,4 +1,4 @@
-pub mod Told
+pub mod Computed
 pub mod Largest
 pub mod Quiet
 pub mod QuietCalls
