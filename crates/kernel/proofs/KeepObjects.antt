@@ -20,7 +20,7 @@ use Rattle.kernel.specs.Tables.{taskAt, kindAt, holds, freeObject, withO
 use Rattle.kernel.specs.Lines.{those, first}
 use Rattle.kernel.specs.Sentences.{MayWait, receiver, sender, taker, RingFits, Sound}
 use Rattle.kernel.specs.Asking.{waits}
-use Rattle.kernel.specs.Refusals.{outOfRange, namesNone, noSlot, inUse}
+use Rattle.kernel.specs.Refusals.{outOfRange, namesNone, noSlot, heldOrWaited, inUse}
 use Rattle.kernel.specs.Waits.{later, wakeOf}
 use Rattle.kernel.specs.Effects.{queueMade, mutexMade, removed, effect}
 use Rattle.kernel.proofs.Slots.{past-objects}
@@ -150,11 +150,11 @@ module _ (k : Kernel) (S : Sound k) (store : ℕ) where
     named = P .named
 
     unheld : isHeld (kindAt (k .objects) o) ≡ false
-    unfolding asked inUse
+    unfolding asked inUse heldOrWaited
     unheld = or-off (isHeld (kindAt (k .objects) o)) _ (P .unused) .0
 
     unwaited : isNone (those (k .tasks) (WaitersOf o) (listed (k .order))) ≡ true
-    unfolding asked inUse
+    unfolding asked inUse heldOrWaited
     unwaited = on _ (or-off (isHeld (kindAt (k .objects) o)) _ (P .unused) .1)
 
     pub remove-keeps : Keeps (effect k (Remove o))

@@ -20,7 +20,7 @@ use Rattle.kernel.specs.Lines.{chosen}
 use Rattle.kernel.specs.Sound.{sound}
 use Rattle.kernel.specs.Sentences.{Exists, Sound}
 use Rattle.kernel.specs.Asking.{is, stops, waits}
-use Rattle.kernel.specs.Refusals.{notForIdle, notWithHold, stopsAt, mustWait, laterRow, refusal}
+use Rattle.kernel.specs.Refusals.{seen, notForIdle, notWithHold, stopsAt, mustWait, laterRow, refusal}
 use Rattle.kernel.specs.Effects.{effect}
 use Rattle.kernel.specs.Step.{accepted, turnedAway, step}
 use Rattle.kernel.proofs.Slots.{past-tasks}
@@ -56,21 +56,21 @@ or-true : (a b : Bool) → b ≡ true → (a || b) ≡ true
 or-true true b e = refl
 or-true false b e = e
 
-pub wait-busy : (k : Kernel) (a : Asked) → notForIdle k a ≡ false → waits a ≡ true → k .running .0 ≡ 0 → ⊥
+pub wait-busy : (k : Kernel) (a : Asked) → notForIdle (seen k a) a ≡ false → waits a ≡ true → k .running .0 ≡ 0 → ⊥
 unfolding notForIdle
 wait-busy k a e w =
     let f : ((is 6 a || (is 15 a || waits a)) && isIdle (k .running)) ≡ false = or-off (is 5 a && (isIdle (a .task) && not (eqb (a .priority) 0))) _ (or-off (stops a && isIdle (a .task)) _ e .1) .1 in
     let g : (is 6 a || (is 15 a || waits a)) ≡ true = or-true (is 6 a) (is 15 a || waits a) (or-true (is 15 a) (waits a) w) in
     eqb-false (k .running .0) 0 (rw g at f)
 
-pub wait-free : (k : Kernel) (a : Asked) → notWithHold k a ≡ false → waits a ≡ true → 0 < k .hold → ⊥
+pub wait-free : (k : Kernel) (a : Asked) → notWithHold (seen k a) a ≡ false → waits a ≡ true → 0 < k .hold → ⊥
 unfolding notWithHold
 wait-free k a e w h =
     let f : (is 6 a || (is 7 a || (waits a || (stops a && sameTask (a .task) (k .running))))) ≡ false = rw (lt-ltb 0 (k .hold) h) at e in
     false≢true (sym (or-off (waits a) _ (or-off (is 7 a) _ (or-off (is 6 a) _ f .1) .1) .0) ∙ w)
 
 -- where the caller would have to wait, the wait is not 0
-pub must-wait : (k : Kernel) (a : Asked) → mustWait k a ≡ false → stopsAt a (kindAt (k .objects) (a .object)) ≡ true → waits a ≡ true
+pub must-wait : (k : Kernel) (a : Asked) → mustWait (seen k a) a ≡ false → stopsAt a (kindAt (k .objects) (a .object)) ≡ true → waits a ≡ true
 unfolding mustWait
 must-wait k a e s = go (waits a) (rw s at e)
   where

@@ -4,6 +4,7 @@ pub mod Moves
 pub mod Quicks
 pub mod Says
 pub mod Within
+pub mod Rows
 pub mod Passes
 pub mod Ends
 pub mod Asks

@@ -9,9 +9,11 @@ use borrow.Author.Tests.{eqb-true, eqb-false, ltb-false, ltb-true, lt-ltb, not-f
 use Rattle.lists.specs.Choice.{if_then_else_}
 use Rattle.calls.specs.Asked.{asked}
 use Rattle.slots.specs.Places.{isReady}
-use Rattle.kernel.specs.Types.{TaskNo, Task, Call, Create, SetPriority, MakeQueue, Hold, Release, Tick, Asked, Kernel}
+use Rattle.kernel.specs.Types.{TaskNo, Task, Call, Create, SetPriority, MakeQueue, MakeMutex, Hold, Release, Tick, Asked, Kernel}
+use Rattle.kernel.specs.Tables.{freeSlot, freeObject}
+use Rattle.kernel.specs.Asking.{makes, newNumber}
 use Rattle.kernel.specs.Sound.{sound}
-use Rattle.kernel.specs.Refusals.{outOfRange, namesNone, wrongSize, notForIdle, notWithHold, noSlot, inUse, notHis, hisAlready, notSuspended, mustWait, noDepth, noTick, table, laterRow}
+use Rattle.kernel.specs.Refusals.{seen, outOfRange, namesNone, wrongSize, notForIdle, notWithHold, noSlot, inUse, notHis, hisAlready, notSuspended, mustWait, noDepth, noTick, table, laterRow}
 use Rattle.kernel.specs.Promises.{Steady}
 use Rattle.kernel.specs.Sentences.{Sound}
 use Rattle.kernel.proofs.Slots.{past-tasks}
@@ -24,17 +26,17 @@ or-off false b e = (refl, e)
 pub record Passed (k : Kernel) (a : Asked) (store : ℕ) : Type 0 where
   pub whole : store ≡ 9216
   pub in-range : outOfRange a ≡ false
-  pub named : namesNone k a ≡ false
-  pub idle : notForIdle k a ≡ false
-  pub held : notWithHold k a ≡ false
+  pub named : namesNone (seen k a) a ≡ false
+  pub idle : notForIdle (seen k a) a ≡ false
+  pub held : notWithHold (seen k a) a ≡ false
   pub slot : noSlot k a ≡ false
   pub unused : inUse k a ≡ false
-  pub his : notHis k a ≡ false
-  pub another : hisAlready k a ≡ false
-  pub suspended : notSuspended k a ≡ false
-  pub may-wait : mustWait k a ≡ false
-  pub deep : noDepth k a ≡ false
-  pub ticks : noTick k a ≡ false
+  pub his : notHis (seen k a) a ≡ false
+  pub another : hisAlready (seen k a) a ≡ false
+  pub suspended : notSuspended (seen k a) a ≡ false
+  pub may-wait : mustWait (seen k a) a ≡ false
+  pub deep : noDepth (seen k a) a ≡ false
+  pub ticks : noTick (seen k a) a ≡ false
 
 pub below-255 : (n : ℕ) → n ≤ 255 → eqb n 255 ≡ false → n < 255
 below-255 n h e = let d = eqb-false n 255 e in omega (arith, d)
@@ -66,18 +68,18 @@ unfolding laterRow table
 passed k a item store e0 =
     let e1 = row-passed (not (eqb store 9216)) 2 (omega arith) e0 in
     let e2 = row-passed (outOfRange a) 4 (omega arith) (e1 .1) in
-    let e3 = row-passed (namesNone k a) 5 (omega arith) (e2 .1) in
-    let e4 = row-passed (wrongSize k a item) 6 (omega arith) (e3 .1) in
-    let e5 = row-passed (notForIdle k a) 7 (omega arith) (e4 .1) in
-    let e6 = row-passed (notWithHold k a) 8 (omega arith) (e5 .1) in
+    let e3 = row-passed (namesNone (seen k a) a) 5 (omega arith) (e2 .1) in
+    let e4 = row-passed (wrongSize (seen k a) a item) 6 (omega arith) (e3 .1) in
+    let e5 = row-passed (notForIdle (seen k a) a) 7 (omega arith) (e4 .1) in
+    let e6 = row-passed (notWithHold (seen k a) a) 8 (omega arith) (e5 .1) in
     let e7 = row-passed (noSlot k a) 9 (omega arith) (e6 .1) in
     let e8 = row-passed (inUse k a) 10 (omega arith) (e7 .1) in
-    let e9 = row-passed (notHis k a) 11 (omega arith) (e8 .1) in
-    let e10 = row-passed (hisAlready k a) 12 (omega arith) (e9 .1) in
-    let e11 = row-passed (notSuspended k a) 13 (omega arith) (e10 .1) in
-    let e12 = row-passed (mustWait k a) 14 (omega arith) (e11 .1) in
-    let e13 = row-passed (noDepth k a) 15 (omega arith) (e12 .1) in
-    let e14 = row-passed (noTick k a) 16 (omega arith) (e13 .1) in
+    let e9 = row-passed (notHis (seen k a) a) 11 (omega arith) (e8 .1) in
+    let e10 = row-passed (hisAlready (seen k a) a) 12 (omega arith) (e9 .1) in
+    let e11 = row-passed (notSuspended (seen k a) a) 13 (omega arith) (e10 .1) in
+    let e12 = row-passed (mustWait (seen k a) a) 14 (omega arith) (e11 .1) in
+    let e13 = row-passed (noDepth (seen k a) a) 15 (omega arith) (e12 .1) in
+    let e14 = row-passed (noTick (seen k a) a) 16 (omega arith) (e13 .1) in
     record {
       whole = eqb-true store 9216 (not-false (eqb store 9216) (e1 .0));
       in-range = e2 .0;
@@ -107,15 +109,28 @@ pub queue-fits : {c : Call} {n s : ℕ} → c ≡ MakeQueue n s → outOfRange (
 unfolding asked
 queue-fits {c} {n} {s} e h = let r = range (asked (MakeQueue n s)) (rw e at h) in (r .few, r .small)
 
-pub hold-fits : (k : Kernel) {c : Call} → c ≡ Hold → noDepth k (asked c) ≡ false → eqb (k .hold) 255 ≡ false
+-- the new number, found before the calls part
+pub task-number : (k : Kernel) {c : Call} {p : ℕ} {a : Asked} {n : ℕ} → c ≡ Create p → a ≡ asked c → (makes a ≡ true → n ≡ newNumber k a) → n ≡ freeSlot (k .tasks)
+unfolding asked
+task-number k e q f = rw (q, e) at f refl
+
+pub queue-number : (k : Kernel) {c : Call} {m s : ℕ} {a : Asked} {n : ℕ} → c ≡ MakeQueue m s → a ≡ asked c → (makes a ≡ true → n ≡ newNumber k a) → n ≡ freeObject (k .objects)
+unfolding asked
+queue-number k e q f = rw (q, e) at f refl
+
+pub mutex-number : (k : Kernel) {c : Call} {a : Asked} {n : ℕ} → c ≡ MakeMutex → a ≡ asked c → (makes a ≡ true → n ≡ newNumber k a) → n ≡ freeObject (k .objects)
+unfolding asked
+mutex-number k e q f = rw (q, e) at f refl
+
+pub hold-fits : (k : Kernel) {c : Call} → c ≡ Hold → noDepth (seen k (asked c)) (asked c) ≡ false → eqb (k .hold) 255 ≡ false
 unfolding asked noDepth
 hold-fits k e h = or-off (eqb (k .hold) 255) false (rw e at h) .0
 
-pub release-fits : (k : Kernel) {c : Call} → c ≡ Release → noDepth k (asked c) ≡ false → eqb (k .hold) 0 ≡ false
+pub release-fits : (k : Kernel) {c : Call} → c ≡ Release → noDepth (seen k (asked c)) (asked c) ≡ false → eqb (k .hold) 0 ≡ false
 unfolding asked noDepth
 release-fits k e h = rw e at h
 
-pub tick-fits : (k : Kernel) {c : Call} → c ≡ Tick → noTick k (asked c) ≡ false → (ltb 0 (k .hold) && eqb (k .pended) 65535) ≡ false
+pub tick-fits : (k : Kernel) {c : Call} → c ≡ Tick → noTick (seen k (asked c)) (asked c) ≡ false → (ltb 0 (k .hold) && eqb (k .pended) 65535) ≡ false
 unfolding asked noTick
 tick-fits k e h = rw e at h
 

@@ -2,11 +2,21 @@
 use Prim.Native.Nat.{ℕ}
 use mathlib.Core.Bool.{Bool, not, _||_}
 use lib.Dec.{eqb}
-use Rattle.kernel.specs.Types.{Asked}
+use Rattle.lists.specs.Choice.{if_then_else_}
+use Rattle.kernel.specs.Types.{Asked, Kernel}
+use Rattle.kernel.specs.Tables.{freeSlot, freeObject}
 
 -- it is the call of this number
 abbrev pub is : ℕ → Asked → Bool
 is n a = eqb (a .number) n
+
+-- "create or make"
+abbrev pub makes : Asked → Bool
+makes a = is 1 a || (is 10 a || is 11 a)
+
+-- "lowest free slot", "lowest free object": the number that a create or make gives
+abbrev pub newNumber : Kernel → Asked → ℕ
+newNumber k a = if is 1 a then freeSlot (k .tasks) else freeObject (k .objects)
 
 -- "delete or suspend"
 abbrev pub stops : Asked → Bool

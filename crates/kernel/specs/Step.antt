@@ -1,6 +1,5 @@
 -- A step: a kernel, a call, the item lent with it and the lent store give the next kernel, the answer and the store afterwards.
 use Prim.Native.Nat.{ℕ}
-use mathlib.Core.Bool.{_||_}
 use mathlib.Core.List.{List}
 use lib.Dec.{eqb}
 use lib.ListN.{length}
@@ -9,10 +8,10 @@ use Rattle.calls.specs.Asked.{asked}
 use Rattle.calls.specs.Said.{Saying, says, done, made, waiting, refused}
 use Rattle.slots.specs.Places.{isBlocked}
 use Rattle.kernel.specs.Types.{Call, Asked, Create, Delete, Suspend, Resume, SetPriority, Delay, Yield, Hold, Release, MakeQueue, MakeMutex, Remove, Send, Receive, Take, Give, Tick, Kernel}
-use Rattle.kernel.specs.Tables.{taskAt, kindAt, freeSlot, freeObject}
+use Rattle.kernel.specs.Tables.{taskAt, kindAt}
 use Rattle.kernel.specs.Lines.{chosen}
 use Rattle.kernel.specs.Items.{storeSentTo, storeReceivedFrom}
-use Rattle.kernel.specs.Asking.{is}
+use Rattle.kernel.specs.Asking.{makes, newNumber}
 use Rattle.kernel.specs.Refusals.{refusal}
 use Rattle.kernel.specs.Effects.{effect}
 
@@ -39,8 +38,7 @@ stored k Tick item s = s
 -- "An accepted call answers done, made with the new number, or waiting (given exactly if the caller is now delayed or waits on an object)."
 unfoldable pub answered : Kernel → Asked → Kernel → Saying
 answered k a next =
-    if is 1 a then says made (freeSlot (k .tasks))
-    else if is 10 a || is 11 a then says made (freeObject (k .objects))
+    if makes a then says made (newNumber k a)
     else if isBlocked (taskAt (next .tasks) (k .running) .place) then says waiting 0
     else says done 0
 

@@ -1,12 +1,18 @@
 // What a call asks, as the rows of the refusal table speak of it.
 ghost use mathlib.Core.Path.{_≡_};
-ghost use Rattle.kernel.specs.Asking.{is, stops, waits};
+ghost use Rattle.kernel.specs.Asking.{is, makes, stops, waits};
 use calls::Asked;
 
 pub(crate) fn is(a: Asked, n: u32) -> bool
     ensures { λ r. ⌜ r ≡ is n a ⌝ }
 {
     a.number == n
+}
+
+pub(crate) fn makes(a: Asked) -> bool
+    ensures { λ r. ⌜ r ≡ makes a ⌝ }
+{
+    lists::either(is(a, 1), lists::either(is(a, 10), is(a, 11)))
 }
 
 pub(crate) fn stops(a: Asked) -> bool

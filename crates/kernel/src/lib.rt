@@ -16,7 +16,9 @@ mod waits;
 use calls::Answer;
 use calls::TaskNo;
 use order::Order;
+use slots::Kind;
 use slots::Object;
+use slots::Place;
 use slots::Task;
 
 pub struct Kernel {
@@ -40,4 +42,13 @@ pub enum Outlet {
     Waiter(TaskNo),
     Ring,
     Caller,
+}
+
+// What the rows of the refusal table look at: the task and the object that the call names, the caller, the hold and the pended ticks.
+pub struct Seen {
+    pub place: Place,
+    pub kind: Kind,
+    pub running: TaskNo,
+    pub hold: u8,
+    pub pended: u16,
 }

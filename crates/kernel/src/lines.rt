@@ -1,6 +1,7 @@
 // Who stands first, who runs, and moves within the order.
 ghost use mathlib.Core.Path.{_≡_};
 ghost use Rattle.slots.specs.Leads.{whom};
+ghost use Rattle.kernel.specs.Tables.{withRunning};
 ghost use Rattle.kernel.specs.Lines.{first, chosen, toTail, toHead, leaves};
 use crate::Kernel;
 use calls::TaskNo;
@@ -29,18 +30,25 @@ impl Kernel {
         best.found()
     }
 
-    // With no hold, the head of the highest occupied line runs. No line changes: who is overtaken stays at the head of its own.
-    pub(crate) fn chosen(self) -> Kernel
-        ensures { λ r. ⌜ r ≡ chosen self ⌝ }
+    // Who runs: with no hold, the head of the highest occupied line.
+    fn runner(self) -> TaskNo
+        ensures { λ r. ⌜ withRunning self r ≡ chosen self ⌝ }
     {
         if self.hold == 0 {
             match self.first(Who::AllReady) {
-                Found::NoOne => self,
-                Found::Someone(t) => self.runs(t),
+                Found::NoOne => self.running,
+                Found::Someone(t) => t,
             }
         } else {
-            self
+            self.running
         }
+    }
+
+    // No line changes: who is overtaken stays at the head of its own.
+    pub(crate) fn chosen(self) -> Kernel
+        ensures { λ r. ⌜ r ≡ chosen self ⌝ }
+    {
+        self.runs(self.runner())
     }
 
     pub(crate) fn to_tail(self, t: TaskNo) -> Kernel

@@ -1,10 +1,12 @@
-// The refusal table: a method for each row, and the first row that applies. A costly test stands behind the call's number.
+// The refusal table: a method for each row, and the first row that applies.
 ghost use mathlib.Core.Path.{_≡_};
-ghost use Rattle.kernel.specs.Refusals.{outOfRange, namesNone, sizeDiffers, wrongSize, notForIdle, notWithHold, noSlot, inUse, notHis, hisAlready, notSuspended, isFull, isEmpty, stopsAt, mustWait, noDepth, noTick, laterRow};
+ghost use Rattle.kernel.specs.Refusals.{seen, outOfRange, namesNone, sizeDiffers, wrongSize, notForIdle, notWithHold, notHis, hisAlready, notSuspended, isFull, isEmpty, stopsAt, mustWait, noDepth, noTick, firstRow, earlyRows, heldOrWaited, middleRows, lateRows, laterRow};
 use crate::Kernel;
+use crate::Seen;
 use crate::asking;
 use calls::Asked;
 use calls::Names;
+use calls::ObjNo;
 use slots::Kind;
 use slots::Who;
 
@@ -70,31 +72,27 @@ fn stops_at(a: Asked, x: Kind) -> bool
     lists::either(sends, lists::either(receives, takes))
 }
 
-impl Kernel {
+impl Seen {
     fn names_none(self, a: Asked) -> bool
         ensures { λ r. ⌜ r ≡ namesNone self a ⌝ }
     {
         let names = a.names;
-        let t = a.task;
-        let o = a.object;
+        let p = self.place;
+        let x = self.kind;
         match names {
             Names::Nothing => false,
-            Names::Task => {
-                let x = self.task(t);
-                let p = x.place;
-                p.is_free()
-            }
-            Names::Object => self.kind(o).is_unused(),
-            Names::Queue => !self.kind(o).is_queue(),
-            Names::Mutex => !self.kind(o).is_mutex(),
+            Names::Task => p.is_free(),
+            Names::Object => x.is_unused(),
+            Names::Queue => !x.is_queue(),
+            Names::Mutex => !x.is_mutex(),
         }
     }
 
     fn wrong_size(self, a: Asked, n: usize) -> bool
         ensures { λ r. ⌜ r ≡ wrongSize self a n ⌝ }
     {
-        let o = a.object;
-        lists::both(asking::is(a, 13), size_differs(self.kind(o), n))
+        let x = self.kind;
+        lists::both(asking::is(a, 13), size_differs(x, n))
     }
 
     fn not_for_idle(self, a: Asked) -> bool
@@ -124,58 +122,25 @@ impl Kernel {
         lists::both(0 < self.hold, gives_way)
     }
 
-    fn no_slot(self, a: Asked) -> bool
-        ensures { λ r. ⌜ r ≡ noSlot self a ⌝ }
-    {
-        if asking::is(a, 1) {
-            return self.free_slot() == 16;
-        }
-        if lists::either(asking::is(a, 10), asking::is(a, 11)) {
-            return self.free_object() == 16;
-        }
-        false
-    }
-
-    fn in_use(self, a: Asked) -> bool
-        ensures { λ r. ⌜ r ≡ inUse self a ⌝ }
-    {
-        let t = a.task;
-        let o = a.object;
-        if asking::is(a, 2) {
-            return self.holds(t);
-        }
-        if asking::is(a, 12) {
-            return lists::either(
-                self.kind(o).is_held(),
-                self.first(Who::WaitersOf(o)).is_some(),
-            );
-        }
-        false
-    }
-
     fn not_his(self, a: Asked) -> bool
         ensures { λ r. ⌜ r ≡ notHis self a ⌝ }
     {
-        let u = self.running;
-        let o = a.object;
-        let mine = self.kind(o).held_by(u);
+        let x = self.kind;
+        let mine = x.held_by(self.running);
         lists::both(asking::is(a, 16), !mine)
     }
 
     fn his_already(self, a: Asked) -> bool
         ensures { λ r. ⌜ r ≡ hisAlready self a ⌝ }
     {
-        let u = self.running;
-        let o = a.object;
-        lists::both(asking::is(a, 15), self.kind(o).held_by(u))
+        let x = self.kind;
+        lists::both(asking::is(a, 15), x.held_by(self.running))
     }
 
     fn not_suspended(self, a: Asked) -> bool
         ensures { λ r. ⌜ r ≡ notSuspended self a ⌝ }
     {
-        let t = a.task;
-        let x = self.task(t);
-        let p = x.place;
+        let p = self.place;
         let s = p.is_suspended();
         lists::both(asking::is(a, 4), !s)
     }
@@ -183,9 +148,9 @@ impl Kernel {
     fn must_wait(self, a: Asked) -> bool
         ensures { λ r. ⌜ r ≡ mustWait self a ⌝ }
     {
-        let o = a.object;
+        let x = self.kind;
         let w = asking::waits(a);
-        lists::both(!w, stops_at(a, self.kind(o)))
+        lists::both(!w, stops_at(a, x))
     }
 
     fn no_depth(self, a: Asked) -> bool
@@ -207,13 +172,10 @@ impl Kernel {
         )
     }
 
-    // The number of the first row that applies, of rows 2 to 16; 0 where none does.
-    pub(crate) fn later_row(self, a: Asked, item: usize, store: usize) -> u32
-        ensures { λ r. ⌜ r ≡ laterRow self a item store ⌝ }
+    // Rows 4 to 8; 0 where none applies.
+    fn early_row(self, a: Asked, item: usize) -> u32
+        ensures { λ r. ⌜ r ≡ firstRow (earlyRows self a item) ⌝ }
     {
-        if store != 9216 {
-            return 2;
-        }
         if out_of_range(a) {
             return 4;
         }
@@ -229,12 +191,13 @@ impl Kernel {
         if self.not_with_hold(a) {
             return 8;
         }
-        if self.no_slot(a) {
-            return 9;
-        }
-        if self.in_use(a) {
-            return 10;
-        }
+        0
+    }
+
+    // Rows 11 to 16.
+    fn late_row(self, a: Asked) -> u32
+        ensures { λ r. ⌜ r ≡ firstRow (lateRows self a) ⌝ }
+    {
         if self.not_his(a) {
             return 11;
         }
@@ -254,5 +217,79 @@ impl Kernel {
             return 16;
         }
         0
+    }
+}
+
+impl Kernel {
+    fn seen(self, a: Asked) -> Seen
+        ensures { λ r. ⌜ r ≡ seen self a ⌝ }
+    {
+        let t = a.task;
+        let o = a.object;
+        let x = self.task(t);
+        let place = x.place;
+        let kind = self.kind(o);
+        let running = self.running;
+        Seen {
+            place,
+            kind,
+            running,
+            hold: self.hold,
+            pended: self.pended,
+        }
+    }
+
+    fn held_or_waited(self, o: ObjNo) -> bool
+        ensures { λ r. ⌜ r ≡ heldOrWaited self o ⌝ }
+    {
+        lists::either(
+            self.kind(o).is_held(),
+            self.first(Who::WaitersOf(o)).is_some(),
+        )
+    }
+
+    // Rows 9 and 10, whose tests walk a table: each stands behind its call's number.
+    fn middle_row(self, a: Asked) -> u32
+        ensures { λ r. ⌜ r ≡ firstRow (middleRows self a) ⌝ }
+    {
+        if asking::makes(a) {
+            if self.new_number(a) == 16 {
+                return 9;
+            }
+            return 0;
+        }
+        if asking::is(a, 2) {
+            let t = a.task;
+            if self.holds(t) {
+                return 10;
+            }
+            return 0;
+        }
+        if asking::is(a, 12) {
+            let o = a.object;
+            if self.held_or_waited(o) {
+                return 10;
+            }
+        }
+        0
+    }
+
+    // The number of the first row that applies, of rows 2 to 16; 0 where none does.
+    pub(crate) fn later_row(self, a: Asked, item: usize, store: usize) -> u32
+        ensures { λ r. ⌜ r ≡ laterRow self a item store ⌝ }
+    {
+        if store != 9216 {
+            return 2;
+        }
+        let s = self.seen(a);
+        let early = s.early_row(a, item);
+        if early != 0 {
+            return early;
+        }
+        let middle = self.middle_row(a);
+        if middle != 0 {
+            return middle;
+        }
+        s.late_row(a)
     }
 }

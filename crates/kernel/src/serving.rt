@@ -6,6 +6,7 @@ ghost use lib.Dec.{eqb, ltb};
 ghost use lib.ListN.{length};
 ghost use mathlib.Core.List.{[]};
 ghost use Rattle.kernel.specs.Types.{Create, Delete, Suspend, Resume, SetPriority, Delay, Yield, Hold, Release, MakeQueue, MakeMutex, Remove, Send, Receive, Take, Give, Tick};
+ghost use Rattle.kernel.specs.Tables.{freeSlot, freeObject};
 ghost use Rattle.kernel.specs.Effects.{handedOn};
 ghost use Rattle.kernel.specs.Step.{stored};
 ghost use Rattle.kernel.specs.Promises.{Steady, Accepts};
@@ -22,10 +23,10 @@ use slots::Task;
 use slots::Who;
 
 impl Kernel {
-    pub(crate) fn create(self, p: u8) -> Step
+    pub(crate) fn create(self, n: u32, p: u8) -> Step
+        requires { ⌜ n ≡ freeSlot (self .tasks) ⌝ }
         ensures { λ r. ⌜ Accepts self (Create p) r ⌝ }
     {
-        let n = self.free_slot();
         let t = TaskNo::of(n);
         self.with_task(t, Task::ready_at(p)).to_tail(t).made(n)
     }
@@ -104,10 +105,10 @@ impl Kernel {
         }
     }
 
-    pub(crate) fn make_queue(self, capacity: u8, size: u8) -> Step
+    pub(crate) fn make_queue(self, n: u32, capacity: u8, size: u8) -> Step
+        requires { ⌜ n ≡ freeObject (self .objects) ⌝ }
         ensures { λ r. ⌜ Accepts self (MakeQueue capacity size) r ⌝ }
     {
-        let n = self.free_object();
         let q = Ring {
             capacity,
             size,
@@ -117,10 +118,10 @@ impl Kernel {
         self.with_object(ObjNo::of(n), Kind::Queue(q)).made(n)
     }
 
-    pub(crate) fn make_mutex(self) -> Step
+    pub(crate) fn make_mutex(self, n: u32) -> Step
+        requires { ⌜ n ≡ freeObject (self .objects) ⌝ }
         ensures { λ r. ⌜ Accepts self MakeMutex r ⌝ }
     {
-        let n = self.free_object();
         self.with_object(ObjNo::of(n), Kind::Mutex(Holder::Nobody))
             .made(n)
     }

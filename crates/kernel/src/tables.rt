@@ -1,7 +1,10 @@
 // The fresh kernel, the slots of the two tables, and a kernel with one part changed.
 ghost use mathlib.Core.Path.{_≡_};
 ghost use Rattle.kernel.specs.Tables.{fresh, taskAt, kindAt, holds, freeSlot, freeObject, withTask, withObject, withOrder, withRunning, withTick, withHold};
+ghost use Rattle.kernel.specs.Asking.{newNumber};
 use crate::Kernel;
+use crate::asking;
+use calls::Asked;
 use calls::ObjNo;
 use calls::TaskNo;
 use order::Order;
@@ -146,5 +149,16 @@ impl Kernel {
             i += 1;
         }
         16
+    }
+
+    // The number that a create or make gives; 16 where no slot is free.
+    pub(crate) fn new_number(self, a: Asked) -> u32
+        ensures { λ r. ⌜ r ≡ newNumber self a ⌝ }
+    {
+        if asking::is(a, 1) {
+            self.free_slot()
+        } else {
+            self.free_object()
+        }
     }
 }

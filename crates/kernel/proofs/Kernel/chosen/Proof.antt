@@ -1,34 +1,20 @@
 use borrow.Author.Needs.{needs}
-use Rattle.kernel.specs.Lines.{chosen}
-use borrow.Author.Tests.{eq-eqb, ne-eqb}
+use mathlib.Core.Path.{_∙_}
 use Rattle.kernel.proofs.Kernel.chosen.Statement.{statement}
 use Rattle.kernel.proofs.Kernel.chosen.Tie as tie
+use Rattle.kernel.proofs.Kernel.chosen.Reads as reads
+use Rattle.kernel.proofs.Kernel.chosen.Lts as lts
+use Rattle.kernel.proofs.Kernel.runner.Reads as runner-reads
+use Rattle.kernel.proofs.Kernel.runs.Reads as runs-reads
 
-first-requires : tie.Need-first-requires
-first-requires c κs = search needs
-
-enum-told : tie.Need-enum-told
-enum-told c = search needs
-
-enum-known-t : tie.Need-enum-known-t
-enum-known-t c = search needs
+runner-requires : tie.Need-runner-requires
+runner-requires c κs = search needs
 
 runs-requires : tie.Need-runs-requires
 runs-requires c κs = search needs
 
 returns : tie.Need-returns
-unfolding chosen
-returns c = rw (eq-eqb _ _ (c .before .before .before .if1 .taken), ← c .before .before .first .ensures, c .enum-told .given .1)
-
-returns-2 : tie.Need-returns-2
-unfolding chosen
-returns-2 c = rw (eq-eqb _ _ (c .before .before .before .before .before .if1 .taken), ← c .before .before .before .before .first .ensures, c .before .before .t .given .1) (c .runs .ensures)
-
-returns-3 : tie.Need-returns-3
-unfolding chosen
-returns-3 c = rw (ne-eqb _ _ (c .if1 .left))
+returns c = c .runs .ensures ∙ c .before .runner .ensures
 
 pub chosen-spec : {M : Type 1} → statement M
-chosen-spec =
-    tie.close
-    (tie.spec first-requires enum-told enum-known-t runs-requires returns returns-2 returns-3)
+chosen-spec = tie.close (tie.spec runner-requires runs-requires returns)

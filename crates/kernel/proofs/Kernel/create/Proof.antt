@@ -7,9 +7,13 @@ use Rattle.kernel.specs.Types.{Create}
 use mathlib.Core.Path.{_∙_}
 use Rattle.kernel.proofs.Kernel.create.Statement.{statement}
 use Rattle.kernel.proofs.Kernel.create.Tie as tie
-
-free-slot-requires : tie.Need-free-slot-requires
-free-slot-requires c κs = search needs
+use Rattle.kernel.proofs.Kernel.create.Reads as reads
+use Rattle.kernel.proofs.Kernel.create.Lts as lts
+use Rattle.calls.proofs.TaskNo.of.Reads as of-reads
+use Rattle.kernel.proofs.Kernel.made.Reads as made-reads
+use Rattle.kernel.proofs.Kernel.to_tail.Reads as to-tail-reads
+use Rattle.kernel.proofs.Kernel.with_task.Reads as with-task-reads
+use Rattle.slots.proofs.Task.ready_at.Reads as ready-at-reads
 
 of-requires : tie.Need-of-requires
 of-requires c κs = search needs
@@ -28,13 +32,12 @@ made-requires c κs = search needs
 
 returns : tie.Need-returns
 unfolding effect created asked answered
-returns c = makes (c .before .before .before .before .before .before .args .self) (Create (c .before .before .before .before .before .before .args .p)) (c .before .to-tail .ensures ∙ rw (c .before .before .with-task .ensures, c .before .before .before .ready-at .ensures, c .before .before .before .before .of .ensures, c .before .before .before .before .before .free-slot .ensures)) (λ next. rw (c .before .before .before .before .before .free-slot .ensures)) (c .made .ensures)
+returns c = makes (c .before .before .before .before .before .args .self) (Create (c .before .before .before .before .before .args .p)) (c .before .to-tail .ensures ∙ rw (c .before .before .with-task .ensures, c .before .before .before .ready-at .ensures, c .before .before .before .before .of .ensures, c .before .before .before .before .before .pre)) (λ next. rw (c .before .before .before .before .before .pre)) (c .made .ensures)
 
 pub create-spec : {M : Type 1} → statement M
 create-spec =
     tie.close
     (tie.spec
-    free-slot-requires
     of-requires
     ready-at-requires
     with-task-requires

@@ -1,22 +1,25 @@
 use borrow.Author.Needs.{needs}
+use Rattle.kernel.proofs.Ends.{chosen-answer}
+use mathlib.Core.Path.{_∙_}
 use Rattle.kernel.proofs.Kernel.ended.Statement.{statement}
 use Rattle.kernel.proofs.Kernel.ended.Tie as tie
-
-chosen-requires : tie.Need-chosen-requires
-chosen-requires c κs = search needs
+use Rattle.kernel.proofs.Kernel.ended.Reads as reads
+use Rattle.kernel.proofs.Kernel.ended.Lts as lts
+use Rattle.kernel.proofs.Kernel.chosen.Reads as chosen-reads
+use Rattle.kernel.proofs.Kernel.task.Reads as task-reads
+use Rattle.kernel.proofs.endings.waiting_or_done.Reads as waiting-or-done-reads
 
 task-requires : tie.Need-task-requires
 task-requires c κs = search needs
 
-is-blocked-requires : tie.Need-is-blocked-requires
-is-blocked-requires c κs = search needs
+chosen-requires : tie.Need-chosen-requires
+chosen-requires c κs = search needs
+
+waiting-or-done-requires : tie.Need-waiting-or-done-requires
+waiting-or-done-requires c κs = search needs
 
 returns : tie.Need-returns
-returns c = record { kernel = c .before .before .before .chosen .ensures; answer = rw (← c .before .before .before .chosen .ensures, ← c .before .before .task .ensures, ← c .before .is-blocked .ensures, c .if1 .taken) }
-
-returns-2 : tie.Need-returns-2
-returns-2 c = record { kernel = c .before .before .before .chosen .ensures; answer = rw (← c .before .before .before .chosen .ensures, ← c .before .before .task .ensures, ← c .before .is-blocked .ensures, c .if1 .left) }
+returns c = record { kernel = c .before .chosen .ensures; answer = c .waiting-or-done .ensures ∙ rw (c .before .before .task .ensures) (chosen-answer (c .before .before .before .args .self) (c .before .before .before .args .caller)) }
 
 pub ended-spec : {M : Type 1} → statement M
-ended-spec =
-    tie.close (tie.spec chosen-requires task-requires is-blocked-requires returns returns-2)
+ended-spec = tie.close (tie.spec task-requires chosen-requires waiting-or-done-requires returns)

@@ -7,9 +7,11 @@ use Rattle.kernel.specs.Types.{MakeMutex}
 use mathlib.Core.Path.{_∙_}
 use Rattle.kernel.proofs.Kernel.make_mutex.Statement.{statement}
 use Rattle.kernel.proofs.Kernel.make_mutex.Tie as tie
-
-free-object-requires : tie.Need-free-object-requires
-free-object-requires c κs = search needs
+use Rattle.kernel.proofs.Kernel.make_mutex.Reads as reads
+use Rattle.kernel.proofs.Kernel.make_mutex.Lts as lts
+use Rattle.calls.proofs.ObjNo.of.Reads as of-reads
+use Rattle.kernel.proofs.Kernel.made.Reads as made-reads
+use Rattle.kernel.proofs.Kernel.with_object.Reads as with-object-reads
 
 of-requires : tie.Need-of-requires
 of-requires c κs = search needs
@@ -22,9 +24,7 @@ made-requires c κs = search needs
 
 returns : tie.Need-returns
 unfolding effect mutexMade asked answered
-returns c = makes (c .before .before .before .before .args .self) MakeMutex (c .before .with-object .ensures ∙ rw (c .before .before .of .ensures, c .before .before .before .free-object .ensures)) (λ next. rw (c .before .before .before .free-object .ensures)) (c .made .ensures)
+returns c = makes (c .before .before .before .args .self) MakeMutex (c .before .with-object .ensures ∙ rw (c .before .before .of .ensures, c .before .before .before .pre)) (λ next. rw (c .before .before .before .pre)) (c .made .ensures)
 
 pub make-mutex-spec : {M : Type 1} → statement M
-make-mutex-spec =
-    tie.close
-    (tie.spec free-object-requires of-requires with-object-requires made-requires returns)
+make-mutex-spec = tie.close (tie.spec of-requires with-object-requires made-requires returns)

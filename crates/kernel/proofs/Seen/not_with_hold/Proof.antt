@@ -1,8 +1,8 @@
 use borrow.Author.Needs.{needs}
 use Rattle.kernel.specs.Refusals.{notWithHold}
 use mathlib.Core.Path.{_∙_}
-use Rattle.kernel.proofs.Kernel.not_with_hold.Statement.{statement}
-use Rattle.kernel.proofs.Kernel.not_with_hold.Tie as tie
+use Rattle.kernel.proofs.Seen.not_with_hold.Statement.{statement}
+use Rattle.kernel.proofs.Seen.not_with_hold.Tie as tie
 
 stops-requires : tie.Need-stops-requires
 stops-requires c κs = search needs

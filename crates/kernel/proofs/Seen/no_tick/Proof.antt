@@ -1,8 +1,8 @@
 use borrow.Author.Needs.{needs}
 use Rattle.kernel.specs.Refusals.{noTick}
 use mathlib.Core.Path.{_∙_}
-use Rattle.kernel.proofs.Kernel.no_tick.Statement.{statement}
-use Rattle.kernel.proofs.Kernel.no_tick.Tie as tie
+use Rattle.kernel.proofs.Seen.no_tick.Statement.{statement}
+use Rattle.kernel.proofs.Seen.no_tick.Tie as tie
 
 is-requires : tie.Need-is-requires
 is-requires c κs = search needs

@@ -1,8 +1,8 @@
 use borrow.Author.Needs.{needs}
 use Rattle.kernel.specs.Refusals.{notForIdle}
 use mathlib.Core.Path.{_∙_}
-use Rattle.kernel.proofs.Kernel.not_for_idle.Statement.{statement}
-use Rattle.kernel.proofs.Kernel.not_for_idle.Tie as tie
+use Rattle.kernel.proofs.Seen.not_for_idle.Statement.{statement}
+use Rattle.kernel.proofs.Seen.not_for_idle.Tie as tie
 
 is-idle-requires : tie.Need-is-idle-requires
 is-idle-requires c κs = search needs

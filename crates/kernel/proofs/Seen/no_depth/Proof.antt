@@ -1,8 +1,8 @@
 use borrow.Author.Needs.{needs}
 use Rattle.kernel.specs.Refusals.{noDepth}
 use mathlib.Core.Path.{_∙_}
-use Rattle.kernel.proofs.Kernel.no_depth.Statement.{statement}
-use Rattle.kernel.proofs.Kernel.no_depth.Tie as tie
+use Rattle.kernel.proofs.Seen.no_depth.Statement.{statement}
+use Rattle.kernel.proofs.Seen.no_depth.Tie as tie
 
 is-requires : tie.Need-is-requires
 is-requires c κs = search needs

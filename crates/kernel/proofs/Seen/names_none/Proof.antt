@@ -1,8 +1,13 @@
 use borrow.Author.Needs.{needs}
 use Rattle.kernel.specs.Refusals.{namesNone}
-use mathlib.Core.Path.{_∙_}
-use Rattle.kernel.proofs.Kernel.names_none.Statement.{statement}
-use Rattle.kernel.proofs.Kernel.names_none.Tie as tie
+use Rattle.kernel.proofs.Seen.names_none.Statement.{statement}
+use Rattle.kernel.proofs.Seen.names_none.Tie as tie
+use Rattle.kernel.proofs.Seen.names_none.Reads as reads
+use Rattle.kernel.proofs.Seen.names_none.Lts as lts
+use Rattle.slots.proofs.Kind.is_mutex.Reads as is-mutex-reads
+use Rattle.slots.proofs.Kind.is_queue.Reads as is-queue-reads
+use Rattle.slots.proofs.Kind.is_unused.Reads as is-unused-reads
+use Rattle.slots.proofs.Place.is_free.Reads as is-free-reads
 
 enum-told : tie.Need-enum-told
 enum-told c = search needs
@@ -10,17 +15,11 @@ enum-told c = search needs
 enum-told-2 : tie.Need-enum-told-2
 enum-told-2 c = search needs
 
-task-requires : tie.Need-task-requires
-task-requires c κs = search needs
-
 is-free-requires : tie.Need-is-free-requires
 is-free-requires c κs = search needs
 
 enum-told-3 : tie.Need-enum-told-3
 enum-told-3 c = search needs
-
-kind-requires : tie.Need-kind-requires
-kind-requires c κs = search needs
 
 is-unused-requires : tie.Need-is-unused-requires
 is-unused-requires c κs = search needs
@@ -28,17 +27,11 @@ is-unused-requires c κs = search needs
 enum-told-4 : tie.Need-enum-told-4
 enum-told-4 c = search needs
 
-kind-requires-2 : tie.Need-kind-requires-2
-kind-requires-2 c κs = search needs
-
 is-queue-requires : tie.Need-is-queue-requires
 is-queue-requires c κs = search needs
 
 enum-told-5 : tie.Need-enum-told-5
 enum-told-5 c = search needs
-
-kind-requires-3 : tie.Need-kind-requires-3
-kind-requires-3 c κs = search needs
 
 is-mutex-requires : tie.Need-is-mutex-requires
 is-mutex-requires c κs = search needs
@@ -49,19 +42,19 @@ returns c = rw (c .enum-told .given .1)
 
 returns-2 : tie.Need-returns-2
 unfolding namesNone
-returns-2 c = rw (c .before .before .enum-told2 .given .1) (c .is-free .ensures ∙ rw (c .before .task .ensures))
+returns-2 c = rw (c .before .enum-told2 .given .1) (c .is-free .ensures)
 
 returns-3 : tie.Need-returns-3
 unfolding namesNone
-returns-3 c = rw (c .before .before .enum-told3 .given .1) (c .is-unused .ensures ∙ rw (c .before .kind .ensures))
+returns-3 c = rw (c .before .enum-told3 .given .1) (c .is-unused .ensures)
 
 returns-4 : tie.Need-returns-4
 unfolding namesNone
-returns-4 c = rw (c .before .before .enum-told4 .given .1, c .is-queue .ensures, c .before .kind2 .ensures)
+returns-4 c = rw (c .before .enum-told4 .given .1, c .is-queue .ensures)
 
 returns-5 : tie.Need-returns-5
 unfolding namesNone
-returns-5 c = rw (c .before .before .enum-told5 .given .1, c .is-mutex .ensures, c .before .kind3 .ensures)
+returns-5 c = rw (c .before .enum-told5 .given .1, c .is-mutex .ensures)
 
 pub names-none-spec : {M : Type 1} → statement M
 names-none-spec =
@@ -69,16 +62,12 @@ names-none-spec =
     (tie.spec
     enum-told
     enum-told-2
-    task-requires
     is-free-requires
     enum-told-3
-    kind-requires
     is-unused-requires
     enum-told-4
-    kind-requires-2
     is-queue-requires
     enum-told-5
-    kind-requires-3
     is-mutex-requires
     returns
     returns-2

@@ -1,0 +1,44 @@
+use borrow.Author.Needs.{needs}
+use Rattle.kernel.proofs.Leads.{leader-none}
+use Rattle.kernel.specs.Lines.{first}
+use Rattle.kernel.specs.Refusals.{heldOrWaited}
+use mathlib.Core.Path.{_∙_}
+use Rattle.kernel.proofs.Kernel.held_or_waited.Statement.{statement}
+use Rattle.kernel.proofs.Kernel.held_or_waited.Tie as tie
+use Rattle.kernel.proofs.Kernel.held_or_waited.Reads as reads
+use Rattle.kernel.proofs.Kernel.held_or_waited.Lts as lts
+use Rattle.kernel.proofs.Kernel.first.Reads as first-reads
+use Rattle.kernel.proofs.Kernel.kind.Reads as kind-reads
+use Rattle.lists.proofs.either.Reads as either-reads
+use Rattle.slots.proofs.Found.is_some.Reads as is-some-reads
+use Rattle.slots.proofs.Kind.is_held.Reads as is-held-reads
+
+kind-requires : tie.Need-kind-requires
+kind-requires c κs = search needs
+
+is-held-requires : tie.Need-is-held-requires
+is-held-requires c κs = search needs
+
+first-requires : tie.Need-first-requires
+first-requires c κs = search needs
+
+is-some-requires : tie.Need-is-some-requires
+is-some-requires c κs = search needs
+
+either-requires : tie.Need-either-requires
+either-requires c κs = search needs
+
+returns : tie.Need-returns
+unfolding heldOrWaited first
+returns c = c .either .ensures ∙ rw (c .before .is-some .ensures, c .before .before .first .ensures, c .before .before .before .is-held .ensures, c .before .before .before .before .kind .ensures, leader-none)
+
+pub held-or-waited-spec : {M : Type 1} → statement M
+held-or-waited-spec =
+    tie.close
+    (tie.spec
+    kind-requires
+    is-held-requires
+    first-requires
+    is-some-requires
+    either-requires
+    returns)

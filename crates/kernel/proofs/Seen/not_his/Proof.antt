@@ -1,0 +1,26 @@
+use borrow.Author.Needs.{needs}
+use Rattle.kernel.specs.Refusals.{notHis}
+use mathlib.Core.Path.{_∙_}
+use Rattle.kernel.proofs.Seen.not_his.Statement.{statement}
+use Rattle.kernel.proofs.Seen.not_his.Tie as tie
+use Rattle.kernel.proofs.Seen.not_his.Reads as reads
+use Rattle.kernel.proofs.Seen.not_his.Lts as lts
+use Rattle.kernel.proofs.asking.is.Reads as is-reads
+use Rattle.lists.proofs.both.Reads as both-reads
+use Rattle.slots.proofs.Kind.held_by.Reads as held-by-reads
+
+held-by-requires : tie.Need-held-by-requires
+held-by-requires c κs = search needs
+
+is-requires : tie.Need-is-requires
+is-requires c κs = search needs
+
+both-requires : tie.Need-both-requires
+both-requires c κs = search needs
+
+returns : tie.Need-returns
+unfolding notHis
+returns c = c .both .ensures ∙ rw (c .before .is .ensures, c .before .before .held-by .ensures)
+
+pub not-his-spec : {M : Type 1} → statement M
+not-his-spec = tie.close (tie.spec held-by-requires is-requires both-requires returns)
