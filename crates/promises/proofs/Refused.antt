@@ -22,25 +22,14 @@ use Rattle.slots.specs.Places.{isFree, isSuspended}
 use Rattle.kernel.specs.declared.Kernel.{Kernel}
 use Rattle.kernel.specs.Tables.{taskAt, freeSlot, withOrder}
 use Rattle.kernel.specs.Sound.{sound}
-use Rattle.kernel.specs.Refusals.{namesNoneAs, namesNone, wrongSize, notForIdle, notWithHold, noSlot, inUse, notHis, hisAlready, notSuspended, mustWait, noDepth, noTick, Row, row, firstRow, table, laterRow, refusal}
+use Rattle.kernel.specs.Refusals.{noSlot, heldOrWaited, inUse, notSuspended, Row, row, firstRow, table, laterRow, refusal}
 use Rattle.promises.specs.Alike.{Alike}
 use Rattle.promises.proofs.Twins.{one-kernel}
 use Rattle.promises.proofs.Likewise.{slot-low}
 
-names-same : (k : Kernel) (o : Order) (a : Asked) → namesNone k a ≡ namesNone (withOrder k o) a
-unfolding namesNone
-names-same k o a = go (a .names)
-  where
-    go : (n : Names) → namesNoneAs k n a ≡ namesNoneAs (withOrder k o) n a
-    go Nothing = refl
-    go ATask = refl
-    go AnObject = refl
-    go AQueue = refl
-    go AMutex = refl
-
 rows-same : (k : Kernel) (o : Order) → Alike k (withOrder k o) → (a : Asked) (item store : ℕ) → laterRow k a item store ≡ laterRow (withOrder k o) a item store
-unfolding laterRow table wrongSize notForIdle notWithHold noSlot inUse notHis hisAlready notSuspended mustWait noDepth noTick
-rows-same k o e a item store = rw (names-same k o a, e .lists (a .object))
+unfolding laterRow table noSlot heldOrWaited inUse
+rows-same k o e a item store = rw (e .lists (a .object))
 
 pub alike-refusal : (k j : Kernel) (a : Asked) (item store : ℕ) → sound k ≡ sound j → Alike k j → refusal k a item store ≡ refusal j a item store
 unfolding refusal
@@ -75,7 +64,7 @@ pub create-low : (k : Kernel) (p item store : ℕ) → length (k .tasks) ≤ 16 
 unfolding laterRow table noSlot asked freeSlot every
 create-low k p item store h e = go (eqb (freeSlot (k .tasks)) 16) refl (clear (table k (asked (Create p)) item store) refl e 6)
   where
-    go : (b : Bool) → eqb (freeSlot (k .tasks)) 16 ≡ b → (b || false) ≡ false → freeSlot (k .tasks) < 16
+    go : (b : Bool) → eqb (freeSlot (k .tasks)) 16 ≡ b → b ≡ false → freeSlot (k .tasks) < 16
     go true f g = absurd (false≢true (sym g))
     go false f g = omega (arith, eqb-false (freeSlot (k .tasks)) 16 f, index-within (λ (x : Task). isFree (x .place)) (k .tasks))
 
