@@ -15,7 +15,7 @@ use Rattle.kernel.specs.Tables.{taskAt, freeSlot, freeObject}
 use Rattle.kernel.specs.Lines.{first, runsIf, chosen, toTail}
 use Rattle.kernel.specs.Sound.{sound}
 use Rattle.kernel.specs.Sentences.{Sound}
-use Rattle.kernel.specs.Asking.{is}
+use Rattle.kernel.specs.Asking.{is, makes, newNumber}
 use Rattle.kernel.specs.Refusals.{namesNone, laterRow, refusal}
 use Rattle.kernel.specs.Ticks.{held}
 use Rattle.kernel.specs.Effects.{resumed, yielded, queueMade, mutexMade, removed, effect}
@@ -78,13 +78,12 @@ refused-fair k c n t = quiet-fair _ t (none-given t _ (not-both (is 1 (asked c))
 
 answered-accepts : (k : Kernel) (c : Call) (j : Kernel) → isRefusal (answered k (asked c) j .word) ≡ false
 unfolding answered
-answered-accepts k c j = go (is 1 (asked c)) (is 10 (asked c) || is 11 (asked c)) (isBlocked (taskAt (j .tasks) (k .running) .place))
+answered-accepts k c j = go (makes (asked c)) (isBlocked (taskAt (j .tasks) (k .running) .place))
   where
-    go : (x y z : Bool) → isRefusal ((if x then says made (freeSlot (k .tasks)) else if y then says made (freeObject (k .objects)) else if z then says waiting 0 else says done 0) .word) ≡ false
-    go true y z = refl
-    go false true z = refl
-    go false false true = refl
-    go false false false = refl
+    go : (x z : Bool) → isRefusal ((if x then says made (newNumber k (asked c)) else if z then says waiting 0 else says done 0) .word) ≡ false
+    go true z = refl
+    go false true = refl
+    go false false = refl
 
 pub step-fair : (k : Kernel) → sound k ≡ true → (m : Made) (t : TaskNo) → Fair (momentOf k m) t
 unfolding step refusal accepted

@@ -81,7 +81,7 @@ module _ (k : Kernel) (S : Sound k) (n : ℕ) (a : Saying) where
     unfolding asked noSlot freeSlot
     has-slot =
         let most = index-most (λ (x : Task). isFree (x .place)) freeTask (k .tasks) in
-        let d = eqb-false (freeSlot (k .tasks)) 16 (or-off (eqb (freeSlot (k .tasks)) 16) false (P .slot) .0) in
+        let d = eqb-false (freeSlot (k .tasks)) 16 (P .slot) in
         omega (arith, d, S .task-slots)
 
     was-free : isFree (taskAt (k .tasks) new .place) ≡ true
