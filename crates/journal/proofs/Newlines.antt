@@ -17,7 +17,7 @@ use Rattle.fields.specs.Texts.{texts}
 use Rattle.fields.proofs.Places.{below-or}
 use Rattle.journal.specs.Types.{Call, Answer, TaskNo, Read}
 use Rattle.journal.specs.Line.{Field, number, bytes, fieldsOf, text, after, lineOf}
-use Rattle.journal.specs.Reply.{wordOf, replyOf}
+use Rattle.journal.specs.Reply.{wordOf, reply, replyOf}
 use Rattle.journal.specs.Told.{refusal}
 use Rattle.journal.specs.Promise.{Tells, ReadsAs}
 
@@ -124,7 +124,7 @@ field-ended : (n : ℕ) (l : List ℕ) → Ended l → Ended (9 ∷ (dec n ++ l)
 field-ended n l e = ended-tab (dec n ++ l) (ended-append (dec n) l (dec-clear n) e)
 
 pub reply-ended : (a : Answer) (t : TaskNo) → Ended (replyOf a t)
-unfolding replyOf index
+unfolding reply index
 reply-ended a t =
     let task : List ℕ = 9 ∷ (dec (t .0) ++ (10 ∷ [])) in
     ended-append (wordOf (said a .word)) (9 ∷ (dec (said a .number) ++ task)) (word-clear (said a .word))

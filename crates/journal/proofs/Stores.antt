@@ -17,7 +17,7 @@ use Rattle.fields.proofs.Pairs.{hex-length}
 use Rattle.fields.proofs.Stores.{wrote-then}
 use Rattle.journal.specs.Types.{Call, Answer, TaskNo, Shape, Frame, Count, NotWritten}
 use Rattle.journal.specs.Line.{lineOf, carries}
-use Rattle.journal.specs.Reply.{wordOf, replyOf}
+use Rattle.journal.specs.Reply.{wordOf, reply, replyOf}
 use Rattle.journal.specs.Told.{count}
 use Rattle.journal.specs.Promise.{Writes, lineRefusal, WritesCall, WritesAnswer}
 use Rattle.journal.specs.Frames.{shapeOf, frameOf, tabbed, sentText, shapeText, frameText}
@@ -67,7 +67,7 @@ word-length waiting = omega arith
 word-length refused = omega arith
 
 pub reply-short : (a : Answer) (t : TaskNo) → length (replyOf a t) ≤ 256
-unfolding replyOf
+unfolding reply
 reply-short a t =
     let w = wordOf (said a .word) in
     let m = dec (said a .number) in

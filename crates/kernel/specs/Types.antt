@@ -28,3 +28,6 @@ pub use Rattle.kernel.specs.declared.Kernel.{Kernel}
 pub use Rattle.kernel.specs.declared.Step.{Step}
 pub use Rattle.kernel.specs.declared.Outlet.{Outlet}
 pub use Rattle.kernel.specs.declared.Outlet.the-variants.{Waiter as toWaiter, Ring as toQueue, Caller as toCaller}
+pub use Rattle.kernel.specs.declared.Cut.{Cut}
+pub use Rattle.kernel.specs.declared.Session.{Session}
+pub use Rattle.kernel.specs.declared.Served.{Served}

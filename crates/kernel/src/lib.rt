@@ -41,3 +41,22 @@ pub enum Outlet {
     Ring,
     Caller,
 }
+
+// What there is of a line whose newline has not come yet: its first `len` bytes; above 256, it is only known to be too long.
+pub struct Cut {
+    pub bytes: [u8; 256],
+    pub len: usize,
+}
+
+// What goes on from block to block.
+pub struct Session {
+    pub kernel: Kernel,
+    pub cut: Cut,
+}
+
+// What comes of a block: the session afterwards, how many of the block's bytes it took and how many bytes of answers it wrote.
+pub struct Served {
+    pub session: Session,
+    pub taken: usize,
+    pub written: usize,
+}
