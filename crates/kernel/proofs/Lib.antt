@@ -20,3 +20,5 @@ pub mod KeepObjects
 pub mod KeepMutexes
 pub mod KeepQueues
 pub mod Every
+pub mod Telling
+pub mod Sessions

@@ -3,14 +3,16 @@ use Prim.Native.Nat.{ℕ, _+_}
 use mathlib.Core.Bool.{Bool, _&&_}
 use mathlib.Core.List.{List, [], _∷_, _++_}
 use lib.Dec.{eqb, ltb}
-use lib.ListN.{length, take, drop, set}
+use lib.ListN.{length, take}
 use Rattle.lists.specs.Choice.{if_then_else_}
+use Rattle.cuts.specs.Keeping.{noByte, kept, ended, isEmpty}
 use Rattle.journal.specs.declared.Read.{Read}
 use Rattle.journal.specs.declared.Reading.{Reading}
 use Rattle.journal.specs.declared.Reading.the-variants.{Says, Refused}
-use Rattle.journal.specs.Steps.{readOf}
+use Rattle.journal.specs.Steps.{readOf, noCall}
 use Rattle.journal.specs.Reply.{reply}
-use Rattle.kernel.specs.Types.{Kernel, Cut}
+use Rattle.kernel.specs.Types.{Kernel, Cut, Session}
+use Rattle.kernel.specs.Tables.{fresh}
 use Rattle.kernel.specs.Sound.{sound}
 use Rattle.kernel.specs.Step.{Stepped, turnedAway, step}
 
@@ -26,19 +28,12 @@ stepTold k s (Refused n) item = turnedAway k (noLine k s) s
 abbrev pub stepRead : Kernel → List ℕ → Read → Stepped
 stepRead k s r = stepTold k s (r .answer) (take (r .len) (r .item))
 
--- one more byte of a line. "A line has at most 256 bytes with its newline": of a longer one it is only known that it is longer
-unfoldable pub kept : Cut → ℕ → Cut
-kept c b =
-    if ltb (c .len) 256 then record { bytes = set (c .bytes) (c .len) b; len = c .len + 1 }
-    else record { bytes = c .bytes; len = 257 }
+-- what a line says that has ended; "a longer line is one refusal 3 up to its newline"
+unfoldable pub readCut : Cut → Read
+readCut c = if ltb 256 (c .len) then noCall else readOf (take (c .len) (c .bytes))
 
--- no byte yet of the next line
-unfoldable pub ended : Cut → Cut
-ended c = record { bytes = c .bytes; len = 0 }
-
--- the step of a line that has ended; "a longer line is one refusal 3 up to its newline"
 unfoldable pub lineStep : Kernel → List ℕ → Cut → Stepped
-lineStep k s c = if ltb 256 (c .len) then turnedAway k (noLine k s) s else stepRead k s (readOf (take (c .len) (c .bytes)))
+lineStep k s c = stepRead k s (readCut c)
 
 -- a session under way: how many bytes are taken, the kernel and the store, what there is of the next line, and all answers so far
 pub record Run : Type 0 where
@@ -78,6 +73,10 @@ begun k s c = record { taken = 0; kernel = k; store = s; cut = c; answers = [] }
 -- the input has ended: "and so is a last line without a newline"; asked for again if fewer than 256 of the n bytes lent are there
 unfoldable pub closed : ℕ → Kernel → List ℕ → Cut → Run
 closed n k s c =
-    if eqb (c .len) 0 then begun k s c
+    if isEmpty c then begun k s c
     else if ltb n 256 then begun k s c
     else record { taken = 0; kernel = k; store = s; cut = ended c; answers = told (turnedAway k (noLine k s) s) }
+
+-- "The program starts from the fresh kernel and a store of zeros."
+unfoldable pub newSession : Session
+newSession = record { kernel = fresh; cut = noByte }

@@ -1,4 +1,5 @@
 // The kernel: a value that goes in with a call, and comes back with the next state, the running task and an answer.
+mod answering;
 mod asking;
 mod endings;
 mod lines;
@@ -15,6 +16,7 @@ mod waits;
 
 use calls::Answer;
 use calls::TaskNo;
+use cuts::Cut;
 use order::Order;
 use slots::Object;
 use slots::Task;
@@ -42,13 +44,7 @@ pub enum Outlet {
     Caller,
 }
 
-// What there is of a line whose newline has not come yet: its first `len` bytes; above 256, it is only known to be too long.
-pub struct Cut {
-    pub bytes: [u8; 256],
-    pub len: usize,
-}
-
-// What goes on from block to block.
+// What goes on from block to block: the kernel, and what there is of a line whose newline has not come yet.
 pub struct Session {
     pub kernel: Kernel,
     pub cut: Cut,
