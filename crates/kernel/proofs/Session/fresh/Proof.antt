@@ -1,4 +1,5 @@
 use borrow.Author.Needs.{needs}
+use Rattle.kernel.specs.Session.{newSession}
 use Rattle.kernel.proofs.Session.fresh.Statement.{statement}
 use Rattle.kernel.proofs.Session.fresh.Tie as tie
 use Rattle.kernel.proofs.Session.fresh.Reads as reads
@@ -13,7 +14,8 @@ none-requires : tie.Need-none-requires
 none-requires c κs = search needs
 
 returns : tie.Need-returns
-returns c = ?
+unfolding newSession
+returns c = rw (c .before .fresh .ensures, c .none .ensures)
 
 pub fresh-spec : {M : Type 1} → statement M
 fresh-spec = tie.close (tie.spec fresh-requires none-requires returns)
