@@ -4,7 +4,7 @@ use mathlib.Core.Path.{_≡_, refl, sym, ap, _∙_}
 use mathlib.Core.Bool.{Bool, true, false, false≢true}
 use mathlib.Core.List.{List, [], _∷_}
 use native.Mathlib.Omega.{arith}
-use lib.Dec.{eqb, ltb}
+use lib.Dec.{eqb}
 use lib.ListN.{length, getD, drop, set, length-drop, drop-of-length-le}
 use lib.Seq.{drop-drop}
 use borrow.Author.Tests.{eqb-true, eq-eqb, ne-eqb, lt-ltb, le-ltb}
@@ -94,3 +94,14 @@ left block (b ∷ l) i c d = go (eqb b 10) refl (left block l (i + 1) (kept c b)
     go : (t : Bool) → eqb b 10 ≡ t → Left block (i + 1) (gathered (i + 1) (kept c b) l) → Left block i (gathered i c (b ∷ l))
     go true e h = rw (gathered-newline i c b l e) (here e)
     go false e h = rw (gathered-other i c b l e) record { ends = h .ends; within = λ f. let w = h .within f in (omega arith, w .1); none = h .none }
+
+-- the same of what the code was left with
+module _ (block : List ℕ) (i : ℕ) (c : Cut) (r : Stop) (bytes : List ℕ) (g : Gathers (gathered i c (drop i block)) r bytes) where
+  pub stands : r .newline ≡ true → drop (r .next) block ≡ 10 ∷ drop (r .next + 1) block
+  stands e = rw (g .next) (left block (drop i block) i c refl .ends (sym (g .newline) ∙ e))
+
+  pub further : r .newline ≡ true → (i ≤ r .next) × (r .next < length block)
+  further e = rw (g .next) (left block (drop i block) i c refl .within (sym (g .newline) ∙ e))
+
+  pub used-up : r .newline ≡ false → drop (r .next) block ≡ []
+  used-up e = rw (g .next) (left block (drop i block) i c refl .none (sym (g .newline) ∙ e))

@@ -1,18 +1,16 @@
 -- The session's code: a line's step, and the loop over the lines of a block.
-use Prim.Native.Nat.{ℕ, _+_, _-_, _<_, _≤_, min}
+use Prim.Native.Nat.{ℕ, _+_, _-_, _<_, _≤_}
 use mathlib.Core.Path.{_≡_, refl, sym, ap, _∙_, subst}
 use mathlib.Core.Bool.{Bool, true, false, not, _&&_, _||_, false≢true}
 use mathlib.Core.List.{List, [], _∷_, _++_}
 use native.Mathlib.Omega.{arith}
 use lib.Dec.{eqb, ltb}
-use lib.ListN.{length, take, drop, length-append, length-take}
-use lib.Seq.{sets, sets-eq}
+use lib.ListN.{length, take, drop, length-append}
+use lib.Seq.{sets-eq}
 use borrow.Author.Tests.{lt-ltb, le-ltb, ltb-true, ltb-false}
 use Rattle.lists.specs.Choice.{if_then_else_}
-use Rattle.lists.proofs.Bools.{or-second, off, on}
 use Rattle.calls.specs.Asked.{asked}
-use Rattle.calls.specs.Said.{said}
-use Rattle.calls.specs.declared.Answer.{Answer}
+use Rattle.calls.specs.Said.{says, refused, said}
 use Rattle.calls.specs.declared.Answer.the-variants.{Refused as NotDone}
 use Rattle.fields.specs.Wrote.{Wrote}
 use Rattle.fields.proofs.Stores.{wrote-then, wrote-none, wrote-length}
@@ -21,16 +19,18 @@ use Rattle.journal.specs.declared.Reading.{Reading}
 use Rattle.journal.specs.declared.Reading.the-variants.{Says, Refused}
 use Rattle.journal.specs.Promise.{ReadsAs}
 use Rattle.journal.specs.Reply.{reply}
-use Rattle.journal.specs.Steps.{noCall, readOf}
+use Rattle.journal.specs.Steps.{noCall}
 use Rattle.journal.proofs.Theorems.{read-is, len-within}
+use Rattle.cuts.specs.declared.Stop.{Stop}
 use Rattle.cuts.specs.Keeping.{cutOf, kept, ended, isEmpty, Gathered, gathered, Gathers}
-use Rattle.cuts.proofs.Gathering.{gathered-newline, gathered-other, one-on, Left, left}
+use Rattle.cuts.proofs.Gathering.{gathered-newline, gathered-other, one-on, left}
 use Rattle.kernel.specs.Types.{Call, Kernel, Cut, Step, Served}
 use Rattle.kernel.specs.Sound.{sound}
 use Rattle.kernel.specs.Refusals.{laterRow, refusal}
 use Rattle.kernel.specs.Step.{Stepped, turnedAway, steppedBy, step}
 use Rattle.kernel.specs.Session.{noLine, stepTold, stepRead, readCut, lineStep, Run, told, answeredBy, fed, noRoom, run, begun, closed}
 use Rattle.kernel.specs.Promises.{Is, SoundSteps, Ran}
+use Rattle.kernel.proofs.Keeps.{or-off}
 use Rattle.kernel.proofs.Every.{step-kept}
 
 -- ---- what a line says
@@ -126,3 +126,166 @@ run-line : (n i : ℕ) (k : Kernel) (s : List ℕ) (c : Cut) (a l : List ℕ) �
 unfolding run noRoom fed
 run-line n i k s c a l h =
     ap (λ (t : Bool). if t then under i k s c a else run n (fed (under i k s c a) 10) l) (le-ltb n (length a + 256) h)
+
+-- ---- tests
+
+either-way : {A : Type 0} (a b : Bool) (x y : A) → (if a then x else (if b then x else y)) ≡ (if a || b then x else y)
+either-way true b x y = refl
+either-way false b x y = refl
+
+-- ---- the loop over the lines of a block
+
+-- what is left of the block, run on from here, gives the whole run; the answers so far stand in the output
+pub record Going (whole : Run) (lent block : List ℕ) (fine : Bool) (k : Kernel) (s bytes : List ℕ) (len at written : ℕ) (out : List ℕ) : Type 0 where
+  pub answers : List ℕ
+  pub within : length answers ≤ length lent
+  pub wrote : Wrote lent 0 answers written out
+  pub known : fine ≡ sound k
+  pub goes : run (length lent) (under at k s (cutOf bytes len) answers) (drop at block) ≡ whole
+
+pub set-out : (lent block : List ℕ) (fine : Bool) (k : Kernel) (s : List ℕ) (c : Cut) → fine ≡ sound k
+    → Going (run (length lent) (begun k s c) block) lent block fine k s (c .bytes) (c .len) 0 0 lent
+set-out lent block fine k s c e = record { answers = []; within = omega arith; wrote = wrote-none lent 0; known = e; goes = refl }
+
+-- where the answers end
+pub so-far : {whole : Run} {lent block : List ℕ} {fine : Bool} {k : Kernel} {s bytes : List ℕ} {len at written : ℕ} {out : List ℕ}
+    → (w : Going whole lent block fine k s bytes len at written out) → (written ≡ length (w .answers)) × (length out ≡ length lent)
+so-far w = (omega (arith, w .wrote .next, w .within), wrote-length (w .wrote))
+
+-- the bytes up to the next newline
+pub gathers-on : {whole : Run} {lent block : List ℕ} {fine : Bool} {k : Kernel} {s bytes : List ℕ} {len at written : ℕ} {out : List ℕ} {r : Stop} {after : List ℕ}
+    → Going whole lent block fine k s bytes len at written out → Gathers (gathered at (cutOf bytes len) (drop at block)) r after
+    → Going whole lent block fine k s after (r .len) (r .next) written out
+gathers-on {lent = lent} {block = block} {k = k} {s = s} {bytes = bytes} {len = len} {at = at} {r = r} {after = after} w g = record {
+  answers = w .answers;
+  within = w .within;
+  wrote = w .wrote;
+  known = w .known;
+  goes = ap (λ (x : ℕ). run (length lent) (under x k s (cutOf after (r .len)) (w .answers)) (drop x block)) (g .next)
+      ∙ ap (λ (x : Cut). run (length lent) (under (stop .next) k s x (w .answers)) (drop (stop .next) block)) (g .cut)
+      ∙ sym (run-gathered block (drop at block) (length lent) at k s (cutOf bytes len) (w .answers) refl)
+      ∙ w .goes;
+}
+  where
+    stop : Gathered
+    stop = gathered at (cutOf bytes len) (drop at block)
+
+-- a text that stands first in the output
+first-text : {lent a : List ℕ} {next : ℕ} {out : List ℕ} → Wrote lent 0 a next out → length a ≤ length lent → (next ≡ length a) × (out ≡ a ++ drop (length a) lent)
+first-text {lent} {a} w h =
+    let z : 0 + length a ≡ length a = omega arith in
+    (omega (arith, w .next), w .line ∙ sets-eq a lent 0 (omega arith) ∙ ap (λ (n : ℕ). a ++ drop n lent) z)
+
+-- whether the loop goes on: a newline stands there, and there is room for its answer
+pub goes-on : (newline : Bool) (room : ℕ) (b : Bool) → b ≡ (not newline || ltb room 256) → b ≡ false → (newline ≡ true) × (256 ≤ room)
+goes-on true room b e f = (refl, ltb-false room 256 (sym e ∙ f))
+goes-on false room b e f = absurd (false≢true (sym f ∙ e))
+
+module _ {whole : Run} {lent block : List ℕ} {fine : Bool} {k : Kernel} {s bytes : List ℕ} {len at written : ℕ} {out : List ℕ}
+    (w : Going whole lent block fine k s bytes len at written out) where
+  abbrev here : Run
+  here = under at k s (cutOf bytes len) (w .answers)
+
+  abbrev served : Served
+  served = record { session = record { kernel = k; cut = cutOf bytes len }; taken = at; written = written }
+
+  ran : here ≡ whole → Ran whole lent served s out
+  ran e =
+      let f = first-text (w .wrote) (w .within) in
+      record {
+        kernel = ap (λ (x : Run). x .kernel) e;
+        cut = ap (λ (x : Run). x .cut) e;
+        taken = ap (λ (x : Run). x .taken) e;
+        written = f .0 ∙ ap (λ (x : Run). length (x .answers)) e;
+        store = ap (λ (x : Run). x .store) e;
+        output = f .1 ∙ ap (λ (x : Run). x .answers ++ drop (length (x .answers)) lent) e;
+      }
+
+  -- the loop ends: the block is used up, or there is no room
+  pub stopped : (newline b : Bool) → (newline ≡ false → drop at block ≡ []) → (newline ≡ true → drop at block ≡ 10 ∷ drop (at + 1) block)
+      → b ≡ (not newline || ltb (length out - written) 256) → b ≡ true → Ran whole lent served s out
+  unfolding run
+  stopped false b none ends e f = ran (sym (ap (run (length lent) here) (none refl)) ∙ w .goes)
+  stopped true b none ends e f =
+      let room : length out - written < 256 = ltb-true (length out - written) 256 (sym e ∙ f) in
+      let full : length lent < length (w .answers) + 256 = omega (arith, so-far w .0, so-far w .1, w .within) in
+      ran (sym (ap (run (length lent) here) (ends refl) ∙ run-full (length lent) here (drop (at + 1) block) full) ∙ w .goes)
+
+  -- a line is answered
+  module _ (cut : Cut) (q : Step) (after : List ℕ) (next : ℕ) (told-out : List ℕ)
+      (keeps : cut ≡ kept (cutOf bytes len) 10)
+      (is : Is (stepRead k s (readCut cut)) q after)
+      (wrote : Wrote out written (reply (said (q .answer)) (q .kernel .running)) next told-out)
+      (short : length (reply (said (q .answer)) (q .kernel .running)) ≤ 256)
+      (room : 256 ≤ length out - written) (ends : drop at block ≡ 10 ∷ drop (at + 1) block) where
+    abbrev line : List ℕ
+    line = reply (said (q .answer)) (q .kernel .running)
+
+    abbrev now : Stepped
+    now = stepRead k s (readCut cut)
+
+    stepped : now ≡ lineStep k s (kept (cutOf bytes len) 10)
+    unfolding lineStep
+    stepped = ap (λ (x : Cut). stepRead k s (readCut x)) keeps
+
+    fits : length (w .answers) + 256 ≤ length lent
+    fits = omega (arith, so-far w .0, so-far w .1, w .within)
+
+    same : answeredBy here cut now ≡ under (at + 1) (q .kernel) after (cutOf (cut .bytes) 0) (w .answers ++ line)
+    unfolding ended
+    same = sym (λ i. record {
+      taken = at + 1;
+      kernel = is .kernel i;
+      store = is .store i;
+      cut = cutOf (cut .bytes) 0;
+      answers = w .answers ++ reply (is .answer i) (is .kernel i .running);
+    })
+
+    pub answered-on : Going whole lent block fine (q .kernel) after (cut .bytes) 0 (at + 1) next told-out
+    answered-on = record {
+      answers = w .answers ++ line;
+      within = omega (arith, length-append (w .answers) line, short, fits);
+      wrote = wrote-then (w .wrote) wrote;
+      known = w .known ∙ sym (line-keeps k s (readCut cut)) ∙ ap sound (sym (is .kernel));
+      goes = ap (λ (x : Run). run (length lent) x (drop (at + 1) block)) (sym same)
+          ∙ ap (λ (x : Stepped). run (length lent) (answeredBy here cut x) (drop (at + 1) block)) stepped
+          ∙ ap (λ (x : Cut). run (length lent) (answeredBy here x (lineStep k s (kept (cutOf bytes len) 10))) (drop (at + 1) block)) keeps
+          ∙ sym (run-line (length lent) at k s (cutOf bytes len) (w .answers) (drop (at + 1) block) fits)
+          ∙ sym (ap (run (length lent) here) ends)
+          ∙ w .goes;
+    }
+
+-- ---- the end of the input
+
+module _ (k : Kernel) (s : List ℕ) (c : Cut) (lent : List ℕ) where
+  abbrev told-end : Run
+  told-end = record { taken = 0; kernel = k; store = s; cut = ended c; answers = told (turnedAway k (noLine k s) s) }
+
+  -- what the end comes to, by what was tested
+  closed-by : (empty b : Bool) → empty ≡ isEmpty c → b ≡ (empty || ltb (length lent) 256) → closed (length lent) k s c ≡ (if b then begun k s c else told-end)
+  unfolding closed
+  closed-by empty b e f =
+      ap (λ (t : Bool). if t then begun k s c else (if ltb (length lent) 256 then begun k s c else told-end)) (sym e)
+      ∙ either-way empty (ltb (length lent) 256) (begun k s c) told-end
+      ∙ ap (λ (t : Bool). if t then begun k s c else told-end) (sym f)
+
+  -- nothing is answered
+  pub none-left : (empty b : Bool) → empty ≡ isEmpty c → b ≡ (empty || ltb (length lent) 256) → b ≡ true
+      → Ran (closed (length lent) k s c) lent record { session = record { kernel = k; cut = c }; taken = 0; written = 0 } s lent
+  none-left empty b e f g =
+      subst (λ (x : Run). Ran x lent record { session = record { kernel = k; cut = c }; taken = 0; written = 0 } s lent) (sym (closed-by empty b e f ∙ ap (λ (t : Bool). if t then begun k s c else told-end) g))
+      record { kernel = refl; cut = refl; taken = refl; written = refl; store = refl; output = refl }
+
+  -- the line without a newline is answered
+  pub last-told : (empty b fine : Bool) (m next : ℕ) (out : List ℕ) → empty ≡ isEmpty c → b ≡ (empty || ltb (length lent) 256) → b ≡ false
+      → fine ≡ sound k → m ≡ (if fine then (if eqb (length s) 9216 then 3 else 2) else 1) → Wrote lent 0 (reply (says refused m) (k .running)) next out
+      → length (reply (says refused m) (k .running)) ≤ 256
+      → Ran (closed (length lent) k s c) lent record { session = record { kernel = k; cut = cutOf (c .bytes) 0 }; taken = 0; written = next } s out
+  unfolding noLine ended
+  last-told empty b fine m next out e f g p q w h =
+      let room : 256 ≤ length lent = ltb-false (length lent) 256 (or-off empty (ltb (length lent) 256) (sym f ∙ g) .1) in
+      let no : m ≡ noLine k s = q ∙ ap (λ (t : Bool). if t then (if eqb (length s) 9216 then 3 else 2) else 1) p in
+      let x = first-text w (omega arith) in
+      subst (λ (x : Run). Ran x lent record { session = record { kernel = k; cut = cutOf (c .bytes) 0 }; taken = 0; written = next } s out)
+      (ap (λ (j : ℕ). record { taken = 0; kernel = k; store = s; cut = ended c; answers = told (turnedAway k j s) }) no ∙ sym (closed-by empty b e f ∙ ap (λ (t : Bool). if t then begun k s c else told-end) g))
+      record { kernel = refl; cut = refl; taken = refl; written = x .0; store = refl; output = x .1 }

@@ -118,7 +118,10 @@ impl Session {
                 return Served {
                     session: Session {
                         kernel,
-                        cut: Cut { bytes, len: stop.len },
+                        cut: Cut {
+                            bytes,
+                            len: stop.len,
+                        },
                     },
                     taken: stop.next,
                     written,

@@ -1,4 +1,3 @@
-use borrow.Author.Needs.{needs}
 use Rattle.cuts.specs.Keeping.{noByte}
 use mathlib.Core.Path.{refl}
 use Rattle.cuts.proofs.Cut.none.Statement.{statement}

@@ -8,10 +8,6 @@ use native.Mathlib.Omega.{arith}
 use lib.Seq.{length-take-le}
 use Rattle.kernel.proofs.Kernel.line_step.Statement.{statement}
 use Rattle.kernel.proofs.Kernel.line_step.Tie as tie
-use Rattle.kernel.proofs.Kernel.line_step.Reads as reads
-use Rattle.kernel.proofs.Kernel.line_step.Lts as lts
-use Rattle.kernel.proofs.Kernel.step_sound.Reads as step-sound-reads
-use Rattle.kernel.proofs.answering.no_line.Reads as no-line-reads
 
 enum-known-says : tie.Need-enum-known-says
 enum-known-says c = search needs

@@ -2,10 +2,6 @@ use borrow.Author.Needs.{needs}
 use Rattle.kernel.specs.Session.{newSession}
 use Rattle.kernel.proofs.Session.fresh.Statement.{statement}
 use Rattle.kernel.proofs.Session.fresh.Tie as tie
-use Rattle.kernel.proofs.Session.fresh.Reads as reads
-use Rattle.kernel.proofs.Session.fresh.Lts as lts
-use Rattle.cuts.proofs.Cut.none.Reads as none-reads
-use Rattle.kernel.proofs.Kernel.fresh.Reads as fresh-reads
 
 fresh-requires : tie.Need-fresh-requires
 fresh-requires c κs = search needs

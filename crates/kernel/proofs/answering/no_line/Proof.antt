@@ -1,10 +1,7 @@
-use borrow.Author.Needs.{needs}
 use Rattle.lists.proofs.Bools.{off, on}
 use borrow.Author.Tests.{eq-eqb, ne-eqb}
 use Rattle.kernel.proofs.answering.no_line.Statement.{statement}
 use Rattle.kernel.proofs.answering.no_line.Tie as tie
-use Rattle.kernel.proofs.answering.no_line.Reads as reads
-use Rattle.kernel.proofs.answering.no_line.Lts as lts
 
 returns : tie.Need-returns
 returns c = rw (off (c .before .args .fine) (c .if1 .taken))

@@ -8,9 +8,6 @@ use native.Mathlib.Omega.{arith}
 use lib.Seq.{length-take-le}
 use Rattle.kernel.proofs.answering.read_cut.Statement.{statement}
 use Rattle.kernel.proofs.answering.read_cut.Tie as tie
-use Rattle.kernel.proofs.answering.read_cut.Reads as reads
-use Rattle.kernel.proofs.answering.read_cut.Lts as lts
-use Rattle.journal.proofs.read_call.Reads as read-call-reads
 
 returns : tie.Need-returns
 unfolding noCall

@@ -7,9 +7,6 @@ use mathlib.Core.Path.{_≡_}
 use native.Mathlib.Omega.{arith}
 use Rattle.kernel.proofs.answering.tell.Statement.{statement}
 use Rattle.kernel.proofs.answering.tell.Tie as tie
-use Rattle.kernel.proofs.answering.tell.Reads as reads
-use Rattle.kernel.proofs.answering.tell.Lts as lts
-use Rattle.journal.proofs.write_answer.Reads as write-answer-reads
 
 add-end : tie.Need-add-end
 add-end c = search needs
