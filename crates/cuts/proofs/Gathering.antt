@@ -105,3 +105,13 @@ module _ (block : List ℕ) (i : ℕ) (c : Cut) (r : Stop) (bytes : List ℕ) (g
 
   pub used-up : r .newline ≡ false → drop (r .next) block ≡ []
   used-up e = rw (g .next) (left block (drop i block) i c refl .none (sym (g .newline) ∙ e))
+
+-- ---- no second result
+
+-- nor does another fit the promise of `keep`, which is an equation
+pub gathers-one : {g : Gathered} {r q : Stop} {a b : List ℕ} → Gathers g r a → Gathers g q b → (r ≡ q) × (a ≡ b)
+gathers-one f h =
+    let n = f .next ∙ sym (h .next) in
+    let c = f .cut ∙ sym (h .cut) in
+    let e = f .newline ∙ sym (h .newline) in
+    ((λ i. record { next = n i; len = c i .len; newline = e i }), ap (λ (x : Cut). x .bytes) c)

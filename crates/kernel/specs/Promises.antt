@@ -7,14 +7,14 @@ use Rattle.lists.specs.Choice.{if_then_else_}
 use Rattle.calls.specs.Asked.{asked}
 use Rattle.calls.specs.Said.{Saying, says, said, done, made, waiting}
 use Rattle.slots.specs.Places.{isBlocked}
-use Rattle.kernel.specs.Types.{TaskNo, ObjNo, Ring, Queue, Call, Kernel, Step, Served}
+use Rattle.kernel.specs.Types.{TaskNo, ObjNo, Ring, Queue, Call, Kernel, Step, Session, Served}
 use Rattle.kernel.specs.Tables.{taskAt, kindAt}
 use Rattle.kernel.specs.Lines.{chosen}
 use Rattle.kernel.specs.Sentences.{RingFits}
 use Rattle.kernel.specs.Refusals.{laterRow}
 use Rattle.kernel.specs.Effects.{effect}
 use Rattle.kernel.specs.Step.{Stepped, answered, steppedBy, step}
-use Rattle.kernel.specs.Session.{Run}
+use Rattle.kernel.specs.Session.{Run, run, begun, closed}
 
 -- waiting, exactly if the caller is now delayed or waits on an object
 abbrev pub doneOrWaiting : Kernel → TaskNo → Saying
@@ -61,3 +61,11 @@ pub record Ran (d : Run) (lent : List ℕ) (r : Served) (s o : List ℕ) : Type 
   pub written : r .written ≡ length (d .answers)
   pub store : s ≡ d .store
   pub output : o ≡ d .answers ++ drop (length (d .answers)) lent
+
+-- the promise of a block: every line that ends in it is answered, as far as the answers fit
+abbrev pub Answers : Session → List ℕ → List ℕ → List ℕ → Served → List ℕ → List ℕ → Type 0
+Answers n block s lent r after o = Ran (run (length lent) (begun (n .kernel) s (n .cut)) block) lent r after o
+
+-- the promise of the input's end, which changes no store
+abbrev pub Closes : Session → List ℕ → List ℕ → Served → List ℕ → Type 0
+Closes n s lent r o = Ran (closed (length lent) (n .kernel) s (n .cut)) lent r s o

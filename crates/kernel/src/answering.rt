@@ -8,8 +8,8 @@ ghost use Rattle.calls.specs.Said.{said};
 ghost use Rattle.fields.specs.Wrote.{Wrote};
 ghost use Rattle.journal.specs.Reply.{reply};
 ghost use Rattle.kernel.specs.Sound.{sound};
-ghost use Rattle.kernel.specs.Session.{readCut, stepRead, begun, run, closed, newSession};
-ghost use Rattle.kernel.specs.Promises.{Is, Ran};
+ghost use Rattle.kernel.specs.Session.{readCut, stepRead, newSession};
+ghost use Rattle.kernel.specs.Promises.{Is, Answers, Closes};
 use crate::Kernel;
 use crate::Served;
 use crate::Session;
@@ -103,7 +103,7 @@ impl Session {
 
     // Answers each line that ends in the block, as far as the answers fit.
     pub fn answer(self, block: &[u8], store: &mut [u8], out: &mut [u8]) -> Served
-        ensures { λ r. ⌜ Ran (run (length (now (out .entry))) (begun (self .kernel) (now (store .entry)) (self .cut)) (now (block .entry))) (now (out .entry)) r (now (store .exit)) (now (out .exit)) ⌝ }
+        ensures { λ r. ⌜ Answers self (now (block .entry)) (now (store .entry)) (now (out .entry)) r (now (store .exit)) (now (out .exit)) ⌝ }
     {
         let mut kernel = self.kernel;
         let fine = kernel.sound();
@@ -139,7 +139,7 @@ impl Session {
 
     // The input has ended: a last line without a newline is answered.
     pub fn end(self, store: &[u8], out: &mut [u8]) -> Served
-        ensures { λ r. ⌜ Ran (closed (length (now (out .entry))) (self .kernel) (now (store .entry)) (self .cut)) (now (out .entry)) r (now (store .entry)) (now (out .exit)) ⌝ }
+        ensures { λ r. ⌜ Closes self (now (store .entry)) (now (out .entry)) r (now (out .exit)) ⌝ }
     {
         let cut = self.cut;
         let kernel = self.kernel;
