@@ -9,15 +9,15 @@ use lib.Dec.{eqb}
 use lib.ListN.{length, length-append}
 use borrow.Author.Tests.{lt-ltb, le-ltb, ne-eqb}
 use Rattle.lists.specs.Lists.{index}
-use Rattle.calls.specs.Said.{Word, done, made, waiting, refused, said}
+use Rattle.calls.specs.Said.{Word, done, made, waiting, refused, Saying}
 use Rattle.calls.specs.Table.{called}
 use Rattle.fields.specs.Decimal.{digits, dec}
 use Rattle.fields.specs.Hex.{hexDigit, hex}
 use Rattle.fields.specs.Texts.{texts}
 use Rattle.fields.proofs.Places.{below-or}
-use Rattle.journal.specs.Types.{Call, Answer, TaskNo, Read}
+use Rattle.journal.specs.Types.{Call, TaskNo, Read}
 use Rattle.journal.specs.Line.{Field, number, bytes, fieldsOf, text, after, lineOf}
-use Rattle.journal.specs.Reply.{wordOf, replyOf}
+use Rattle.journal.specs.Reply.{wordOf, reply}
 use Rattle.journal.specs.Told.{refusal}
 use Rattle.journal.specs.Promise.{Tells, ReadsAs}
 
@@ -48,10 +48,10 @@ clear-past (x ∷ a) b c = go (eqb x 10) refl c (clear-past a b)
     go true e = rw e (λ c ih. absurd (omega arith))
     go false e = rw e (λ c ih. let d : Clear a = omega arith in omega (arith, ih d))
 
-clear-append : (a b : List ℕ) → Clear a → Clear b → Clear (a ++ b)
+pub clear-append : (a b : List ℕ) → Clear a → Clear b → Clear (a ++ b)
 clear-append a b c d = omega (arith, clear-past a b c, length-append a b)
 
-ended-append : (a b : List ℕ) → Clear a → Ended b → Ended (a ++ b)
+pub ended-append : (a b : List ℕ) → Clear a → Ended b → Ended (a ++ b)
 ended-append a b c d = omega (arith, clear-past a b c, length-append a b)
 
 ended-tab : (l : List ℕ) → Ended l → Ended (9 ∷ l)
@@ -71,7 +71,7 @@ ended-past (x ∷ a) b h = go (eqb x 10) refl h (ended-past a b)
 
 -- ---- texts
 
-one-clear : (x : ℕ) → (x ≡ 10 → ⊥) → Clear (x ∷ [])
+pub one-clear : (x : ℕ) → (x ≡ 10 → ⊥) → Clear (x ∷ [])
 unfolding index
 one-clear x h = clear-cons x [] h refl
 
@@ -123,12 +123,12 @@ line-ended c b = ended-append (dec (called c .number)) (after b (fieldsOf c)) (d
 field-ended : (n : ℕ) (l : List ℕ) → Ended l → Ended (9 ∷ (dec n ++ l))
 field-ended n l e = ended-tab (dec n ++ l) (ended-append (dec n) l (dec-clear n) e)
 
-pub reply-ended : (a : Answer) (t : TaskNo) → Ended (replyOf a t)
-unfolding replyOf index
-reply-ended a t =
+pub reply-ended : (s : Saying) (t : TaskNo) → Ended (reply s t)
+unfolding reply index
+reply-ended s t =
     let task : List ℕ = 9 ∷ (dec (t .0) ++ (10 ∷ [])) in
-    ended-append (wordOf (said a .word)) (9 ∷ (dec (said a .number) ++ task)) (word-clear (said a .word))
-    (field-ended (said a .number) task (field-ended (t .0) (10 ∷ []) refl))
+    ended-append (wordOf (s .word)) (9 ∷ (dec (s .number) ++ task)) (word-clear (s .word))
+    (field-ended (s .number) task (field-ended (t .0) (10 ∷ []) refl))
 
 -- "a byte after its newline makes it refusal 3"
 pub more-refused : (c : Call) (b : List ℕ) (x : ℕ) (m : List ℕ) (r : Read) → ReadsAs (lineOf c b ++ (x ∷ m)) r → Tells r (refusal 3) []

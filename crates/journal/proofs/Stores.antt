@@ -8,7 +8,7 @@ use lib.Dec.{ltb}
 use lib.ListN.{length, getD, take, drop, length-append, length-take, length-drop}
 use lib.Seq.{sets-eq, getD-take, getD-drop}
 use borrow.Author.Tests.{ltb-false, eq-eqb, ne-eqb}
-use Rattle.calls.specs.Said.{Word, done, made, waiting, refused, said}
+use Rattle.calls.specs.Said.{Word, done, made, waiting, refused, Saying, said}
 use Rattle.fields.specs.Decimal.{dec}
 use Rattle.fields.specs.Texts.{texts}
 use Rattle.fields.specs.Wrote.{Wrote}
@@ -17,7 +17,7 @@ use Rattle.fields.proofs.Pairs.{hex-length}
 use Rattle.fields.proofs.Stores.{wrote-then}
 use Rattle.journal.specs.Types.{Call, Answer, TaskNo, Shape, Frame, Count, NotWritten}
 use Rattle.journal.specs.Line.{lineOf, carries}
-use Rattle.journal.specs.Reply.{wordOf, replyOf}
+use Rattle.journal.specs.Reply.{wordOf, reply, replyOf}
 use Rattle.journal.specs.Told.{count}
 use Rattle.journal.specs.Promise.{Writes, lineRefusal, WritesCall, WritesAnswer}
 use Rattle.journal.specs.Frames.{shapeOf, frameOf, tabbed, sentText, shapeText, frameText}
@@ -66,21 +66,24 @@ word-length made = omega arith
 word-length waiting = omega arith
 word-length refused = omega arith
 
-pub reply-short : (a : Answer) (t : TaskNo) → length (replyOf a t) ≤ 256
-unfolding replyOf
-reply-short a t =
-    let w = wordOf (said a .word) in
-    let m = dec (said a .number) in
+pub reply-within : (s : Saying) (t : TaskNo) → length (reply s t) ≤ 256
+unfolding reply
+reply-within s t =
+    let w = wordOf (s .word) in
+    let m = dec (s .number) in
     let n = dec (t .0) in
     omega (
       arith,
       length-append w (9 ∷ (m ++ (9 ∷ (n ++ (10 ∷ []))))),
       length-append m (9 ∷ (n ++ (10 ∷ []))),
       length-append n (10 ∷ []),
-      word-length (said a .word),
-      dec-length (said a .number),
+      word-length (s .word),
+      dec-length (s .number),
       dec-length (t .0),
     )
+
+pub reply-short : (a : Answer) (t : TaskNo) → length (replyOf a t) ≤ 256
+reply-short a t = reply-within (said a) t
 
 -- ---- the texts, put together from what was stored in turn
 

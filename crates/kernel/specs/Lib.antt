@@ -12,4 +12,5 @@ pub mod Ticks
 pub mod Items
 pub mod Effects
 pub mod Step
+pub mod Session
 pub mod Promises

@@ -1,19 +1,20 @@
 -- What the functions promise, as propositions that contracts and theorems cite.
 use Prim.Native.Nat.{ℕ, _<_}
 use mathlib.Core.Path.{_≡_}
-use mathlib.Core.List.{List}
-use lib.ListN.{length}
+use mathlib.Core.List.{List, _++_}
+use lib.ListN.{length, drop}
 use Rattle.lists.specs.Choice.{if_then_else_}
 use Rattle.calls.specs.Asked.{asked}
 use Rattle.calls.specs.Said.{Saying, says, said, done, made, waiting}
 use Rattle.slots.specs.Places.{isBlocked}
-use Rattle.kernel.specs.Types.{TaskNo, ObjNo, Ring, Queue, Call, Kernel, Step}
+use Rattle.kernel.specs.Types.{TaskNo, ObjNo, Ring, Queue, Call, Kernel, Step, Session, Served}
 use Rattle.kernel.specs.Tables.{taskAt, kindAt}
 use Rattle.kernel.specs.Lines.{chosen}
 use Rattle.kernel.specs.Sentences.{RingFits}
 use Rattle.kernel.specs.Refusals.{laterRow}
 use Rattle.kernel.specs.Effects.{effect}
 use Rattle.kernel.specs.Step.{Stepped, answered, steppedBy, step}
+use Rattle.kernel.specs.Session.{Run, run, begun, closed}
 
 -- waiting, exactly if the caller is now delayed or waits on an object
 abbrev pub doneOrWaiting : Kernel → TaskNo → Saying
@@ -51,3 +52,20 @@ SoundSteps k c item s r after = Is (steppedBy (laterRow k (asked c) (length item
 -- the step of any kernel value
 abbrev pub Steps : Kernel → Call → List ℕ → List ℕ → Step → List ℕ → Type 0
 Steps k c item s r after = Is (step k c item s) r after
+
+-- what was served, with the store s and the lent output o afterwards, is the session's run: the answers stand first in the output, and its other bytes stay
+pub record Ran (d : Run) (lent : List ℕ) (r : Served) (s o : List ℕ) : Type 0 where
+  pub kernel : r .session .kernel ≡ d .kernel
+  pub cut : r .session .cut ≡ d .cut
+  pub taken : r .taken ≡ d .taken
+  pub written : r .written ≡ length (d .answers)
+  pub store : s ≡ d .store
+  pub output : o ≡ d .answers ++ drop (length (d .answers)) lent
+
+-- the promise of a block: every line that ends in it is answered, as far as the answers fit
+abbrev pub Answers : Session → List ℕ → List ℕ → List ℕ → Served → List ℕ → List ℕ → Type 0
+Answers n block s lent r after o = Ran (run (length lent) (begun (n .kernel) s (n .cut)) block) lent r after o
+
+-- the promise of the input's end, which changes no store
+abbrev pub Closes : Session → List ℕ → List ℕ → Served → List ℕ → Type 0
+Closes n s lent r o = Ran (closed (length lent) (n .kernel) s (n .cut)) lent r s o

@@ -6,6 +6,7 @@ pub use Rattle.calls.specs.declared.Call.the-variants.{Create, Delete, Suspend,
 pub use Rattle.calls.specs.declared.Names.{Names}
 pub use Rattle.calls.specs.declared.Names.the-variants.{Nothing, Task as ATask, Object as AnObject, Queue as AQueue, Mutex as AMutex}
 pub use Rattle.calls.specs.declared.Asked.{Asked}
+pub use Rattle.cuts.specs.declared.Cut.{Cut}
 pub use Rattle.order.specs.declared.Order.{Order}
 pub use Rattle.slots.specs.declared.Wake.{Wake}
 pub use Rattle.slots.specs.declared.Wake.the-variants.{Never, At}
@@ -29,3 +30,5 @@ pub use Rattle.kernel.specs.declared.Step.{Step}
 pub use Rattle.kernel.specs.declared.Outlet.{Outlet}
 pub use Rattle.kernel.specs.declared.Outlet.the-variants.{Waiter as toWaiter, Ring as toQueue, Caller as toCaller}
 pub use Rattle.kernel.specs.declared.Seen.{Seen}
+pub use Rattle.kernel.specs.declared.Session.{Session}
+pub use Rattle.kernel.specs.declared.Served.{Served}

@@ -1,4 +1,5 @@
 // The kernel: a value that goes in with a call, and comes back with the next state, the running task and an answer.
+mod answering;
 mod asking;
 mod endings;
 mod lines;
@@ -15,6 +16,7 @@ mod waits;
 
 use calls::Answer;
 use calls::TaskNo;
+use cuts::Cut;
 use order::Order;
 use slots::Kind;
 use slots::Object;
@@ -51,4 +53,17 @@ pub struct Seen {
     pub running: TaskNo,
     pub hold: u8,
     pub pended: u16,
+}
+
+// What goes on from block to block: the kernel, and what there is of a line whose newline has not come yet.
+pub struct Session {
+    pub kernel: Kernel,
+    pub cut: Cut,
+}
+
+// What comes of a block: the session afterwards, how many of the block's bytes it took and how many bytes of answers it wrote.
+pub struct Served {
+    pub session: Session,
+    pub taken: usize,
+    pub written: usize,
 }

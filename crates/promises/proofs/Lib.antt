@@ -11,3 +11,9 @@ pub mod Surplus
 pub mod TwoOrders
 pub mod Histories
 pub mod Faults
+pub mod AnyBlocks
+pub mod Progress
+pub mod LineSteps
+pub mod LineForLine
+pub mod EachLine
+pub mod Typing

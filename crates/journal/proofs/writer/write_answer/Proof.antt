@@ -1,7 +1,7 @@
 use borrow.Author.Needs.{needs}
 use Rattle.fields.proofs.Stores.{wrote-then}
 use Rattle.fields.specs.Number.{number}
-use Rattle.journal.specs.Reply.{replyOf}
+use Rattle.journal.specs.Reply.{reply, replyOf}
 use Rattle.journal.proofs.Stores.{line-refused, reply-written}
 use Rattle.journal.proofs.writer.write_answer.Statement.{statement}
 use Rattle.journal.proofs.writer.write_answer.Tie as tie
@@ -33,7 +33,7 @@ same-length : tie.Need-same-length
 same-length c = search needs
 
 returns-2 : tie.Need-returns-2
-unfolding replyOf
+unfolding reply
 returns-2 c =
     let p = c .before .before in
     let t = p .before .before .before .before in

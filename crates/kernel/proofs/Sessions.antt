@@ -1,0 +1,291 @@
+-- The session's code: a line's step, and the loop over the lines of a block.
+use Prim.Native.Nat.{ℕ, _+_, _-_, _<_, _≤_}
+use mathlib.Core.Path.{_≡_, refl, sym, ap, _∙_, subst}
+use mathlib.Core.Bool.{Bool, true, false, not, _&&_, _||_, false≢true}
+use mathlib.Core.List.{List, [], _∷_, _++_}
+use native.Mathlib.Omega.{arith}
+use lib.Dec.{eqb, ltb}
+use lib.ListN.{length, take, drop, length-append}
+use lib.Seq.{sets-eq}
+use borrow.Author.Tests.{lt-ltb, le-ltb, ltb-true, ltb-false}
+use Rattle.lists.specs.Choice.{if_then_else_}
+use Rattle.calls.specs.Asked.{asked}
+use Rattle.calls.specs.Said.{says, refused, said}
+use Rattle.calls.specs.declared.Answer.the-variants.{Refused as NotDone}
+use Rattle.fields.specs.Wrote.{Wrote}
+use Rattle.fields.proofs.Stores.{wrote-then, wrote-none, wrote-length}
+use Rattle.journal.specs.declared.Read.{Read}
+use Rattle.journal.specs.declared.Reading.{Reading}
+use Rattle.journal.specs.declared.Reading.the-variants.{Says, Refused}
+use Rattle.journal.specs.Promise.{ReadsAs}
+use Rattle.journal.specs.Reply.{reply}
+use Rattle.journal.specs.Steps.{noCall}
+use Rattle.journal.proofs.Theorems.{read-is, len-within}
+use Rattle.cuts.specs.declared.Stop.{Stop}
+use Rattle.cuts.specs.Keeping.{cutOf, kept, ended, isEmpty, Gathered, gathered, Gathers}
+use Rattle.cuts.proofs.Gathering.{gathered-newline, gathered-other, one-on, left}
+use Rattle.kernel.specs.Types.{Call, Kernel, Cut, Step, Served}
+use Rattle.kernel.specs.Sound.{sound}
+use Rattle.kernel.specs.Refusals.{laterRow, refusal}
+use Rattle.kernel.specs.Step.{Stepped, turnedAway, steppedBy, step}
+use Rattle.kernel.specs.Session.{noLine, stepTold, stepRead, readCut, lineStep, Run, told, answeredBy, fed, noRoom, run, begun, closed}
+use Rattle.kernel.specs.Promises.{Is, SoundSteps, Ran}
+use Rattle.kernel.proofs.Keeps.{or-off}
+use Rattle.kernel.proofs.Every.{step-kept}
+
+-- ---- what a line says
+
+pub long-cut : (c : Cut) → 256 < c .len → noCall ≡ readCut c
+unfolding readCut
+long-cut c h = rw (lt-ltb 256 (c .len) h)
+
+pub short-cut : (c : Cut) (r : Read) → c .len ≤ 256 → ReadsAs (take (c .len) (c .bytes)) r → (r ≡ readCut c) × (r .len ≤ 64)
+unfolding readCut
+short-cut c r h f = (rw (le-ltb 256 (c .len) h) (read-is (take (c .len) (c .bytes)) r f), len-within (take (c .len) (c .bytes)) r f)
+
+-- ---- a line's step
+
+-- the step of a kernel by its soundness
+step-by : (b : Bool) (k : Kernel) (c : Call) (item s : List ℕ) → sound k ≡ b
+    → step k c item s ≡ steppedBy (if b then laterRow k (asked c) (length item) (length s) else 1) k c item s
+unfolding step refusal
+step-by b k c item s e = ap (λ (t : Bool). steppedBy (if t then laterRow k (asked c) (length item) (length s) else 1) k c item s) e
+
+abbrev itemOf : Read → List ℕ
+itemOf r = take (r .len) (r .item)
+
+-- what was read says t, by which the step goes
+read-as : (k : Kernel) (s : List ℕ) (r : Read) (t : Reading) (d : Stepped) (q : Step) (after : List ℕ)
+    → r .answer ≡ t → stepTold k s t (itemOf r) ≡ d → Is d q after → Is (stepRead k s r) q after
+read-as k s r t d q after e f = subst (λ (x : Stepped). Is x q after) (sym (ap (λ (x : Reading). stepTold k s x (itemOf r)) e ∙ f))
+
+pub unsound-step : (k : Kernel) (s : List ℕ) (r : Read) (c : Call) → r .answer ≡ Says c → sound k ≡ false
+    → Is (stepRead k s r) record { kernel = k; answer = NotDone 1 } s
+unsound-step k s r c e f = read-as k s r (Says c) _ _ s e (step-by false k c (itemOf r) s f) record { kernel = refl; answer = refl; store = refl }
+
+pub sound-step : (k : Kernel) (s : List ℕ) (r : Read) (c : Call) (q : Step) (after : List ℕ) → r .answer ≡ Says c → sound k ≡ true
+    → SoundSteps k c (itemOf r) s q after → Is (stepRead k s r) q after
+sound-step k s r c q after e f = read-as k s r (Says c) _ q after e (step-by true k c (itemOf r) s f)
+
+pub no-step : (k : Kernel) (s : List ℕ) (r : Read) (n m : ℕ) (fine : Bool) → r .answer ≡ Refused n → fine ≡ sound k
+    → m ≡ (if fine then (if eqb (length s) 9216 then 3 else 2) else 1) → Is (stepRead k s r) record { kernel = k; answer = NotDone m } s
+unfolding noLine
+no-step k s r n m fine e f g = read-as k s r (Refused n) (turnedAway k m s) _ s e
+    (ap (λ (x : ℕ). turnedAway k x s) (sym (g ∙ ap (λ (b : Bool). if b then (if eqb (length s) 9216 then 3 else 2) else 1) f)))
+    record { kernel = refl; answer = refl; store = refl }
+
+-- a line's step leaves the kernel as sound as it was
+told-keeps : (k : Kernel) (s : List ℕ) (t : Reading) (item : List ℕ) (b : Bool) → sound k ≡ b → sound (stepTold k s t item .kernel) ≡ b
+told-keeps k s (Refused n) item b e = e
+told-keeps k s (Says c) item true e = step-kept k c item s e
+told-keeps k s (Says c) item false e = ap (λ (x : Stepped). sound (x .kernel)) (step-by false k c item s e) ∙ e
+
+pub line-keeps : (k : Kernel) (s : List ℕ) (r : Read) → sound (stepRead k s r .kernel) ≡ sound k
+line-keeps k s r = told-keeps k s (r .answer) (itemOf r) (sound k) refl
+
+-- ---- the run
+
+abbrev under : ℕ → Kernel → List ℕ → Cut → List ℕ → Run
+under i k s c a = record { taken = i; kernel = k; store = s; cut = c; answers = a }
+
+other-byte : (i : ℕ) (k : Kernel) (s : List ℕ) (c : Cut) (a : List ℕ) (b : ℕ) → eqb b 10 ≡ false → fed (under i k s c a) b ≡ under (i + 1) k s (kept c b) a
+unfolding fed
+other-byte i k s c a b e = ap (λ (t : Bool). if t then answeredBy (under i k s c a) (kept c b) (lineStep k s (kept c b)) else under (i + 1) k s (kept c b) a) e
+
+run-other : (n : ℕ) (r : Run) (b : ℕ) (l : List ℕ) → eqb b 10 ≡ false → run n r (b ∷ l) ≡ run n (fed r b) l
+unfolding run noRoom
+run-other n r b l e = ap (λ (t : Bool). if t && ltb n (length (r .answers) + 256) then r else run n (fed r b) l) e
+
+-- as far as the next newline nothing is answered
+run-gathered : (block l : List ℕ) (n i : ℕ) (k : Kernel) (s : List ℕ) (c : Cut) (a : List ℕ) → drop i block ≡ l
+    → run n (under i k s c a) l ≡ run n (under (gathered i c l .next) k s (gathered i c l .cut) a) (drop (gathered i c l .next) block)
+unfolding gathered
+run-gathered block [] n i k s c a d = ap (run n (under i k s c a)) (sym d)
+run-gathered block (b ∷ l) n i k s c a d = go (eqb b 10) refl (run-gathered block l n (i + 1) k s (kept c b) a (one-on block l i b d))
+  where
+    from : Gathered → Run
+    from g = run n (under (g .next) k s (g .cut) a) (drop (g .next) block)
+
+    go : (t : Bool) → eqb b 10 ≡ t → run n (under (i + 1) k s (kept c b) a) l ≡ from (gathered (i + 1) (kept c b) l)
+        → run n (under i k s c a) (b ∷ l) ≡ from (gathered i c (b ∷ l))
+    go true e h = ap (run n (under i k s c a)) (sym d) ∙ ap from (sym (gathered-newline i c b l e))
+    go false e h =
+        run-other n (under i k s c a) b l e
+        ∙ ap (λ (r : Run). run n r l) (other-byte i k s c a b e)
+        ∙ h
+        ∙ ap from (sym (gathered-other i c b l e))
+
+-- at a newline for whose answer there is no room
+run-full : (n : ℕ) (r : Run) (l : List ℕ) → n < length (r .answers) + 256 → run n r (10 ∷ l) ≡ r
+unfolding run noRoom
+run-full n r l h = ap (λ (t : Bool). if t then r else run n (fed r 10) l) (lt-ltb n (length (r .answers) + 256) h)
+
+-- at a newline that is answered
+run-line : (n i : ℕ) (k : Kernel) (s : List ℕ) (c : Cut) (a l : List ℕ) → length a + 256 ≤ n
+    → run n (under i k s c a) (10 ∷ l) ≡ run n (answeredBy (under i k s c a) (kept c 10) (lineStep k s (kept c 10))) l
+unfolding run noRoom fed
+run-line n i k s c a l h =
+    ap (λ (t : Bool). if t then under i k s c a else run n (fed (under i k s c a) 10) l) (le-ltb n (length a + 256) h)
+
+-- ---- tests
+
+either-way : {A : Type 0} (a b : Bool) (x y : A) → (if a then x else (if b then x else y)) ≡ (if a || b then x else y)
+either-way true b x y = refl
+either-way false b x y = refl
+
+-- ---- the loop over the lines of a block
+
+-- what is left of the block, run on from here, gives the whole run; the answers so far stand in the output
+pub record Going (whole : Run) (lent block : List ℕ) (fine : Bool) (k : Kernel) (s bytes : List ℕ) (len at written : ℕ) (out : List ℕ) : Type 0 where
+  pub answers : List ℕ
+  pub within : length answers ≤ length lent
+  pub wrote : Wrote lent 0 answers written out
+  pub known : fine ≡ sound k
+  pub goes : run (length lent) (under at k s (cutOf bytes len) answers) (drop at block) ≡ whole
+
+pub set-out : (lent block : List ℕ) (fine : Bool) (k : Kernel) (s : List ℕ) (c : Cut) → fine ≡ sound k
+    → Going (run (length lent) (begun k s c) block) lent block fine k s (c .bytes) (c .len) 0 0 lent
+set-out lent block fine k s c e = record { answers = []; within = omega arith; wrote = wrote-none lent 0; known = e; goes = refl }
+
+-- where the answers end
+pub so-far : {whole : Run} {lent block : List ℕ} {fine : Bool} {k : Kernel} {s bytes : List ℕ} {len at written : ℕ} {out : List ℕ}
+    → (w : Going whole lent block fine k s bytes len at written out) → (written ≡ length (w .answers)) × (length out ≡ length lent)
+so-far w = (omega (arith, w .wrote .next, w .within), wrote-length (w .wrote))
+
+-- the bytes up to the next newline
+pub gathers-on : {whole : Run} {lent block : List ℕ} {fine : Bool} {k : Kernel} {s bytes : List ℕ} {len at written : ℕ} {out : List ℕ} {r : Stop} {after : List ℕ}
+    → Going whole lent block fine k s bytes len at written out → Gathers (gathered at (cutOf bytes len) (drop at block)) r after
+    → Going whole lent block fine k s after (r .len) (r .next) written out
+gathers-on {lent = lent} {block = block} {k = k} {s = s} {bytes = bytes} {len = len} {at = at} {r = r} {after = after} w g = record {
+  answers = w .answers;
+  within = w .within;
+  wrote = w .wrote;
+  known = w .known;
+  goes = ap (λ (x : ℕ). run (length lent) (under x k s (cutOf after (r .len)) (w .answers)) (drop x block)) (g .next)
+      ∙ ap (λ (x : Cut). run (length lent) (under (stop .next) k s x (w .answers)) (drop (stop .next) block)) (g .cut)
+      ∙ sym (run-gathered block (drop at block) (length lent) at k s (cutOf bytes len) (w .answers) refl)
+      ∙ w .goes;
+}
+  where
+    stop : Gathered
+    stop = gathered at (cutOf bytes len) (drop at block)
+
+-- a text that stands first in the output
+first-text : {lent a : List ℕ} {next : ℕ} {out : List ℕ} → Wrote lent 0 a next out → length a ≤ length lent → (next ≡ length a) × (out ≡ a ++ drop (length a) lent)
+first-text {lent} {a} w h =
+    let z : 0 + length a ≡ length a = omega arith in
+    (omega (arith, w .next), w .line ∙ sets-eq a lent 0 (omega arith) ∙ ap (λ (n : ℕ). a ++ drop n lent) z)
+
+-- whether the loop goes on: a newline stands there, and there is room for its answer
+pub goes-on : (newline : Bool) (room : ℕ) (b : Bool) → b ≡ (not newline || ltb room 256) → b ≡ false → (newline ≡ true) × (256 ≤ room)
+goes-on true room b e f = (refl, ltb-false room 256 (sym e ∙ f))
+goes-on false room b e f = absurd (false≢true (sym f ∙ e))
+
+module _ {whole : Run} {lent block : List ℕ} {fine : Bool} {k : Kernel} {s bytes : List ℕ} {len at written : ℕ} {out : List ℕ}
+    (w : Going whole lent block fine k s bytes len at written out) where
+  abbrev here : Run
+  here = under at k s (cutOf bytes len) (w .answers)
+
+  abbrev served : Served
+  served = record { session = record { kernel = k; cut = cutOf bytes len }; taken = at; written = written }
+
+  ran : here ≡ whole → Ran whole lent served s out
+  ran e =
+      let f = first-text (w .wrote) (w .within) in
+      record {
+        kernel = ap (λ (x : Run). x .kernel) e;
+        cut = ap (λ (x : Run). x .cut) e;
+        taken = ap (λ (x : Run). x .taken) e;
+        written = f .0 ∙ ap (λ (x : Run). length (x .answers)) e;
+        store = ap (λ (x : Run). x .store) e;
+        output = f .1 ∙ ap (λ (x : Run). x .answers ++ drop (length (x .answers)) lent) e;
+      }
+
+  -- the loop ends: the block is used up, or there is no room
+  pub stopped : (newline b : Bool) → (newline ≡ false → drop at block ≡ []) → (newline ≡ true → drop at block ≡ 10 ∷ drop (at + 1) block)
+      → b ≡ (not newline || ltb (length out - written) 256) → b ≡ true → Ran whole lent served s out
+  unfolding run
+  stopped false b none ends e f = ran (sym (ap (run (length lent) here) (none refl)) ∙ w .goes)
+  stopped true b none ends e f =
+      let room : length out - written < 256 = ltb-true (length out - written) 256 (sym e ∙ f) in
+      let full : length lent < length (w .answers) + 256 = omega (arith, so-far w .0, so-far w .1, w .within) in
+      ran (sym (ap (run (length lent) here) (ends refl) ∙ run-full (length lent) here (drop (at + 1) block) full) ∙ w .goes)
+
+  -- a line is answered
+  module _ (cut : Cut) (q : Step) (after : List ℕ) (next : ℕ) (told-out : List ℕ)
+      (keeps : cut ≡ kept (cutOf bytes len) 10)
+      (is : Is (stepRead k s (readCut cut)) q after)
+      (wrote : Wrote out written (reply (said (q .answer)) (q .kernel .running)) next told-out)
+      (short : length (reply (said (q .answer)) (q .kernel .running)) ≤ 256)
+      (room : 256 ≤ length out - written) (ends : drop at block ≡ 10 ∷ drop (at + 1) block) where
+    abbrev line : List ℕ
+    line = reply (said (q .answer)) (q .kernel .running)
+
+    abbrev now : Stepped
+    now = stepRead k s (readCut cut)
+
+    stepped : now ≡ lineStep k s (kept (cutOf bytes len) 10)
+    unfolding lineStep
+    stepped = ap (λ (x : Cut). stepRead k s (readCut x)) keeps
+
+    fits : length (w .answers) + 256 ≤ length lent
+    fits = omega (arith, so-far w .0, so-far w .1, w .within)
+
+    same : answeredBy here cut now ≡ under (at + 1) (q .kernel) after (cutOf (cut .bytes) 0) (w .answers ++ line)
+    unfolding ended
+    same = sym (λ i. record {
+      taken = at + 1;
+      kernel = is .kernel i;
+      store = is .store i;
+      cut = cutOf (cut .bytes) 0;
+      answers = w .answers ++ reply (is .answer i) (is .kernel i .running);
+    })
+
+    pub answered-on : Going whole lent block fine (q .kernel) after (cut .bytes) 0 (at + 1) next told-out
+    answered-on = record {
+      answers = w .answers ++ line;
+      within = omega (arith, length-append (w .answers) line, short, fits);
+      wrote = wrote-then (w .wrote) wrote;
+      known = w .known ∙ sym (line-keeps k s (readCut cut)) ∙ ap sound (sym (is .kernel));
+      goes = ap (λ (x : Run). run (length lent) x (drop (at + 1) block)) (sym same)
+          ∙ ap (λ (x : Stepped). run (length lent) (answeredBy here cut x) (drop (at + 1) block)) stepped
+          ∙ ap (λ (x : Cut). run (length lent) (answeredBy here x (lineStep k s (kept (cutOf bytes len) 10))) (drop (at + 1) block)) keeps
+          ∙ sym (run-line (length lent) at k s (cutOf bytes len) (w .answers) (drop (at + 1) block) fits)
+          ∙ sym (ap (run (length lent) here) ends)
+          ∙ w .goes;
+    }
+
+-- ---- the end of the input
+
+module _ (k : Kernel) (s : List ℕ) (c : Cut) (lent : List ℕ) where
+  abbrev told-end : Run
+  told-end = record { taken = 0; kernel = k; store = s; cut = ended c; answers = told (turnedAway k (noLine k s) s) }
+
+  -- what the end comes to, by what was tested
+  closed-by : (empty b : Bool) → empty ≡ isEmpty c → b ≡ (empty || ltb (length lent) 256) → closed (length lent) k s c ≡ (if b then begun k s c else told-end)
+  unfolding closed
+  closed-by empty b e f =
+      ap (λ (t : Bool). if t then begun k s c else (if ltb (length lent) 256 then begun k s c else told-end)) (sym e)
+      ∙ either-way empty (ltb (length lent) 256) (begun k s c) told-end
+      ∙ ap (λ (t : Bool). if t then begun k s c else told-end) (sym f)
+
+  -- nothing is answered
+  pub none-left : (empty b : Bool) → empty ≡ isEmpty c → b ≡ (empty || ltb (length lent) 256) → b ≡ true
+      → Ran (closed (length lent) k s c) lent record { session = record { kernel = k; cut = c }; taken = 0; written = 0 } s lent
+  none-left empty b e f g =
+      subst (λ (x : Run). Ran x lent record { session = record { kernel = k; cut = c }; taken = 0; written = 0 } s lent) (sym (closed-by empty b e f ∙ ap (λ (t : Bool). if t then begun k s c else told-end) g))
+      record { kernel = refl; cut = refl; taken = refl; written = refl; store = refl; output = refl }
+
+  -- the line without a newline is answered
+  pub last-told : (empty b fine : Bool) (m next : ℕ) (out : List ℕ) → empty ≡ isEmpty c → b ≡ (empty || ltb (length lent) 256) → b ≡ false
+      → fine ≡ sound k → m ≡ (if fine then (if eqb (length s) 9216 then 3 else 2) else 1) → Wrote lent 0 (reply (says refused m) (k .running)) next out
+      → length (reply (says refused m) (k .running)) ≤ 256
+      → Ran (closed (length lent) k s c) lent record { session = record { kernel = k; cut = cutOf (c .bytes) 0 }; taken = 0; written = next } s out
+  unfolding noLine ended
+  last-told empty b fine m next out e f g p q w h =
+      let room : 256 ≤ length lent = ltb-false (length lent) 256 (or-off empty (ltb (length lent) 256) (sym f ∙ g) .1) in
+      let no : m ≡ noLine k s = q ∙ ap (λ (t : Bool). if t then (if eqb (length s) 9216 then 3 else 2) else 1) p in
+      let x = first-text w (omega arith) in
+      subst (λ (x : Run). Ran x lent record { session = record { kernel = k; cut = cutOf (c .bytes) 0 }; taken = 0; written = next } s out)
+      (ap (λ (j : ℕ). record { taken = 0; kernel = k; store = s; cut = ended c; answers = told (turnedAway k j s) }) no ∙ sym (closed-by empty b e f ∙ ap (λ (t : Bool). if t then begun k s c else told-end) g))
+      record { kernel = refl; cut = refl; taken = refl; written = x .0; store = refl; output = x .1 }

@@ -1,0 +1,33 @@
+-- P1 as bytes: what the program writes when document 01's session is typed, computed; and so in whatever blocks it is typed.
+use Prim.Native.Nat.{ℕ, _≤_}
+use mathlib.Core.Path.{_≡_, refl, ap, _∙_}
+use mathlib.Core.List.{List, []}
+use Rattle.lists.specs.Lists.{every, allBelow, foldl, upTo, index, any, kept}
+use Rattle.calls.specs.Asked.{asked}
+use Rattle.order.specs.Order.{ordered, without}
+use Rattle.order.specs.Tidy.{count, tidy}
+use Rattle.kernel.specs.Effects.{created, mutexMade, taken, handedOn, given, effect}
+use Rattle.kernel.specs.Lines.{line, those, highest, leader, first, chosen, toTail, toHead, leaves}
+use Rattle.kernel.specs.Loans.{moved, movedIf, prioritized, lent, ownAgain}
+use Rattle.kernel.specs.Refusals.{outOfRange, namesNone, wrongSize, notForIdle, notWithHold, noSlot, inUse, notHis, hisAlready, notSuspended, mustWait, noDepth, noTick, table, laterRow, refusal}
+use Rattle.kernel.specs.Sound.{noHigher, runsFine, sound}
+use Rattle.kernel.specs.Step.{stored, answered, accepted, step}
+use Rattle.kernel.specs.Tables.{fresh, taskAt, kindAt, holds, freeSlot, freeObject}
+use Rattle.kernel.specs.Waits.{readied, blocked, waitFor}
+use Rattle.fields.specs.Decimal.{digits, dec}
+use Rattle.fields.specs.Number.{digitOf, grow}
+use Rattle.journal.specs.Frames.{callOf, shapeOf}
+use Rattle.journal.specs.Steps.{nums, readOf}
+use Rattle.journal.specs.Reply.{reply}
+use Rattle.promises.specs.Program.{linesOf, stepOfLine, Answered, answering, answersTo}
+use Rattle.promises.specs.Turns.{Turn, afterTurns, cameIn, afterEnd, atStart}
+use Rattle.promises.specs.Typed.{bytesOf, typed, written}
+use Rattle.promises.proofs.LineForLine.{session-is-the-program}
+
+pub p1-as-bytes : answersTo typed ≡ written
+unfolding bytesOf typed written linesOf stepOfLine answering digits dec digitOf grow callOf shapeOf nums readOf reply every allBelow foldl upTo index any kept asked ordered without count tidy created mutexMade taken handedOn given effect line those highest leader first chosen toTail toHead leaves moved movedIf prioritized lent ownAgain outOfRange namesNone wrongSize notForIdle notWithHold noSlot inUse notHis hisAlready notSuspended mustWait noDepth noTick table laterRow refusal noHigher runsFine sound stored answered accepted step fresh taskAt kindAt holds freeSlot freeObject readied blocked waitFor
+p1-as-bytes = refl
+
+pub p1-in-any-blocks : (ts : List Turn) → cameIn ts ≡ typed → afterTurns atStart ts .waits ≡ [] → (n : ℕ) → 256 ≤ n → afterEnd (afterTurns atStart ts) n .answers ≡ written
+p1-in-any-blocks ts e f n m =
+    ap (λ (r : Answered). r .answers) (session-is-the-program ts f n m) ∙ ap answersTo e ∙ p1-as-bytes
