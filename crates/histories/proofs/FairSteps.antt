@@ -1,7 +1,7 @@
 -- Every step is fair to every task, whatever the call, the item and the store.
 use Prim.Native.Nat.{ℕ}
 use mathlib.Core.Path.{_≡_, refl, sym, subst}
-use mathlib.Core.Bool.{Bool, true, false, not, _&&_, _||_}
+use mathlib.Core.Bool.{Bool, true, false, not, _&&_}
 use mathlib.Core.List.{List, [], _∷_}
 use lib.Dec.{eqb}
 use lib.ListN.{length}
@@ -11,7 +11,7 @@ use Rattle.calls.specs.Numbers.{sameTask}
 use Rattle.calls.specs.Asked.{asked}
 use Rattle.calls.specs.Said.{Saying, says, done, made, waiting, refused}
 use Rattle.slots.specs.Places.{isBlocked}
-use Rattle.kernel.specs.Tables.{taskAt, freeSlot, freeObject}
+use Rattle.kernel.specs.Tables.{taskAt}
 use Rattle.kernel.specs.Lines.{first, runsIf, chosen, toTail}
 use Rattle.kernel.specs.Sound.{sound}
 use Rattle.kernel.specs.Sentences.{Sound}

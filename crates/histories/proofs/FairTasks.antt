@@ -4,9 +4,9 @@ use mathlib.Core.Path.{_≡_, refl, sym, ap, _∙_, subst}
 use mathlib.Core.Bool.{Bool, true, false, not, _&&_, false≢true}
 use mathlib.Core.List.{List, [], _∷_}
 use native.Mathlib.Omega.{arith}
-use lib.Dec.{eqb}
 use lib.ListN.{length}
 use borrow.Author.Tests.{eqb-true, eqb-false, eq-eqb, ne-eqb}
+use Rattle.lists.proofs.Bools.{or-off}
 use Rattle.lists.specs.Choice.{if_then_else_}
 use Rattle.lists.specs.Lists.{larger}
 use Rattle.calls.specs.Numbers.{task, sameTask}
@@ -25,7 +25,7 @@ use Rattle.kernel.proofs.Says.{none-holds}
 use Rattle.kernel.proofs.Passes.{Passed}
 use Rattle.kernel.proofs.Slotted.{at-same}
 use Rattle.kernel.proofs.Blocks.{prioritized-same, prioritized-tasks}
-use Rattle.kernel.proofs.Keeps.{or-off, exists-low, index-most, index-passes}
+use Rattle.kernel.proofs.Keeps.{exists-low, index-most, index-passes}
 use Rattle.histories.specs.Types.{TaskNo, Place, Free, Ready, Delayed, Waiting, Suspended, Task, Kernel, Call, Create, Delete, SetPriority}
 use Rattle.histories.specs.Moments.{Moment, isRefusal}
 use Rattle.histories.specs.Borrowed.{largest, givenAt}

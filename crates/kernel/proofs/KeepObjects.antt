@@ -9,14 +9,14 @@ use lib.ListN.{length}
 use borrow.Author.Tests.{eqb-false, eq-eqb, ltb-true, ltb-false, leb-false}
 use Rattle.lists.specs.Choice.{if_then_else_}
 use Rattle.lists.specs.Lists.{isNone}
-use Rattle.lists.proofs.Bools.{on}
+use Rattle.lists.proofs.Bools.{on, or-off}
 use Rattle.calls.specs.Numbers.{object, idle}
 use Rattle.calls.specs.Asked.{asked}
 use Rattle.order.specs.Order.{listed}
 use Rattle.order.specs.Tidy.{count}
 use Rattle.slots.specs.Objects.{unused, isUnused, isMutex, isHeld}
 use Rattle.kernel.specs.Types.{TaskNo, ObjNo, Wake, Never, At, Waiting, Ring, Nobody, By, Kind, Unused, Queue, Mutex, Object, WaitersOf, MakeQueue, MakeMutex, Remove, Kernel}
-use Rattle.kernel.specs.Tables.{taskAt, kindAt, holds, freeObject, withObject}
+use Rattle.kernel.specs.Tables.{taskAt, kindAt, freeObject, withObject}
 use Rattle.kernel.specs.Lines.{those, first}
 use Rattle.kernel.specs.Sentences.{MayWait, receiver, sender, taker, RingFits, Sound}
 use Rattle.kernel.specs.Asking.{waits}
@@ -29,7 +29,7 @@ use Rattle.kernel.proofs.Passes.{Passed}
 use Rattle.kernel.proofs.Nearly.{Owing, settled, Nearly, Runs, list-once}
 use Rattle.kernel.proofs.Objected.{object-nearly}
 use Rattle.kernel.proofs.Chosen.{sound-nearly, sound-runs}
-use Rattle.kernel.proofs.Keeps.{Keeps, or-off, index-most, index-passes}
+use Rattle.kernel.proofs.Keeps.{Keeps, index-most, index-passes}
 use Rattle.kernel.proofs.KeepTasks.{later-ahead}
 
 -- ── what nobody waits on or holds

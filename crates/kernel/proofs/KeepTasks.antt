@@ -7,13 +7,13 @@ use lib.Dec.{eqb, ltb, leb}
 use borrow.Author.Tests.{ne-eqb, leb-false, eqb-true, eqb-false, eq-eqb, ltb-false, lt-ltb, le-leb}
 use Rattle.lists.specs.Choice.{if_then_else_}
 use Rattle.lists.specs.Lists.{larger}
-use Rattle.lists.proofs.Bools.{and-intro, on, not-off}
+use Rattle.lists.proofs.Bools.{and-intro, on, not-off, or-off}
 use Rattle.calls.specs.Numbers.{task, idle, isIdle}
 use Rattle.calls.specs.Asked.{asked}
 use Rattle.order.proofs.Lines.{one-number}
 use Rattle.slots.specs.Places.{isFree, isSuspended, isBlocked, isListed}
 use Rattle.slots.specs.Tasks.{freeTask, readyAt, brokenOff}
-use Rattle.kernel.specs.Types.{TaskNo, ObjNo, Place, Free, Ready, Delayed, Suspended, Task, Create, Delete, Suspend, Resume, SetPriority, Delay, Yield, Kernel}
+use Rattle.kernel.specs.Types.{TaskNo, ObjNo, Free, Ready, Delayed, Suspended, Task, Create, Delete, Suspend, Resume, SetPriority, Delay, Yield, Kernel}
 use Rattle.kernel.specs.Tables.{taskAt, holds, freeSlot, withTask}
 use Rattle.kernel.specs.Lines.{level, toTail, leaves}
 use Rattle.kernel.specs.Sentences.{Holds, Sound}
@@ -28,15 +28,12 @@ use Rattle.kernel.proofs.Slotted.{tail-nearly, tail-listed, leave-nearl
 use Rattle.kernel.proofs.Chosen.{sound-nearly, sound-runs}
 use Rattle.kernel.proofs.Heads.{runs-tail, runs-leave}
 use Rattle.kernel.proofs.Blocks.{prioritized-same, readied-nearly, readied-runs, blocked-nearly, prioritized-nearly, prioritized-runs}
-use Rattle.kernel.proofs.Keeps.{Keeps, or-off, exists-low, not-free, ready-low, apart, index-most, index-passes}
+use Rattle.kernel.proofs.Keeps.{Keeps, exists-low, not-free, ready-low, apart, index-most, index-passes}
 
 -- a wake tick that many ticks ahead is none of now
 pub later-ahead : (tick n : ℕ) → tick ≤ 4294967295 → 0 < n → n ≤ 4294967294 → (leb (later tick n) 4294967295 && not (eqb (later tick n) tick)) ≡ true
 later-ahead tick n h s l =
     and-intro (leb (later tick n) 4294967295) _ (le-leb (later tick n) 4294967295 (omega arith)) (not-off (eqb (later tick n) tick) (ne-eqb (later tick n) tick (λ e. omega arith)))
-
-no-place : {p q : Place} → isFree p ≡ true → isFree q ≡ false → p ≡ q → ⊥
-no-place a b e = false≢true (sym b ∙ ap isFree (sym e) ∙ a)
 
 module _ (k : Kernel) (S : Sound k) (store : ℕ) where
   N : Nearly (settled (k .tick)) k

@@ -1,7 +1,7 @@
 -- Hold, release and tick keep soundness.
 use Prim.Native.Nat.{ℕ, zero, suc, _+_, _-_, _<_, _≤_}
 use mathlib.Core.Path.{_≡_, refl, sym, ap, _∙_, subst}
-use mathlib.Core.Bool.{Bool, true, false, not, false≢true}
+use mathlib.Core.Bool.{Bool, true, false, false≢true}
 use mathlib.Core.List.{List}
 use native.Mathlib.Omega.{arith}
 use lib.Dec.{eqb, ltb}
@@ -9,7 +9,7 @@ use lib.ListN.{length}
 use borrow.Author.Tests.{eqb-true, eqb-false, ltb-true, ltb-false, lt-ltb, le-ltb}
 use Rattle.lists.specs.Choice.{if_then_else_}
 use Rattle.lists.specs.Lists.{upTo}
-use Rattle.lists.proofs.Bools.{and-left, and-intro, not-off}
+use Rattle.lists.proofs.Bools.{and-left, and-intro, not-off, or-off}
 use Rattle.calls.specs.Numbers.{task}
 use Rattle.calls.specs.Asked.{asked}
 use Rattle.order.specs.Order.{listed}
@@ -32,7 +32,7 @@ use Rattle.kernel.proofs.Nearly.{Owing, settled, Counted, Nearly, Runs}
 use Rattle.kernel.proofs.Slotted.{at-same, at-other, moved-nearly}
 use Rattle.kernel.proofs.Chosen.{sound-nearly, sound-runs}
 use Rattle.kernel.proofs.Blocks.{Same, readied-nearly}
-use Rattle.kernel.proofs.Keeps.{Keeps, or-off, ready-low}
+use Rattle.kernel.proofs.Keeps.{Keeps, ready-low}
 
 -- ── the counts changed, and what is open told anew
 recount : {w : Owing} (k : Kernel) (h p : ℕ) → Nearly w k → Counted (withHold k h p) → Nearly w (withHold k h p)

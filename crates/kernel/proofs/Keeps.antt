@@ -9,7 +9,7 @@ use lib.ListN.{length, getD}
 use borrow.Author.Tests.{ltb-true, ltb-false, lt-ltb, eqb-true, eqb-false}
 use Rattle.lists.specs.Choice.{if_then_else_}
 use Rattle.lists.specs.Lists.{index}
-use Rattle.lists.proofs.Bools.{off}
+use Rattle.lists.proofs.Bools.{off, or-off}
 use Rattle.calls.specs.Numbers.{sameTask, isIdle}
 use Rattle.calls.specs.Asked.{asked}
 use Rattle.slots.specs.Places.{isFree}
@@ -47,10 +47,6 @@ kept k c item s e f = rw e (go (eqb (laterRow k (asked c) (length item) (length 
     go false q = e
 
 -- ── small laws that the calls share
-pub or-off : (a b : Bool) → (a || b) ≡ false → (a ≡ false) × (b ≡ false)
-or-off true b e = absurd (false≢true (sym e))
-or-off false b e = (refl, e)
-
 -- a call with a wait is not idle's, and not made with a hold
 or-true : (a b : Bool) → b ≡ true → (a || b) ≡ true
 or-true true b e = refl

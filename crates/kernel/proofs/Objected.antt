@@ -7,7 +7,7 @@ use native.Mathlib.Omega.{arith}
 use lib.ListN.{length, set, length-set}
 use lib.Seq.{getD-set-same, getD-set-other}
 use borrow.Author.Tests.{eqb-true, eqb-false, eq-eqb}
-use Rattle.calls.specs.Numbers.{idle, object, sameObject}
+use Rattle.calls.specs.Numbers.{idle, sameObject}
 use Rattle.slots.specs.Objects.{unused, heldBy}
 use Rattle.kernel.specs.Types.{TaskNo, ObjNo, Wake, Waiting, Ring, Kind, Queue, Mutex, By, Object, Kernel}
 use Rattle.kernel.specs.Tables.{taskAt, kindAt, withObject}

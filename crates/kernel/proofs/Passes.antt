@@ -1,11 +1,12 @@
 -- What the numbers of an accepted call are: no row of the table applies.
 use Prim.Native.Nat.{ℕ, _<_, _≤_}
 use mathlib.Core.Path.{_≡_, refl, sym, ap, _∙_}
-use mathlib.Core.Bool.{Bool, true, false, not, _&&_, _||_, false≢true}
+use mathlib.Core.Bool.{Bool, true, false, not, _&&_, false≢true}
 use native.Mathlib.Omega.{arith}
 use lib.Dec.{eqb, ltb, leb}
 use lib.ListN.{length}
 use borrow.Author.Tests.{eqb-true, eqb-false, ltb-false, ltb-true, lt-ltb, not-false}
+use Rattle.lists.proofs.Bools.{or-off}
 use Rattle.lists.specs.Choice.{if_then_else_}
 use Rattle.calls.specs.Asked.{asked}
 use Rattle.slots.specs.Places.{isReady}
@@ -18,10 +19,6 @@ use Rattle.kernel.specs.Promises.{Steady}
 use Rattle.kernel.specs.Sentences.{Sound}
 use Rattle.kernel.proofs.Slots.{past-tasks}
 use Rattle.kernel.proofs.Says.{sound-says}
-
-or-off : (a b : Bool) → (a || b) ≡ false → (a ≡ false) × (b ≡ false)
-or-off true b e = absurd (false≢true (sym e))
-or-off false b e = (refl, e)
 
 pub record Passed (k : Kernel) (a : Asked) (store : ℕ) : Type 0 where
   pub whole : store ≡ 9216

@@ -8,6 +8,7 @@ use lib.Dec.{eqb, ltb}
 use lib.ListN.{length, take, drop, length-append}
 use lib.Seq.{sets-eq}
 use borrow.Author.Tests.{lt-ltb, le-ltb, ltb-true, ltb-false}
+use Rattle.lists.proofs.Bools.{or-off}
 use Rattle.lists.specs.Choice.{if_then_else_}
 use Rattle.calls.specs.Asked.{asked}
 use Rattle.calls.specs.Said.{says, refused, said}
@@ -23,14 +24,13 @@ use Rattle.journal.specs.Steps.{noCall}
 use Rattle.journal.proofs.Theorems.{read-is, len-within}
 use Rattle.cuts.specs.declared.Stop.{Stop}
 use Rattle.cuts.specs.Keeping.{cutOf, kept, ended, isEmpty, Gathered, gathered, Gathers}
-use Rattle.cuts.proofs.Gathering.{gathered-newline, gathered-other, one-on, left}
+use Rattle.cuts.proofs.Gathering.{gathered-newline, gathered-other, one-on}
 use Rattle.kernel.specs.Types.{Call, Kernel, Cut, Step, Served}
 use Rattle.kernel.specs.Sound.{sound}
 use Rattle.kernel.specs.Refusals.{laterRow, refusal}
 use Rattle.kernel.specs.Step.{Stepped, turnedAway, steppedBy, step}
 use Rattle.kernel.specs.Session.{noLine, stepTold, stepRead, readCut, lineStep, Run, told, answeredBy, fed, noRoom, run, begun, closed}
 use Rattle.kernel.specs.Promises.{Is, SoundSteps, Ran}
-use Rattle.kernel.proofs.Keeps.{or-off}
 use Rattle.kernel.proofs.Every.{step-kept}
 
 -- ---- what a line says

@@ -1,5 +1,5 @@
 -- A task's slot changed, and its place in the order with it: a nearly sound kernel stays so, if what is asked of the task holds of its new value.
-use Prim.Native.Nat.{ℕ, _+_, _<_}
+use Prim.Native.Nat.{ℕ, _<_}
 use mathlib.Core.Path.{_≡_, refl, sym, ap, _∙_}
 use mathlib.Core.Bool.{Bool, true, false}
 use mathlib.Core.List.{List, [], _∷_, _++_}

@@ -5,7 +5,6 @@ use lib.Dec.{eqb}
 use Rattle.lists.specs.Choice.{if_then_else_}
 use Rattle.lists.specs.Lists.{larger, kept, head}
 use Rattle.order.specs.Order.{listed, ordered, without}
-use Rattle.slots.specs.Places.{isBlocked}
 use Rattle.slots.specs.Tasks.{inLine}
 use Rattle.slots.specs.Leads.{isWho}
 use Rattle.kernel.specs.Types.{TaskNo, Task, Who, AllReady, Kernel}
@@ -18,10 +17,6 @@ line ts p l = kept (λ t. inLine p (taskAt ts t)) l
 -- those meant: the ready ones, or an object's waiters, "in order of arrival"
 unfoldable pub those : List Task → Who → List TaskNo → List TaskNo
 those ts w l = kept (λ t. isWho w (taskAt ts t .place)) l
-
--- the delayed and the waiting, in the order in which they began
-unfoldable pub blockedIn : List Task → List TaskNo → List TaskNo
-blockedIn ts l = kept (λ t. isBlocked (taskAt ts t .place)) l
 
 -- a task's effective priority; the highest of several, 0 for none
 abbrev pub level : List Task → TaskNo → ℕ

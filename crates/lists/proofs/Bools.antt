@@ -34,6 +34,11 @@ pub or-second : (a b : Bool) → (a || b) ≡ true → a ≡ false → b ≡ tru
 or-second true b e f = absurd (false≢true (sym f))
 or-second false b e f = e
 
+-- neither of two tests
+pub or-off : (a b : Bool) → (a || b) ≡ false → (a ≡ false) × (b ≡ false)
+or-off true b e = absurd (false≢true (sym e))
+or-off false b e = (refl, e)
+
 pub off : (a : Bool) → not a ≡ true → a ≡ false
 off true e = absurd (false≢true e)
 off false e = refl

@@ -1,7 +1,7 @@
 -- Alike kernels get the same refusal; and the numbers that an accepted call leans on are low.
 use Prim.Native.Nat.{ℕ, zero, suc, _<_, _≤_}
 use mathlib.Core.Path.{_≡_, refl, sym, subst}
-use mathlib.Core.Bool.{Bool, true, false, _||_, false≢true}
+use mathlib.Core.Bool.{Bool, true, false, false≢true}
 use mathlib.Core.List.{List, [], _∷_, map}
 use native.Mathlib.Omega.{arith}
 use lib.Dec.{eqb, ltb}
@@ -12,8 +12,6 @@ use Rattle.lists.specs.Lists.{every, index}
 use Rattle.lists.proofs.Bools.{and-left, and-right, on}
 use Rattle.calls.specs.declared.TaskNo.{TaskNo}
 use Rattle.calls.specs.declared.Call.the-variants.{Create, Resume}
-use Rattle.calls.specs.declared.Names.{Names}
-use Rattle.calls.specs.declared.Names.the-variants.{Nothing, Task as ATask, Object as AnObject, Queue as AQueue, Mutex as AMutex}
 use Rattle.calls.specs.declared.Asked.{Asked}
 use Rattle.calls.specs.Asked.{asked}
 use Rattle.order.specs.declared.Order.{Order}

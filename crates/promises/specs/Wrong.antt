@@ -14,7 +14,7 @@ use Rattle.slots.specs.Objects.{holderOf}
 use Rattle.promises.specs.Types.{TaskNo, Asked, Call, Create, Delete, Suspend, Delay, Hold, Release, MakeQueue, MakeMutex, Send, Receive, Take, Give, Tick, Wake, Never, At, Place, Free, Ready, Delayed, Waiting, Suspended, Task, Kernel}
 use Rattle.promises.specs.Cases.{Seen, seen}
 use Rattle.kernel.specs.Tables.{fresh, taskAt, kindAt, withTick, withHold}
-use Rattle.kernel.specs.Lines.{level, first, chosen, toTail}
+use Rattle.kernel.specs.Lines.{level, chosen, toTail}
 use Rattle.kernel.specs.Waits.{later, readied}
 use Rattle.kernel.specs.Loans.{prioritized}
 use Rattle.kernel.specs.Ticks.{wokenIfDue, oneTick, turned, ticked, released}

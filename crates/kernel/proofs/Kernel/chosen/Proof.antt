@@ -2,10 +2,6 @@ use borrow.Author.Needs.{needs}
 use mathlib.Core.Path.{_∙_}
 use Rattle.kernel.proofs.Kernel.chosen.Statement.{statement}
 use Rattle.kernel.proofs.Kernel.chosen.Tie as tie
-use Rattle.kernel.proofs.Kernel.chosen.Reads as reads
-use Rattle.kernel.proofs.Kernel.chosen.Lts as lts
-use Rattle.kernel.proofs.Kernel.runner.Reads as runner-reads
-use Rattle.kernel.proofs.Kernel.runs.Reads as runs-reads
 
 runner-requires : tie.Need-runner-requires
 runner-requires c κs = search needs

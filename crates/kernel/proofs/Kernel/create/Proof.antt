@@ -7,13 +7,6 @@ use Rattle.kernel.specs.Types.{Create}
 use mathlib.Core.Path.{_∙_}
 use Rattle.kernel.proofs.Kernel.create.Statement.{statement}
 use Rattle.kernel.proofs.Kernel.create.Tie as tie
-use Rattle.kernel.proofs.Kernel.create.Reads as reads
-use Rattle.kernel.proofs.Kernel.create.Lts as lts
-use Rattle.calls.proofs.TaskNo.of.Reads as of-reads
-use Rattle.kernel.proofs.Kernel.made.Reads as made-reads
-use Rattle.kernel.proofs.Kernel.to_tail.Reads as to-tail-reads
-use Rattle.kernel.proofs.Kernel.with_task.Reads as with-task-reads
-use Rattle.slots.proofs.Task.ready_at.Reads as ready-at-reads
 
 of-requires : tie.Need-of-requires
 of-requires c κs = search needs

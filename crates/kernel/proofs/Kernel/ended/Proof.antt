@@ -3,11 +3,6 @@ use Rattle.kernel.proofs.Ends.{chosen-answer}
 use mathlib.Core.Path.{_∙_}
 use Rattle.kernel.proofs.Kernel.ended.Statement.{statement}
 use Rattle.kernel.proofs.Kernel.ended.Tie as tie
-use Rattle.kernel.proofs.Kernel.ended.Reads as reads
-use Rattle.kernel.proofs.Kernel.ended.Lts as lts
-use Rattle.kernel.proofs.Kernel.chosen.Reads as chosen-reads
-use Rattle.kernel.proofs.Kernel.task.Reads as task-reads
-use Rattle.kernel.proofs.endings.waiting_or_done.Reads as waiting-or-done-reads
 
 task-requires : tie.Need-task-requires
 task-requires c κs = search needs

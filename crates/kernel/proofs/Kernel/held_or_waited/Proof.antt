@@ -5,13 +5,6 @@ use Rattle.kernel.specs.Refusals.{heldOrWaited}
 use mathlib.Core.Path.{_∙_}
 use Rattle.kernel.proofs.Kernel.held_or_waited.Statement.{statement}
 use Rattle.kernel.proofs.Kernel.held_or_waited.Tie as tie
-use Rattle.kernel.proofs.Kernel.held_or_waited.Reads as reads
-use Rattle.kernel.proofs.Kernel.held_or_waited.Lts as lts
-use Rattle.kernel.proofs.Kernel.first.Reads as first-reads
-use Rattle.kernel.proofs.Kernel.kind.Reads as kind-reads
-use Rattle.lists.proofs.either.Reads as either-reads
-use Rattle.slots.proofs.Found.is_some.Reads as is-some-reads
-use Rattle.slots.proofs.Kind.is_held.Reads as is-held-reads
 
 kind-requires : tie.Need-kind-requires
 kind-requires c κs = search needs

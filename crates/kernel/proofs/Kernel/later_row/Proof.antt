@@ -5,12 +5,6 @@ use borrow.Author.Tests.{ne-eqb}
 use mathlib.Core.Path.{sym, _∙_}
 use Rattle.kernel.proofs.Kernel.later_row.Statement.{statement}
 use Rattle.kernel.proofs.Kernel.later_row.Tie as tie
-use Rattle.kernel.proofs.Kernel.later_row.Reads as reads
-use Rattle.kernel.proofs.Kernel.later_row.Lts as lts
-use Rattle.kernel.proofs.Kernel.middle_row.Reads as middle-row-reads
-use Rattle.kernel.proofs.Kernel.seen.Reads as seen-reads
-use Rattle.kernel.proofs.Seen.early_row.Reads as early-row-reads
-use Rattle.kernel.proofs.Seen.late_row.Reads as late-row-reads
 
 returns : tie.Need-returns
 unfolding laterRow table

@@ -7,11 +7,6 @@ use Rattle.kernel.specs.Types.{MakeMutex}
 use mathlib.Core.Path.{_∙_}
 use Rattle.kernel.proofs.Kernel.make_mutex.Statement.{statement}
 use Rattle.kernel.proofs.Kernel.make_mutex.Tie as tie
-use Rattle.kernel.proofs.Kernel.make_mutex.Reads as reads
-use Rattle.kernel.proofs.Kernel.make_mutex.Lts as lts
-use Rattle.calls.proofs.ObjNo.of.Reads as of-reads
-use Rattle.kernel.proofs.Kernel.made.Reads as made-reads
-use Rattle.kernel.proofs.Kernel.with_object.Reads as with-object-reads
 
 of-requires : tie.Need-of-requires
 of-requires c κs = search needs

@@ -8,13 +8,6 @@ use mathlib.Core.Path.{_≡_, sym, _∙_}
 use native.Mathlib.Omega.{arith}
 use Rattle.kernel.proofs.Kernel.middle_row.Statement.{statement}
 use Rattle.kernel.proofs.Kernel.middle_row.Tie as tie
-use Rattle.kernel.proofs.Kernel.middle_row.Reads as reads
-use Rattle.kernel.proofs.Kernel.middle_row.Lts as lts
-use Rattle.kernel.proofs.Kernel.held_or_waited.Reads as held-or-waited-reads
-use Rattle.kernel.proofs.Kernel.holds.Reads as holds-reads
-use Rattle.kernel.proofs.Kernel.new_number.Reads as new-number-reads
-use Rattle.kernel.proofs.asking.is.Reads as is-reads
-use Rattle.kernel.proofs.asking.makes.Reads as makes-reads
 
 makes-requires : tie.Need-makes-requires
 makes-requires c κs = search needs

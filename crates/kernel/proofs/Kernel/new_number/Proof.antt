@@ -1,11 +1,6 @@
 use borrow.Author.Needs.{needs}
 use Rattle.kernel.proofs.Kernel.new_number.Statement.{statement}
 use Rattle.kernel.proofs.Kernel.new_number.Tie as tie
-use Rattle.kernel.proofs.Kernel.new_number.Reads as reads
-use Rattle.kernel.proofs.Kernel.new_number.Lts as lts
-use Rattle.kernel.proofs.Kernel.free_object.Reads as free-object-reads
-use Rattle.kernel.proofs.Kernel.free_slot.Reads as free-slot-reads
-use Rattle.kernel.proofs.asking.is.Reads as is-reads
 
 is-requires : tie.Need-is-requires
 is-requires c κs = search needs

@@ -3,10 +3,6 @@ use mathlib.Core.Path.{sym, _∙_}
 use mathlib.Core.Bool.{false≢true}
 use Rattle.kernel.proofs.Kernel.number_for.Statement.{statement}
 use Rattle.kernel.proofs.Kernel.number_for.Tie as tie
-use Rattle.kernel.proofs.Kernel.number_for.Reads as reads
-use Rattle.kernel.proofs.Kernel.number_for.Lts as lts
-use Rattle.kernel.proofs.Kernel.new_number.Reads as new-number-reads
-use Rattle.kernel.proofs.asking.makes.Reads as makes-reads
 
 makes-requires : tie.Need-makes-requires
 makes-requires c κs = search needs

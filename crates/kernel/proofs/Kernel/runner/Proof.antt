@@ -3,9 +3,6 @@ use Rattle.kernel.specs.Lines.{chosen}
 use borrow.Author.Tests.{eq-eqb, ne-eqb}
 use Rattle.kernel.proofs.Kernel.runner.Statement.{statement}
 use Rattle.kernel.proofs.Kernel.runner.Tie as tie
-use Rattle.kernel.proofs.Kernel.runner.Reads as reads
-use Rattle.kernel.proofs.Kernel.runner.Lts as lts
-use Rattle.kernel.proofs.Kernel.first.Reads as first-reads
 
 first-requires : tie.Need-first-requires
 first-requires c κs = search needs

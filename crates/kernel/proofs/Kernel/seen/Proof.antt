@@ -1,10 +1,6 @@
 use borrow.Author.Needs.{needs}
 use Rattle.kernel.proofs.Kernel.seen.Statement.{statement}
 use Rattle.kernel.proofs.Kernel.seen.Tie as tie
-use Rattle.kernel.proofs.Kernel.seen.Reads as reads
-use Rattle.kernel.proofs.Kernel.seen.Lts as lts
-use Rattle.kernel.proofs.Kernel.kind.Reads as kind-reads
-use Rattle.kernel.proofs.Kernel.task.Reads as task-reads
 
 task-requires : tie.Need-task-requires
 task-requires c κs = search needs

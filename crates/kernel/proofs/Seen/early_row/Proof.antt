@@ -1,13 +1,6 @@
 use borrow.Author.Needs.{needs}
 use Rattle.kernel.proofs.Seen.early_row.Statement.{statement}
 use Rattle.kernel.proofs.Seen.early_row.Tie as tie
-use Rattle.kernel.proofs.Seen.early_row.Reads as reads
-use Rattle.kernel.proofs.Seen.early_row.Lts as lts
-use Rattle.kernel.proofs.Seen.names_none.Reads as names-none-reads
-use Rattle.kernel.proofs.Seen.not_for_idle.Reads as not-for-idle-reads
-use Rattle.kernel.proofs.Seen.not_with_hold.Reads as not-with-hold-reads
-use Rattle.kernel.proofs.Seen.wrong_size.Reads as wrong-size-reads
-use Rattle.kernel.proofs.refusals.out_of_range.Reads as out-of-range-reads
 
 out-of-range-requires : tie.Need-out-of-range-requires
 out-of-range-requires c κs = search needs

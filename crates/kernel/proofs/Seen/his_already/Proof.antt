@@ -3,11 +3,6 @@ use Rattle.kernel.specs.Refusals.{hisAlready}
 use mathlib.Core.Path.{_∙_}
 use Rattle.kernel.proofs.Seen.his_already.Statement.{statement}
 use Rattle.kernel.proofs.Seen.his_already.Tie as tie
-use Rattle.kernel.proofs.Seen.his_already.Reads as reads
-use Rattle.kernel.proofs.Seen.his_already.Lts as lts
-use Rattle.kernel.proofs.asking.is.Reads as is-reads
-use Rattle.lists.proofs.both.Reads as both-reads
-use Rattle.slots.proofs.Kind.held_by.Reads as held-by-reads
 
 is-requires : tie.Need-is-requires
 is-requires c κs = search needs

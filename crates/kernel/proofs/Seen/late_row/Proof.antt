@@ -1,14 +1,6 @@
 use borrow.Author.Needs.{needs}
 use Rattle.kernel.proofs.Seen.late_row.Statement.{statement}
 use Rattle.kernel.proofs.Seen.late_row.Tie as tie
-use Rattle.kernel.proofs.Seen.late_row.Reads as reads
-use Rattle.kernel.proofs.Seen.late_row.Lts as lts
-use Rattle.kernel.proofs.Seen.his_already.Reads as his-already-reads
-use Rattle.kernel.proofs.Seen.must_wait.Reads as must-wait-reads
-use Rattle.kernel.proofs.Seen.no_depth.Reads as no-depth-reads
-use Rattle.kernel.proofs.Seen.no_tick.Reads as no-tick-reads
-use Rattle.kernel.proofs.Seen.not_his.Reads as not-his-reads
-use Rattle.kernel.proofs.Seen.not_suspended.Reads as not-suspended-reads
 
 not-his-requires : tie.Need-not-his-requires
 not-his-requires c κs = search needs

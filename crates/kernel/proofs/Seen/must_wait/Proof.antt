@@ -3,11 +3,6 @@ use Rattle.kernel.specs.Refusals.{mustWait}
 use mathlib.Core.Path.{_∙_}
 use Rattle.kernel.proofs.Seen.must_wait.Statement.{statement}
 use Rattle.kernel.proofs.Seen.must_wait.Tie as tie
-use Rattle.kernel.proofs.Seen.must_wait.Reads as reads
-use Rattle.kernel.proofs.Seen.must_wait.Lts as lts
-use Rattle.kernel.proofs.asking.waits.Reads as waits-reads
-use Rattle.kernel.proofs.refusals.stops_at.Reads as stops-at-reads
-use Rattle.lists.proofs.both.Reads as both-reads
 
 waits-requires : tie.Need-waits-requires
 waits-requires c κs = search needs

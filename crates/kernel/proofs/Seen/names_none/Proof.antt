@@ -2,12 +2,6 @@ use borrow.Author.Needs.{needs}
 use Rattle.kernel.specs.Refusals.{namesNone}
 use Rattle.kernel.proofs.Seen.names_none.Statement.{statement}
 use Rattle.kernel.proofs.Seen.names_none.Tie as tie
-use Rattle.kernel.proofs.Seen.names_none.Reads as reads
-use Rattle.kernel.proofs.Seen.names_none.Lts as lts
-use Rattle.slots.proofs.Kind.is_mutex.Reads as is-mutex-reads
-use Rattle.slots.proofs.Kind.is_queue.Reads as is-queue-reads
-use Rattle.slots.proofs.Kind.is_unused.Reads as is-unused-reads
-use Rattle.slots.proofs.Place.is_free.Reads as is-free-reads
 
 enum-told : tie.Need-enum-told
 enum-told c = search needs

@@ -3,11 +3,6 @@ use Rattle.kernel.specs.Refusals.{notHis}
 use mathlib.Core.Path.{_∙_}
 use Rattle.kernel.proofs.Seen.not_his.Statement.{statement}
 use Rattle.kernel.proofs.Seen.not_his.Tie as tie
-use Rattle.kernel.proofs.Seen.not_his.Reads as reads
-use Rattle.kernel.proofs.Seen.not_his.Lts as lts
-use Rattle.kernel.proofs.asking.is.Reads as is-reads
-use Rattle.lists.proofs.both.Reads as both-reads
-use Rattle.slots.proofs.Kind.held_by.Reads as held-by-reads
 
 held-by-requires : tie.Need-held-by-requires
 held-by-requires c κs = search needs

@@ -3,11 +3,6 @@ use Rattle.kernel.specs.Refusals.{notSuspended}
 use mathlib.Core.Path.{_∙_}
 use Rattle.kernel.proofs.Seen.not_suspended.Statement.{statement}
 use Rattle.kernel.proofs.Seen.not_suspended.Tie as tie
-use Rattle.kernel.proofs.Seen.not_suspended.Reads as reads
-use Rattle.kernel.proofs.Seen.not_suspended.Lts as lts
-use Rattle.kernel.proofs.asking.is.Reads as is-reads
-use Rattle.lists.proofs.both.Reads as both-reads
-use Rattle.slots.proofs.Place.is_suspended.Reads as is-suspended-reads
 
 is-suspended-requires : tie.Need-is-suspended-requires
 is-suspended-requires c κs = search needs

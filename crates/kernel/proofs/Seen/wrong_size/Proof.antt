@@ -3,11 +3,6 @@ use Rattle.kernel.specs.Refusals.{wrongSize}
 use mathlib.Core.Path.{_∙_}
 use Rattle.kernel.proofs.Seen.wrong_size.Statement.{statement}
 use Rattle.kernel.proofs.Seen.wrong_size.Tie as tie
-use Rattle.kernel.proofs.Seen.wrong_size.Reads as reads
-use Rattle.kernel.proofs.Seen.wrong_size.Lts as lts
-use Rattle.kernel.proofs.asking.is.Reads as is-reads
-use Rattle.kernel.proofs.refusals.size_differs.Reads as size-differs-reads
-use Rattle.lists.proofs.both.Reads as both-reads
 
 is-requires : tie.Need-is-requires
 is-requires c κs = search needs

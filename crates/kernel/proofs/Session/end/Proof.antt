@@ -1,6 +1,6 @@
 use borrow.Author.Needs.{needs}
+use Rattle.lists.proofs.Bools.{or-off}
 use Rattle.journal.proofs.Stores.{reply-short}
-use Rattle.kernel.proofs.Keeps.{or-off}
 use Rattle.kernel.proofs.Sessions.{none-left, last-told}
 use borrow.Author.Tests.{ltb-false}
 use lib.Dec.{ltb}

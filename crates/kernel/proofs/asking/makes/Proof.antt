@@ -2,10 +2,6 @@ use borrow.Author.Needs.{needs}
 use mathlib.Core.Path.{_∙_}
 use Rattle.kernel.proofs.asking.makes.Statement.{statement}
 use Rattle.kernel.proofs.asking.makes.Tie as tie
-use Rattle.kernel.proofs.asking.makes.Reads as reads
-use Rattle.kernel.proofs.asking.makes.Lts as lts
-use Rattle.kernel.proofs.asking.is.Reads as is-reads
-use Rattle.lists.proofs.either.Reads as either-reads
 
 is-requires : tie.Need-is-requires
 is-requires c κs = search needs
