@@ -1,7 +1,7 @@
 -- The whole session of the section "The journal line", as bytes in and bytes out.
 use Prim.Native.Nat.{ℕ}
 use Prim.Native.Char.{code}
-use Prim.Native.String.{String, [] as noText}
+use Prim.Native.String.{String, [] as noText, _∷_ as _then_}
 use mathlib.Core.List.{List, [], _∷_}
 
 -- the bytes of a text of ASCII; \t is a tab, \n a newline
