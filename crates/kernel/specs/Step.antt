@@ -7,33 +7,20 @@ use Rattle.lists.specs.Choice.{if_then_else_}
 use Rattle.calls.specs.Asked.{asked}
 use Rattle.calls.specs.Said.{Saying, says, done, made, waiting, refused}
 use Rattle.slots.specs.Places.{isBlocked}
-use Rattle.kernel.specs.Types.{Call, Asked, Create, Delete, Suspend, Resume, SetPriority, Delay, Yield, Hold, Release, MakeQueue, MakeMutex, Remove, Send, Receive, Take, Give, Tick, Kernel}
+use Rattle.kernel.specs.Types.{Call, Asked, Kernel}
 use Rattle.kernel.specs.Tables.{taskAt, kindAt}
 use Rattle.kernel.specs.Lines.{chosen}
 use Rattle.kernel.specs.Items.{storeSentTo, storeReceivedFrom}
-use Rattle.kernel.specs.Asking.{makes, newNumber}
+use Rattle.kernel.specs.Asking.{is, makes, newNumber}
 use Rattle.kernel.specs.Refusals.{refusal}
 use Rattle.kernel.specs.Effects.{effect}
 
 -- send and receive change the store; "no other call changes the store"
-unfoldable pub stored : Kernel → Call → List ℕ → List ℕ → List ℕ
-stored k (Create p) item s = s
-stored k (Delete t) item s = s
-stored k (Suspend t) item s = s
-stored k (Resume t) item s = s
-stored k (SetPriority t p) item s = s
-stored k (Delay n) item s = s
-stored k Yield item s = s
-stored k Hold item s = s
-stored k Release item s = s
-stored k (MakeQueue c z) item s = s
-stored k MakeMutex item s = s
-stored k (Remove o) item s = s
-stored k (Send o w) item s = storeSentTo k o (kindAt (k .objects) o) item s
-stored k (Receive o w) item s = storeReceivedFrom k o (kindAt (k .objects) o) s
-stored k (Take o w) item s = s
-stored k (Give o) item s = s
-stored k Tick item s = s
+unfoldable pub stored : Kernel → Asked → List ℕ → List ℕ → List ℕ
+stored k a item s =
+    if is 13 a then storeSentTo k (a .object) (kindAt (k .objects) (a .object)) item s
+    else if is 14 a then storeReceivedFrom k (a .object) (kindAt (k .objects) (a .object)) s
+    else s
 
 -- "An accepted call answers done, made with the new number, or waiting (given exactly if the caller is now delayed or waits on an object)."
 unfoldable pub answered : Kernel → Asked → Kernel → Saying
@@ -49,7 +36,7 @@ pub record Stepped : Type 0 where
 
 -- "Every accepted call ends with choose."
 unfoldable pub accepted : Kernel → Call → List ℕ → List ℕ → Stepped
-accepted k c item s = record { kernel = chosen (effect k c); answer = answered k (asked c) (chosen (effect k c)); store = stored k c item s }
+accepted k c item s = record { kernel = chosen (effect k c); answer = answered k (asked c) (chosen (effect k c)); store = stored k (asked c) item s }
 
 -- "A refusal returns the number; the kernel and all lent bytes stay."
 abbrev pub turnedAway : Kernel → ℕ → List ℕ → Stepped

@@ -5,6 +5,7 @@ ghost use mathlib.Core.Bool.{_&&_, false};
 ghost use lib.Dec.{eqb, ltb};
 ghost use lib.ListN.{length};
 ghost use mathlib.Core.List.{[]};
+ghost use Rattle.calls.specs.Asked.{asked};
 ghost use Rattle.kernel.specs.Types.{Create, Delete, Suspend, Resume, SetPriority, Delay, Yield, Hold, Release, MakeQueue, MakeMutex, Remove, Send, Receive, Take, Give, Tick};
 ghost use Rattle.kernel.specs.Tables.{freeSlot, freeObject};
 ghost use Rattle.kernel.specs.Effects.{handedOn};
@@ -135,7 +136,7 @@ impl Kernel {
 
     pub(crate) fn send(self, o: ObjNo, w: u32, item: &[u8], store: &mut [u8]) -> Step
         requires { ⌜ Steady self ⌝ }
-        ensures { λ r. ⌜ Accepts self (Send o w) r × (now (store .exit) ≡ stored self (Send o w) (now (item .entry)) (now (store .entry))) ⌝ }
+        ensures { λ r. ⌜ Accepts self (Send o w) r × (now (store .exit) ≡ stored self (asked (Send o w)) (now (item .entry)) (now (store .entry))) ⌝ }
     {
         let u = self.running;
         match self.kind(o) {
@@ -147,7 +148,7 @@ impl Kernel {
 
     pub(crate) fn receive(self, o: ObjNo, w: u32, store: &mut [u8]) -> Step
         requires { ⌜ Steady self × (length (now store) ≡ 9216) ⌝ }
-        ensures { λ r. ⌜ Accepts self (Receive o w) r × (now (store .exit) ≡ stored self (Receive o w) [] (now (store .entry))) ⌝ }
+        ensures { λ r. ⌜ Accepts self (Receive o w) r × (now (store .exit) ≡ stored self (asked (Receive o w)) [] (now (store .entry))) ⌝ }
     {
         let u = self.running;
         match self.kind(o) {

@@ -30,7 +30,7 @@ impl Kernel {
     // The call is one that no row of the table turns away.
     fn served(self, call: Call, item: &[u8], store: &mut [u8]) -> Step
         requires { ⌜ (sound self ≡ true) × (laterRow self (asked call) (length (now item)) (length (now store)) ≡ 0) ⌝ }
-        ensures { λ r. ⌜ Accepts self call r × (now (store .exit) ≡ stored self call (now (item .entry)) (now (store .entry))) ⌝ }
+        ensures { λ r. ⌜ Accepts self call r × (now (store .exit) ≡ stored self (asked call) (now (item .entry)) (now (store .entry))) ⌝ }
     {
         let n = self.number_for(call.asked());
         match call {

@@ -82,25 +82,10 @@ received-store-too k m a o Unused s = refl
 received-store-too k m a o (Queue q) s = rw (← first-same k m a (WaitersOf o))
 received-store-too k m a o (Mutex h) s = refl
 
-stored-too : (k j : Kernel) (c : Call) (item s : List ℕ) → Twins k j → stored k c item s ≡ stored j c item s
+stored-too : (k j : Kernel) (a : Asked) (item s : List ℕ) → Twins k j → stored k a item s ≡ stored j a item s
 unfolding stored
-stored-too k j (Create p) item s w = refl
-stored-too k j (Delete t) item s w = refl
-stored-too k j (Suspend t) item s w = refl
-stored-too k j (Resume t) item s w = refl
-stored-too k j (SetPriority t p) item s w = refl
-stored-too k j (Delay n) item s w = refl
-stored-too k j Yield item s w = refl
-stored-too k j Hold item s w = refl
-stored-too k j Release item s w = refl
-stored-too k j (MakeQueue c z) item s w = refl
-stored-too k j MakeMutex item s w = refl
-stored-too k j (Remove o) item s w = refl
-stored-too k j (Send o n) item s w = shared (λ z. stored k (Send o n) item s ≡ stored z (Send o n) item s) k j w (λ m v. sent-store-too k m (v .alike) o (kindAt (k .objects) o) item s)
-stored-too k j (Receive o n) item s w = shared (λ z. stored k (Receive o n) item s ≡ stored z (Receive o n) item s) k j w (λ m v. received-store-too k m (v .alike) o (kindAt (k .objects) o) s)
-stored-too k j (Take o n) item s w = refl
-stored-too k j (Give o) item s w = refl
-stored-too k j Tick item s w = refl
+stored-too k j a item s w =
+    shared (λ z. stored k a item s ≡ stored z a item s) k j w (λ m v. rw (sent-store-too k m (v .alike) (a .object) (kindAt (k .objects) (a .object)) item s, received-store-too k m (v .alike) (a .object) (kindAt (k .objects) (a .object)) s))
 
 answered-too : {k j next after : Kernel} (a : Asked) → Alike k j → Alike next after → answered k a next ≡ answered j a after
 unfolding answered
@@ -110,7 +95,7 @@ accepted-too : (k j : Kernel) (c : Call) (item s : List ℕ) → laterRow k (ask
 unfolding accepted
 accepted-too k j c item s e w =
     let next = chosen-too (effect k c) (effect j c) (effect-too k j c (length item) (length s) e w) in
-    record { answer = answered-too (asked c) (w .alike) next; store = stored-too k j c item s w; kernel = next }
+    record { answer = answered-too (asked c) (w .alike) next; store = stored-too k j (asked c) item s w; kernel = next }
 
 -- ── every call
 not-refused : (k : Kernel) (a : Asked) (item store : ℕ) → refusal k a item store ≡ 0 → (sound k ≡ true) × (laterRow k a item store ≡ 0)

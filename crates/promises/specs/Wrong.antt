@@ -32,7 +32,7 @@ unfoldable pub stepBy : (Kernel → Call → Kernel) → (Kernel → Kernel) →
 stepBy does choose k c item s =
     let n = refusal k (asked c) (length item) (length s) in
     let next = choose (does k c) in
-    if eqb n 0 then record { kernel = next; answer = answered k (asked c) next; store = stored k c item s } else turnedAway k n s
+    if eqb n 0 then record { kernel = next; answer = answered k (asked c) next; store = stored k (asked c) item s } else turnedAway k n s
 
 -- the effect with the row of call n changed
 abbrev pub changed : ℕ → (Kernel → Asked → Kernel) → Kernel → Call → Kernel

@@ -129,77 +129,77 @@ tick-requires : tie.Need-tick-requires
 tick-requires c κs = tick-fits (c .before .before .before .before .before .before .args .self) (c .enum-told5 .given .1) (passed (c .before .before .before .before .before .before .args .self) (asked (c .before .before .before .before .before .before .args .call)) (length (c .before .before .before .before .before .before .args .item .now)) (length (c .before .before .before .before .before .before .args .store .now)) (c .before .before .before .before .before .before .pre .1) .ticks)
 
 returns : tie.Need-returns
-unfolding stored
+unfolding stored asked
 returns c = rw (c .before .before .call .given .1) (c .create .ensures, refl)
 
 returns-2 : tie.Need-returns-2
-unfolding stored
+unfolding stored asked
 returns-2 c = rw (c .before .before .call2 .given .1) (c .delete .ensures, refl)
 
 returns-3 : tie.Need-returns-3
-unfolding stored
+unfolding stored asked
 returns-3 c = rw (c .before .before .call3 .given .1) (c .suspend .ensures, refl)
 
 returns-4 : tie.Need-returns-4
-unfolding stored
+unfolding stored asked
 returns-4 c = rw (c .before .before .call4 .given .1) (c .resume .ensures, refl)
 
 returns-5 : tie.Need-returns-5
-unfolding stored
+unfolding stored asked
 returns-5 c = rw (c .before .before .call5 .given .1) (c .set-priority .ensures, refl)
 
 returns-6 : tie.Need-returns-6
-unfolding stored
+unfolding stored asked
 returns-6 c = rw (c .before .before .call6 .given .1) (c .delay .ensures, refl)
 
 returns-7 : tie.Need-returns-7
-unfolding stored
+unfolding stored asked
 returns-7 c = rw (c .before .enum-told .given .1) (c .give-way .ensures, refl)
 
 returns-8 : tie.Need-returns-8
-unfolding stored
+unfolding stored asked
 returns-8 c = rw (c .before .enum-told2 .given .1) (c .hold .ensures, refl)
 
 returns-9 : tie.Need-returns-9
-unfolding stored
+unfolding stored asked
 returns-9 c = rw (c .before .enum-told3 .given .1) (c .release .ensures, refl)
 
 returns-10 : tie.Need-returns-10
-unfolding stored
+unfolding stored asked
 returns-10 c = rw (c .before .before .call7 .given .1) (c .make-queue .ensures, refl)
 
 returns-11 : tie.Need-returns-11
-unfolding stored
+unfolding stored asked
 returns-11 c = rw (c .before .enum-told4 .given .1) (c .make-mutex .ensures, refl)
 
 returns-12 : tie.Need-returns-12
-unfolding stored
+unfolding stored asked
 returns-12 c = rw (c .before .before .call8 .given .1) (c .remove .ensures, refl)
 
 same-length : tie.Need-same-length
 same-length c = search needs
 
 returns-13 : tie.Need-returns-13
-unfolding stored
+unfolding stored asked
 returns-13 c = rw (c .before .before .before .before .before .call9 .given .1) (c .before .before .send .ensures)
 
 same-length-2 : tie.Need-same-length-2
 same-length-2 c = search needs
 
 returns-14 : tie.Need-returns-14
-unfolding stored
+unfolding stored asked
 returns-14 c = rw (c .before .before .before .before .before .call10 .given .1) (c .before .before .receive .ensures .0, c .before .before .receive .ensures .1)
 
 returns-15 : tie.Need-returns-15
-unfolding stored
+unfolding stored asked
 returns-15 c = rw (c .before .before .call11 .given .1) (c .take .ensures, refl)
 
 returns-16 : tie.Need-returns-16
-unfolding stored
+unfolding stored asked
 returns-16 c = rw (c .before .before .call12 .given .1) (c .give .ensures, refl)
 
 returns-17 : tie.Need-returns-17
-unfolding stored
+unfolding stored asked
 returns-17 c = rw (c .before .enum-told5 .given .1) (c .tick .ensures, refl)
 
 pub served-spec : {M : Type 1} → statement M
