@@ -23,7 +23,8 @@ use Rattle.kernel.specs.Sentences.{Sound}
 use Rattle.kernel.proofs.Leads.{leader-none, first-heads-highest}
 use Rattle.kernel.proofs.Within.{first-meant, kept-head, first-single}
 use Rattle.kernel.proofs.Says.{is-ready}
-use Rattle.kernel.proofs.Nearly.{Owing, settled, Nearly, Runs, line-once, list-once}
+use Rattle.kernel.proofs.Listings.{line-once, list-once}
+use Rattle.kernel.proofs.Nearly.{Owing, settled, Nearly, Runs}
 
 -- ── from nearly sound to sound
 blocked-outcome : (x : Task) → outcomeFine x ≡ true → isBlocked (x .place) ≡ true → x .outcome ≡ 0

@@ -26,7 +26,8 @@ use Rattle.kernel.specs.Effects.{queueMade, mutexMade, removed, effect}
 use Rattle.kernel.proofs.Slots.{past-objects}
 use Rattle.kernel.proofs.Leads.{leader-none}
 use Rattle.kernel.proofs.Passes.{Passed}
-use Rattle.kernel.proofs.Nearly.{Owing, settled, Nearly, Runs, list-once}
+use Rattle.kernel.proofs.Listings.{list-once}
+use Rattle.kernel.proofs.Nearly.{Owing, settled, Nearly, Runs}
 use Rattle.kernel.proofs.Objected.{object-nearly}
 use Rattle.kernel.proofs.Chosen.{sound-nearly, sound-runs}
 use Rattle.kernel.proofs.Keeps.{Keeps, index-most, index-passes}

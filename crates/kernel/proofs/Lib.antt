@@ -2,6 +2,7 @@ pub mod Slots
 pub mod Leads
 pub mod Moves
 pub mod Quicks
+pub mod Listings
 pub mod Says
 pub mod Within
 pub mod Rows

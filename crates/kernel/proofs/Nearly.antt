@@ -1,27 +1,24 @@
 -- Soundness on the way: all but who runs, with what is still open named. A call's effect takes nearly sound kernels to nearly sound ones; choose comes last.
 use Prim.Native.Nat.{ℕ, _≤_}
-use mathlib.Core.Path.{_≡_, refl, ap, _∙_}
-use mathlib.Core.Bool.{Bool, true, false, _&&_}
+use mathlib.Core.Path.{_≡_, ap, _∙_}
+use mathlib.Core.Bool.{Bool, true, false}
 use mathlib.Core.List.{List, [], _∷_}
 use native.Mathlib.Omega.{arith}
-use lib.Dec.{eqb}
 use lib.ListN.{length, length-take, length-append, length-replicate}
 use Rattle.lists.specs.Choice.{if_then_else_}
 use Rattle.lists.specs.Lists.{head}
-use Rattle.lists.proofs.Bools.{and-left}
 use Rattle.calls.specs.Numbers.{task, idle}
 use Rattle.order.specs.Order.{listed, ordered}
 use Rattle.order.specs.Tidy.{count, tidy}
 use Rattle.order.proofs.Counts.{Exactly}
 use Rattle.order.proofs.Orders.{listed-ordered}
 use Rattle.order.proofs.Rooms.{tidy-few, tidy-zeros, exactly-room, exactly-tidy}
-use Rattle.order.proofs.Tests.{count-kept}
-use Rattle.slots.specs.Places.{isReady, isListed, waitsOn}
-use Rattle.slots.specs.Tasks.{freeTask, inLine}
+use Rattle.slots.specs.Places.{isListed}
+use Rattle.slots.specs.Tasks.{freeTask}
 use Rattle.slots.specs.Fine.{notDue, outcomeFine}
-use Rattle.kernel.specs.Types.{TaskNo, ObjNo, Wake, Place, Free, Ready, Delayed, Waiting, Suspended, Task, Ring, Queue, Object, WaitersOf, Kernel}
+use Rattle.kernel.specs.Types.{TaskNo, ObjNo, Wake, Place, Free, Ready, Waiting, Task, Ring, Queue, Object, Kernel}
 use Rattle.kernel.specs.Tables.{taskAt, kindAt, withOrder}
-use Rattle.kernel.specs.Lines.{line, those, level}
+use Rattle.kernel.specs.Lines.{line, level}
 use Rattle.kernel.specs.Sentences.{Holds, Exists, MayWait, RingFits, Listing}
 use Rattle.kernel.proofs.Slots.{past-tasks}
 
@@ -108,30 +105,3 @@ relisted k l h c =
 
     tidied : tidy (ordered l) ≡ true
     tidied = exactly-tidy l exact (λ n. few (isListed (taskAt (k .tasks) (task n) .place))) (past (k .tasks) h)
-
--- ── lines and lists, from the listing alone
-in-line-count : (b c : Bool) (n : ℕ) → (b ≡ true → c ≡ true) → n ≡ (if c then 1 else 0) → (if b then n else 0) ≡ (if b then 1 else 0)
-in-line-count true c n f e = rw (f refl) at e
-in-line-count false c n f e = refl
-
-ready-listed : (p : Place) (b : Bool) → (isReady p && b) ≡ true → isListed p ≡ true
-ready-listed p b e = rw (and-left (isReady p) b e)
-
-pub line-once : (k : Kernel) → Listing k → (p : ℕ) (t : TaskNo) → count (t .0) (line (k .tasks) p (listed (k .order))) ≡ (if inLine p (taskAt (k .tasks) t) then 1 else 0)
-unfolding line
-line-once k s p t =
-    count-kept (λ u. inLine p (taskAt (k .tasks) u)) (t .0) (listed (k .order))
-    ∙ in-line-count (inLine p (taskAt (k .tasks) t)) (isListed (taskAt (k .tasks) t .place)) (count (t .0) (listed (k .order))) (ready-listed (taskAt (k .tasks) t .place) (eqb (level (k .tasks) t) p)) (s .once t)
-
-waits-listed : (o : ObjNo) (p : Place) → waitsOn o p ≡ true → isListed p ≡ true
-waits-listed o Free q = q
-waits-listed o Ready q = refl
-waits-listed o (Delayed w) q = refl
-waits-listed o (Waiting p w) q = refl
-waits-listed o Suspended q = q
-
-pub list-once : (k : Kernel) → Listing k → (o : ObjNo) (t : TaskNo) → count (t .0) (those (k .tasks) (WaitersOf o) (listed (k .order))) ≡ (if waitsOn o (taskAt (k .tasks) t .place) then 1 else 0)
-unfolding those
-list-once k s o t =
-    count-kept (λ u. waitsOn o (taskAt (k .tasks) u .place)) (t .0) (listed (k .order))
-    ∙ in-line-count (waitsOn o (taskAt (k .tasks) t .place)) (isListed (taskAt (k .tasks) t .place)) (count (t .0) (listed (k .order))) (waits-listed o (taskAt (k .tasks) t .place)) (s .once t)

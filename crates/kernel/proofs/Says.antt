@@ -17,16 +17,16 @@ use Rattle.order.specs.Order.{listed}
 use Rattle.order.specs.Tidy.{count, tidy}
 use Rattle.order.proofs.Lines.{one-number}
 use Rattle.order.proofs.Rooms.{tidy-few, tidy-zeros, tidy-none, tidy-from, count-some}
-use Rattle.order.proofs.Tests.{count-kept}
-use Rattle.slots.specs.Places.{isFree, isReady, isBlocked, isListed, waitsOn, waited}
+use Rattle.slots.specs.Places.{isFree, isReady, isBlocked, isListed, waited}
 use Rattle.slots.specs.Tasks.{freeTask, inLine, inHigher}
 use Rattle.slots.specs.Objects.{unused, heldBy, holderOf}
 use Rattle.slots.specs.Fine.{idleFine, standsFine, mayWait, waitsFine, prioritiesFine, holderIn, notDue, ringFine, ringInRange, outcomeFine, freshIfFree}
-use Rattle.kernel.specs.Types.{TaskNo, ObjNo, Never, At, Place, Free, Ready, Delayed, Waiting, Suspended, Task, Ring, Nobody, By, Kind, Unused, Queue, Mutex, Object, WaitersOf, Kernel}
+use Rattle.kernel.specs.Types.{TaskNo, ObjNo, Never, At, Place, Free, Ready, Delayed, Waiting, Suspended, Task, Ring, Nobody, By, Kind, Unused, Queue, Mutex, Object, Kernel}
 use Rattle.kernel.specs.Tables.{taskAt, kindAt, holds}
-use Rattle.kernel.specs.Lines.{line, those, level}
+use Rattle.kernel.specs.Lines.{line, level}
 use Rattle.kernel.specs.Sound.{heads, noHigher, runsFine, counted, sound}
-use Rattle.kernel.specs.Sentences.{Holds, MayWait, receiver, sender, taker, RingFits, Sound}
+use Rattle.kernel.specs.Sentences.{Holds, MayWait, receiver, sender, taker, RingFits, Listing, Sound}
+use Rattle.kernel.proofs.Listings.{line-once, list-once}
 use Rattle.kernel.proofs.Slots.{past-tasks, past-objects}
 
 -- ── what holds of each slot holds of each number, since past the slots all is free
@@ -113,11 +113,6 @@ heads-one (t ∷ l) r e = rw (one-number t r (eqb-true (t .0) (r .0) e))
 one-heads : (l : List TaskNo) (r : TaskNo) → head l ≡ r ∷ [] → heads l r ≡ true
 one-heads [] r e = absurd (let z : _≡_ {A = ℕ} 0 1 = cc in omega arith)
 one-heads (t ∷ l) r e = let q : t .0 ≡ r .0 = ap (λ (m : List TaskNo). getD m 0 idle .0) e in eq-eqb (t .0) (r .0) q
-
--- of a line: one that stands in it is of the order
-in-line-count : (b c : Bool) (n : ℕ) → (b ≡ true → c ≡ true) → n ≡ (if c then 1 else 0) → (if b then n else 0) ≡ (if b then 1 else 0)
-in-line-count true c n f e = rw (f refl) at e
-in-line-count false c n f e = refl
 
 -- ── a test that is true says every sentence
 module _ (k : Kernel) (e : sound k ≡ true) where
@@ -206,25 +201,8 @@ module _ (k : Kernel) (e : sound k ≡ true) where
           and-intro (isReady (taskAt ts t .place)) (ltb (level ts (k .running)) (level ts t)) (and-left (isReady (taskAt ts t .place)) _ q)
           (rw (eqb-true (level ts t) p (and-right (isReady (taskAt ts t .place)) _ q)) (lt-ltb (level ts (k .running)) p m))
 
-  line-counts : (p : ℕ) (t : TaskNo) → count (t .0) (line ts p l) ≡ (if inLine p (taskAt ts t) then 1 else 0)
-  unfolding line
-  line-counts p t =
-      count-kept (λ u. inLine p (taskAt ts u)) (t .0) l
-      ∙ in-line-count (inLine p (taskAt ts t)) (isListed (taskAt ts t .place)) (count (t .0) l)
-      (λ q. or-left (isReady (taskAt ts t .place)) (isBlocked (taskAt ts t .place)) (and-left (isReady (taskAt ts t .place)) _ q)) (stands-once t)
-
-  waits-blocked : (o : ObjNo) (p : Place) → waitsOn o p ≡ true → isListed p ≡ true
-  waits-blocked o Free q = q
-  waits-blocked o Ready q = refl
-  waits-blocked o (Delayed w) q = refl
-  waits-blocked o (Waiting p w) q = refl
-  waits-blocked o Suspended q = q
-
-  list-counts : (o : ObjNo) (t : TaskNo) → count (t .0) (those ts (WaitersOf o) l) ≡ (if waitsOn o (taskAt ts t .place) then 1 else 0)
-  unfolding those
-  list-counts o t =
-      count-kept (λ u. waitsOn o (taskAt ts u .place)) (t .0) l
-      ∙ in-line-count (waitsOn o (taskAt ts t .place)) (isListed (taskAt ts t .place)) (count (t .0) l) (waits-blocked o (taskAt ts t .place)) (stands-once t)
+  listing-say : Listing k
+  listing-say = record { once = stands-once; room = tidy-few (k .order) tidied; zeros = tidy-zeros (k .order) tidied }
 
   delay-says : (t : TaskNo) (w : ℕ) → taskAt ts t .place ≡ Delayed w → (leb w 4294967295 && not (eqb w (k .tick))) ≡ true
   delay-says t w q = rw q at (dues-say t)
@@ -252,16 +230,16 @@ module _ (k : Kernel) (e : sound k ≡ true) where
         task-slots = slots-16 .0;
         object-slots = slots-16 .1;
         order-places = slots-16 .2;
-        listing = record { once = stands-once; room = tidy-few (k .order) tidied; zeros = tidy-zeros (k .order) tidied };
+        listing = listing-say;
         idle-ready = is-ready (taskAt ts idle .place) (and-left (isReady (taskAt ts idle .place)) _ idle-says);
         idle-own = eqb-true _ _ (and-left (eqb (taskAt ts idle .own) 0) _ (and-right (isReady (taskAt ts idle .place)) _ idle-says));
         idle-effective = eqb-true _ _ (and-right (eqb (taskAt ts idle .own) 0) _ (and-right (isReady (taskAt ts idle .place)) _ idle-says));
-        lines = line-counts;
+        lines = line-once k listing-say;
         runs = is-ready (taskAt ts (k .running) .place) (and-left (isReady (taskAt ts (k .running) .place)) _ runs-say);
         heads = heads-one (line ts (level ts (k .running)) l) (k .running) (and-left (heads (line ts (level ts (k .running)) l) (k .running)) _ (and-right (isReady (taskAt ts (k .running) .place)) _ runs-say));
         no-higher = no-line-above;
         waits = λ t o w q. may-wait t (kindAt os o) (rw q at (waits-say t));
-        lists = list-counts;
+        lists = list-once k listing-say;
         idle-holds = not-held os idle idle-free;
         at-least = λ t. leb-true _ _ (and-left (leb (taskAt ts t .own) (level ts t)) _ (priorities-say t));
         equal = λ t n. eqb-true _ _ (or-second (holds os t) _ (and-right (leb (level ts t) 31) _ (and-right (leb (taskAt ts t .own) (level ts t)) _ (priorities-say t))) (none-holds os t n));
