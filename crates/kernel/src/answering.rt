@@ -94,9 +94,8 @@ impl Session {
     {
         let mut kernel = self.kernel;
         let fine = kernel.sound();
-        let cut = self.cut;
-        let mut bytes = cut.bytes;
-        let mut len = cut.len;
+        let mut bytes = self.cut.bytes;
+        let mut len = self.cut.len;
         let mut at = 0usize;
         let mut written = 0usize;
         loop {
@@ -125,11 +124,10 @@ impl Session {
     }
 
     // The input has ended: a last line without a newline is answered.
-    pub fn end(self, store: &[u8], out: &mut [u8]) -> Served
+    pub fn end(mut self, store: &[u8], out: &mut [u8]) -> Served
         ensures { λ r. ⌜ Closes self (now (store .entry)) (now (out .entry)) r (now (out .exit)) ⌝ }
     {
         let cut = self.cut;
-        let kernel = self.kernel;
         if lists::either(cut.is_empty(), out.len() < 256) {
             return Served {
                 session: self,
@@ -137,15 +135,13 @@ impl Session {
                 written: 0,
             };
         }
-        let no = line_refusal(Reading::Refused(3), kernel.sound(), store.len());
-        let bytes = cut.bytes;
+        let no = line_refusal(Reading::Refused(3), self.kernel.sound(), store.len());
+        let written = put_answer(out, 0, Answer::Refused(no), self.kernel.running);
+        self.cut.len = 0;
         Served {
-            session: Session {
-                kernel,
-                cut: Cut { bytes, len: 0 },
-            },
+            session: self,
             taken: 0,
-            written: put_answer(out, 0, Answer::Refused(no), kernel.running),
+            written,
         }
     }
 }
