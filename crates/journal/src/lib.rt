@@ -5,6 +5,7 @@ mod writer;
 
 use calls::Call;
 pub use reader::read_call;
+pub use writer::put_answer;
 pub use writer::write_answer;
 pub use writer::write_call;
 

@@ -5,7 +5,7 @@ ghost use lib.ListN.{take, drop};
 ghost use Rattle.fields.specs.Texts.{texts};
 ghost use Rattle.fields.specs.Wrote.{Wrote};
 ghost use Rattle.calls.specs.Said.{said};
-ghost use Rattle.journal.specs.Reply.{wordOf};
+ghost use Rattle.journal.specs.Reply.{wordOf, replyOf};
 ghost use Rattle.journal.specs.Frames.{tabbed, sentText, frameText};
 ghost use Rattle.journal.specs.Promise.{WritesCall, WritesAnswer};
 use crate::Written;
@@ -83,14 +83,14 @@ pub fn write_call(call: Call, item: &[u8], line: &mut [u8]) -> Written
 }
 
 // The word of an answer.
-fn put_word(line: &mut [u8], answer: Answer) -> usize
-    ensures { λ r. ⌜ Wrote (now (line .entry)) 0 (wordOf (said answer .word)) r (now (line .exit)) ⌝ }
+fn put_word(line: &mut [u8], at: usize, answer: Answer) -> usize
+    ensures { λ r. ⌜ Wrote (now (line .entry)) at (wordOf (said answer .word)) r (now (line .exit)) ⌝ }
 {
     match answer {
-        Answer::Done => put_all(line, 0, b"ok"),
-        Answer::Made(_) => put_all(line, 0, b"ok"),
-        Answer::Waiting => put_all(line, 0, b"wait"),
-        Answer::Refused(_) => put_all(line, 0, b"no"),
+        Answer::Done => put_all(line, at, b"ok"),
+        Answer::Made(_) => put_all(line, at, b"ok"),
+        Answer::Waiting => put_all(line, at, b"wait"),
+        Answer::Refused(_) => put_all(line, at, b"no"),
     }
 }
 
@@ -106,15 +106,22 @@ fn number_of(answer: Answer) -> u32
     }
 }
 
-// The line of an answer and of the task that runs afterwards, in the first bytes of the lent line.
+// The line of an answer and of the task that runs afterwards, from a place of `line` on, as far as it goes.
+pub fn put_answer(line: &mut [u8], at: usize, answer: Answer, running: TaskNo) -> usize
+    ensures { λ r. ⌜ Wrote (now (line .entry)) at (replyOf answer running) r (now (line .exit)) ⌝ }
+{
+    let word = put_word(line, at, answer);
+    let number = put_field(line, word, number_of(answer));
+    let last = put_field(line, number, running.number());
+    put(line, last, 10)
+}
+
+// The same in the first bytes of a lent line.
 pub fn write_answer(answer: Answer, running: TaskNo, line: &mut [u8]) -> Written
     ensures { λ r. ⌜ WritesAnswer answer running (now (line .entry)) r (now (line .exit)) ⌝ }
 {
     if line.len() != 256 {
         return Written::Refused(2);
     }
-    let word = put_word(line, answer);
-    let number = put_field(line, word, number_of(answer));
-    let last = put_field(line, number, running.number());
-    Written::Count(put(line, last, 10))
+    Written::Count(put_answer(line, 0, answer, running))
 }

@@ -22,5 +22,4 @@ pub mod KeepObjects
 pub mod KeepMutexes
 pub mod KeepQueues
 pub mod Every
-pub mod Telling
 pub mod Sessions

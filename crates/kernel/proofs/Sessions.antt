@@ -11,7 +11,6 @@ use borrow.Author.Tests.{lt-ltb, le-ltb, ltb-true, ltb-false}
 use Rattle.lists.proofs.Bools.{or-off}
 use Rattle.lists.specs.Choice.{if_then_else_}
 use Rattle.calls.specs.Asked.{asked}
-use Rattle.calls.specs.Said.{says, refused, said}
 use Rattle.calls.specs.declared.Answer.the-variants.{Refused as NotDone}
 use Rattle.fields.specs.Wrote.{Wrote}
 use Rattle.fields.proofs.Stores.{wrote-then, wrote-none, wrote-length}
@@ -19,8 +18,9 @@ use Rattle.journal.specs.declared.Read.{Read}
 use Rattle.journal.specs.declared.Reading.{Reading}
 use Rattle.journal.specs.declared.Reading.the-variants.{Says, Refused}
 use Rattle.journal.specs.Promise.{ReadsAs}
-use Rattle.journal.specs.Reply.{reply}
+use Rattle.journal.specs.Reply.{reply, replyOf}
 use Rattle.journal.specs.Steps.{noCall}
+use Rattle.journal.proofs.Stores.{reply-short}
 use Rattle.journal.proofs.Theorems.{read-is, len-within}
 use Rattle.cuts.specs.declared.Stop.{Stop}
 use Rattle.cuts.specs.Keeping.{cutOf, kept, ended, isEmpty, Gathered, gathered, Gathers}
@@ -29,7 +29,7 @@ use Rattle.kernel.specs.Types.{Call, Kernel, Cut, Step, Served}
 use Rattle.kernel.specs.Sound.{sound}
 use Rattle.kernel.specs.Refusals.{laterRow, refusal}
 use Rattle.kernel.specs.Step.{Stepped, turnedAway, steppedBy, step}
-use Rattle.kernel.specs.Session.{noLine, stepTold, stepRead, readCut, lineStep, Run, told, answeredBy, fed, noRoom, run, begun, closed}
+use Rattle.kernel.specs.Session.{noLine, stepTold, stepRead, readCut, lineStep, Run, told, answeredBy, fed, noRoom, run, begun, closed, callIn, lineRefusal}
 use Rattle.kernel.specs.Promises.{Is, SoundSteps, Ran}
 use Rattle.kernel.proofs.Every.{step-kept}
 
@@ -54,25 +54,46 @@ step-by b k c item s e = ap (λ (t : Bool). steppedBy (if t then laterRow k (ask
 abbrev itemOf : Read → List ℕ
 itemOf r = take (r .len) (r .item)
 
+no-line : (k : Kernel) (s : List ℕ) (b : Bool) (m : ℕ) → sound k ≡ b → noLine k s ≡ lineRefusal (Refused m) b (length s)
+unfolding noLine
+no-line k s true m e = ap (λ (t : Bool). if t then (if eqb (length s) 9216 then 3 else 2) else 1) e
+no-line k s false m e = ap (λ (t : Bool). if t then (if eqb (length s) 9216 then 3 else 2) else 1) e
+
 -- what was read says t, by which the step goes
 read-as : (k : Kernel) (s : List ℕ) (r : Read) (t : Reading) (d : Stepped) (q : Step) (after : List ℕ)
     → r .answer ≡ t → stepTold k s t (itemOf r) ≡ d → Is d q after → Is (stepRead k s r) q after
 read-as k s r t d q after e f = subst (λ (x : Stepped). Is x q after) (sym (ap (λ (x : Reading). stepTold k s x (itemOf r)) e ∙ f))
 
-pub unsound-step : (k : Kernel) (s : List ℕ) (r : Read) (c : Call) → r .answer ≡ Says c → sound k ≡ false
-    → Is (stepRead k s r) record { kernel = k; answer = NotDone 1 } s
-unsound-step k s r c e f = read-as k s r (Says c) _ _ s e (step-by false k c (itemOf r) s f) record { kernel = refl; answer = refl; store = refl }
+-- a number that is not 0 is given before the call is looked at
+pub line-refused : (k : Kernel) (s : List ℕ) (r : Read) (fine : Bool) (n : ℕ) → fine ≡ sound k → n ≡ lineRefusal (r .answer) fine (length s) → (n ≡ 0 → ⊥)
+    → Is (stepRead k s r) record { kernel = k; answer = NotDone n } s
+line-refused k s r fine n e g h = go (r .answer) refl fine (sym e) g
+  where
+    away : (t : Reading) → r .answer ≡ t → stepTold k s t (itemOf r) ≡ turnedAway k n s → Is (stepRead k s r) record { kernel = k; answer = NotDone n } s
+    away t p q = read-as k s r t (turnedAway k n s) record { kernel = k; answer = NotDone n } s p q record { kernel = refl; answer = refl; store = refl }
 
-pub sound-step : (k : Kernel) (s : List ℕ) (r : Read) (c : Call) (q : Step) (after : List ℕ) → r .answer ≡ Says c → sound k ≡ true
-    → SoundSteps k c (itemOf r) s q after → Is (stepRead k s r) q after
-sound-step k s r c q after e f = read-as k s r (Says c) _ q after e (step-by true k c (itemOf r) s f)
+    go : (t : Reading) → r .answer ≡ t → (b : Bool) → sound k ≡ b → n ≡ lineRefusal t b (length s) → Is (stepRead k s r) record { kernel = k; answer = NotDone n } s
+    go (Says c) p true f q = absurd (h q)
+    go (Says c) p false f q = away (Says c) p (step-by false k c (itemOf r) s f ∙ ap (λ (x : ℕ). turnedAway k x s) (sym q))
+    go (Refused m) p b f q = away (Refused m) p (ap (λ (x : ℕ). turnedAway k x s) (no-line k s b m f ∙ sym q))
 
-pub no-step : (k : Kernel) (s : List ℕ) (r : Read) (n m : ℕ) (fine : Bool) → r .answer ≡ Refused n → fine ≡ sound k
-    → m ≡ (if fine then (if eqb (length s) 9216 then 3 else 2) else 1) → Is (stepRead k s r) record { kernel = k; answer = NotDone m } s
-unfolding noLine
-no-step k s r n m fine e f g = read-as k s r (Refused n) (turnedAway k m s) _ s e
-    (ap (λ (x : ℕ). turnedAway k x s) (sym (g ∙ ap (λ (b : Bool). if b then (if eqb (length s) 9216 then 3 else 2) else 1) f)))
-    record { kernel = refl; answer = refl; store = refl }
+two-or-three : (b : Bool) → _≡_ {A = ℕ} (if b then 3 else 2) 0 → ⊥
+two-or-three true z = omega arith
+two-or-three false z = omega arith
+
+-- else the line has a call, and the kernel is sound
+pub has-call : (k : Kernel) (s : List ℕ) (r : Read) (fine : Bool) (n : ℕ) → fine ≡ sound k → n ≡ lineRefusal (r .answer) fine (length s) → n ≡ 0
+    → (sound k ≡ true) × (r .answer ≡ Says (callIn (r .answer)))
+has-call k s r fine n e g h = go (r .answer) fine (sym e) (sym g ∙ h)
+  where
+    go : (t : Reading) (b : Bool) → sound k ≡ b → lineRefusal t b (length s) ≡ 0 → (sound k ≡ true) × (t ≡ Says (callIn t))
+    go t false f q = absurd (omega arith)
+    go (Says c) true f q = (f, refl)
+    go (Refused m) true f q = absurd (two-or-three (eqb (length s) 9216) q)
+
+pub sound-step : (k : Kernel) (s : List ℕ) (r : Read) (q : Step) (after : List ℕ) → (sound k ≡ true) × (r .answer ≡ Says (callIn (r .answer)))
+    → SoundSteps k (callIn (r .answer)) (itemOf r) s q after → Is (stepRead k s r) q after
+sound-step k s r q after h = read-as k s r (Says (callIn (r .answer))) _ q after (h .1) (step-by true k (callIn (r .answer)) (itemOf r) s (h .0))
 
 -- a line's step leaves the kernel as sound as it was
 told-keeps : (k : Kernel) (s : List ℕ) (t : Reading) (item : List ℕ) (b : Bool) → sound k ≡ b → sound (stepTold k s t item .kernel) ≡ b
@@ -215,11 +236,10 @@ module _ {whole : Run} {lent block : List ℕ} {fine : Bool} {k : Kernel} {s byt
   module _ (cut : Cut) (q : Step) (after : List ℕ) (next : ℕ) (told-out : List ℕ)
       (keeps : cut ≡ kept (cutOf bytes len) 10)
       (is : Is (stepRead k s (readCut cut)) q after)
-      (wrote : Wrote out written (reply (said (q .answer)) (q .kernel .running)) next told-out)
-      (short : length (reply (said (q .answer)) (q .kernel .running)) ≤ 256)
+      (wrote : Wrote out written (replyOf (q .answer) (q .kernel .running)) next told-out)
       (room : 256 ≤ length out - written) (ends : drop at block ≡ 10 ∷ drop (at + 1) block) where
     abbrev line : List ℕ
-    line = reply (said (q .answer)) (q .kernel .running)
+    line = replyOf (q .answer) (q .kernel .running)
 
     abbrev now : Stepped
     now = stepRead k s (readCut cut)
@@ -244,7 +264,7 @@ module _ {whole : Run} {lent block : List ℕ} {fine : Bool} {k : Kernel} {s byt
     pub answered-on : Going whole lent block fine (q .kernel) after (cut .bytes) 0 (at + 1) next told-out
     answered-on = record {
       answers = w .answers ++ line;
-      within = omega (arith, length-append (w .answers) line, short, fits);
+      within = omega (arith, length-append (w .answers) line, reply-short (q .answer) (q .kernel .running), fits);
       wrote = wrote-then (w .wrote) wrote;
       known = w .known ∙ sym (line-keeps k s (readCut cut)) ∙ ap sound (sym (is .kernel));
       goes = ap (λ (x : Run). run (length lent) x (drop (at + 1) block)) (sym same)
@@ -278,14 +298,13 @@ module _ (k : Kernel) (s : List ℕ) (c : Cut) (lent : List ℕ) where
 
   -- the line without a newline is answered
   pub last-told : (empty b fine : Bool) (m next : ℕ) (out : List ℕ) → empty ≡ isEmpty c → b ≡ (empty || ltb (length lent) 256) → b ≡ false
-      → fine ≡ sound k → m ≡ (if fine then (if eqb (length s) 9216 then 3 else 2) else 1) → Wrote lent 0 (reply (says refused m) (k .running)) next out
-      → length (reply (says refused m) (k .running)) ≤ 256
+      → fine ≡ sound k → m ≡ lineRefusal (Refused 3) fine (length s) → Wrote lent 0 (replyOf (NotDone m) (k .running)) next out
       → Ran (closed (length lent) k s c) lent record { session = record { kernel = k; cut = cutOf (c .bytes) 0 }; taken = 0; written = next } s out
-  unfolding noLine ended
-  last-told empty b fine m next out e f g p q w h =
+  unfolding ended
+  last-told empty b fine m next out e f g p q w =
       let room : 256 ≤ length lent = ltb-false (length lent) 256 (or-off empty (ltb (length lent) 256) (sym f ∙ g) .1) in
-      let no : m ≡ noLine k s = q ∙ ap (λ (t : Bool). if t then (if eqb (length s) 9216 then 3 else 2) else 1) p in
-      let x = first-text w (omega arith) in
+      let no : m ≡ noLine k s = q ∙ sym (no-line k s fine 3 (sym p)) in
+      let x = first-text w (omega (arith, reply-short (NotDone m) (k .running))) in
       subst (λ (x : Run). Ran x lent record { session = record { kernel = k; cut = cutOf (c .bytes) 0 }; taken = 0; written = next } s out)
       (ap (λ (j : ℕ). record { taken = 0; kernel = k; store = s; cut = ended c; answers = told (turnedAway k j s) }) no ∙ sym (closed-by empty b e f ∙ ap (λ (t : Bool). if t then begun k s c else told-end) g))
       record { kernel = refl; cut = refl; taken = refl; written = x .0; store = refl; output = x .1 }

@@ -1,6 +1,6 @@
 -- A session: bytes come in blocks, cut anywhere; each line that ends among them is answered with one line.
 use Prim.Native.Nat.{ℕ, _+_}
-use mathlib.Core.Bool.{Bool, _&&_}
+use mathlib.Core.Bool.{Bool, true, false, _&&_}
 use mathlib.Core.List.{List, [], _∷_, _++_}
 use lib.Dec.{eqb, ltb}
 use lib.ListN.{length, take}
@@ -11,7 +11,7 @@ use Rattle.journal.specs.declared.Reading.{Reading}
 use Rattle.journal.specs.declared.Reading.the-variants.{Says, Refused}
 use Rattle.journal.specs.Steps.{readOf, noCall}
 use Rattle.journal.specs.Reply.{reply}
-use Rattle.kernel.specs.Types.{Kernel, Cut, Session}
+use Rattle.kernel.specs.Types.{Call, Tick, Kernel, Cut, Session}
 use Rattle.kernel.specs.Tables.{fresh}
 use Rattle.kernel.specs.Sound.{sound}
 use Rattle.kernel.specs.Step.{Stepped, turnedAway, step}
@@ -80,3 +80,16 @@ closed n k s c =
 -- "The program starts from the fresh kernel and a store of zeros."
 unfoldable pub newSession : Session
 newSession = record { kernel = fresh; cut = noByte }
+
+-- ---- the code's steps: nothing from here on has to be believed, since the promises do not speak of it
+
+-- the call that a reader's answer says; any call, where it says none
+abbrev pub callIn : Reading → Call
+callIn (Says c) = c
+callIn (Refused n) = Tick
+
+-- the number that a line gets before its call is looked at; 0 if it has a call to step
+abbrev pub lineRefusal : Reading → Bool → ℕ → ℕ
+lineRefusal r false n = 1
+lineRefusal (Says c) true n = 0
+lineRefusal (Refused m) true n = if eqb n 9216 then 3 else 2

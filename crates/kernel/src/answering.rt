@@ -1,29 +1,22 @@
 // A session: bytes come in blocks, cut anywhere, and each line that ends among them is answered. Soundness is tested once a block; a step keeps it.
 ghost use mathlib.Core.Path.{_≡_};
-ghost use Prim.Native.Nat.{_+_, _≤_};
-ghost use lib.ListN.{length};
-ghost use Rattle.lists.specs.Choice.{if_then_else_};
-ghost use lib.Dec.{eqb};
-ghost use Rattle.calls.specs.Said.{said};
-ghost use Rattle.fields.specs.Wrote.{Wrote};
-ghost use Rattle.journal.specs.Reply.{reply};
+ghost use Prim.Native.Nat.{_≤_};
 ghost use Rattle.kernel.specs.Sound.{sound};
-ghost use Rattle.kernel.specs.Session.{readCut, stepRead, newSession};
+ghost use Rattle.kernel.specs.Session.{readCut, lineRefusal, callIn, stepRead, newSession};
 ghost use Rattle.kernel.specs.Promises.{Is, Answers, Closes};
 use crate::Kernel;
 use crate::Served;
 use crate::Session;
 use crate::Step;
 use calls::Answer;
-use calls::TaskNo;
+use calls::Call;
 use cuts::Cut;
 use cuts::gather;
 use cuts::keep;
 use journal::Read;
 use journal::Reading;
-use journal::Written;
+use journal::put_answer;
 use journal::read_call;
-use journal::write_answer;
 
 // What a line says; nothing, if it is too long.
 fn read_cut(cut: Cut) -> Read
@@ -41,25 +34,26 @@ fn read_cut(cut: Cut) -> Read
     read_call(&bytes[..len])
 }
 
-// The number that a line gets that is no call's: 1 and 2 stand before 3.
-fn no_line(fine: bool, len: usize) -> u32
-    ensures { λ r. ⌜ r ≡ (if fine then (if eqb len 9216 then 3 else 2) else 1) ⌝ }
+// The number that a line gets before its call is looked at: 1 and 2 stand before 3; 0 if it has a call to step.
+fn line_refusal(says: Reading, fine: bool, len: usize) -> u32
+    ensures { λ r. ⌜ r ≡ lineRefusal says fine len ⌝ }
 {
     if !fine {
         return 1;
     }
-    if len == 9216 { 3 } else { 2 }
+    match says {
+        Reading::Says(_) => 0,
+        Reading::Refused(_) => if len == 9216 { 3 } else { 2 },
+    }
 }
 
-// The line of an answer, from `at` on in the output; where the next one goes.
-fn tell(answer: Answer, running: TaskNo, out: &mut [u8], at: usize) -> usize
-    requires { ⌜ at + 256 ≤ length (now out) ⌝ }
-    ensures { λ r. ⌜ Wrote (now (out .entry)) at (reply (said answer) running) r (now (out .exit)) ⌝ }
+// The call that a line says; any call, where it says none.
+fn call_in(says: Reading) -> Call
+    ensures { λ r. ⌜ r ≡ callIn says ⌝ }
 {
-    let end = at + 256;
-    match write_answer(answer, running, &mut out[at..end]) {
-        Written::Count(n) => at + n,
-        Written::Refused(_) => at,
+    match says {
+        Reading::Says(call) => call,
+        Reading::Refused(_) => Call::Tick,
     }
 }
 
@@ -70,23 +64,16 @@ impl Kernel {
         ensures { λ r. ⌜ Is (stepRead self (now (store .entry)) line) r (now (store .exit)) ⌝ }
     {
         let says = line.answer;
-        match says {
-            Reading::Says(call) => {
-                if !fine {
-                    return Step {
-                        kernel: self,
-                        answer: Answer::Refused(1),
-                    };
-                }
-                let item = line.item;
-                let n = line.len;
-                self.step_sound(call, &item[..n], store)
-            }
-            Reading::Refused(_) => Step {
+        let no = line_refusal(says, fine, store.len());
+        if no != 0 {
+            return Step {
                 kernel: self,
-                answer: Answer::Refused(no_line(fine, store.len())),
-            },
+                answer: Answer::Refused(no),
+            };
         }
+        let item = line.item;
+        let n = line.len;
+        self.step_sound(call_in(says), &item[..n], store)
     }
 }
 
@@ -107,9 +94,8 @@ impl Session {
     {
         let mut kernel = self.kernel;
         let fine = kernel.sound();
-        let cut = self.cut;
-        let mut bytes = cut.bytes;
-        let mut len = cut.len;
+        let mut bytes = self.cut.bytes;
+        let mut len = self.cut.len;
         let mut at = 0usize;
         let mut written = 0usize;
         loop {
@@ -131,18 +117,17 @@ impl Session {
             let step = kernel.line_step(fine, read_cut(Cut { bytes, len: n }), store);
             kernel = step.kernel;
             let answer = step.answer;
-            written = tell(answer, kernel.running, out, written);
+            written = put_answer(out, written, answer, kernel.running);
             len = 0;
             at = stop.next + 1;
         }
     }
 
     // The input has ended: a last line without a newline is answered.
-    pub fn end(self, store: &[u8], out: &mut [u8]) -> Served
+    pub fn end(mut self, store: &[u8], out: &mut [u8]) -> Served
         ensures { λ r. ⌜ Closes self (now (store .entry)) (now (out .entry)) r (now (out .exit)) ⌝ }
     {
         let cut = self.cut;
-        let kernel = self.kernel;
         if lists::either(cut.is_empty(), out.len() < 256) {
             return Served {
                 session: self,
@@ -150,15 +135,13 @@ impl Session {
                 written: 0,
             };
         }
-        let no = no_line(kernel.sound(), store.len());
-        let bytes = cut.bytes;
+        let no = line_refusal(Reading::Refused(3), self.kernel.sound(), store.len());
+        let written = put_answer(out, 0, Answer::Refused(no), self.kernel.running);
+        self.cut.len = 0;
         Served {
-            session: Session {
-                kernel,
-                cut: Cut { bytes, len: 0 },
-            },
+            session: self,
             taken: 0,
-            written: tell(Answer::Refused(no), kernel.running, out, 0),
+            written,
         }
     }
 }

@@ -2,14 +2,13 @@ use borrow.Author.Needs.{needs}
 use Prim.Native.Nat.{_-_}
 use Rattle.cuts.proofs.Gathering.{stands, further, used-up}
 use Rattle.cuts.specs.Keeping.{cutOf}
-use Rattle.journal.proofs.Stores.{reply-short}
-use Rattle.journal.specs.declared.Read.{Read}
-use Rattle.kernel.proofs.Sessions.{Going, set-out, so-far, gathers-on, goes-on, stopped, answered-on}
 use Rattle.kernel.specs.Promises.{Is}
 use Rattle.kernel.specs.Session.{stepRead, run, begun}
 use lib.ListN.{length}
 use mathlib.Core.Path.{_≡_, refl, subst}
 use native.Mathlib.Omega.{arith}
+use Rattle.journal.specs.declared.Read.{Read}
+use Rattle.kernel.proofs.Sessions.{Going, set-out, so-far, gathers-on, goes-on, stopped, answered-on}
 use Rattle.kernel.proofs.Session.answer.Statement.{statement}
 use Rattle.kernel.proofs.Session.answer.Tie as tie
 
@@ -25,7 +24,7 @@ sound-requires : tie.Need-sound-requires Inv-loop μ-loop
 sound-requires c κs = search needs
 
 loop-holds : tie.Need-loop-holds Inv-loop μ-loop
-loop-holds c = (set-out (c .before .before .before .before .before .before .before .args .out .now) (c .before .before .before .before .before .before .before .args .block .now) (c .before .before .sound .result) (c .before .before .before .before .before .before .before .args .self .kernel) (c .before .before .before .before .before .before .before .args .store .now) (c .before .before .before .before .before .before .before .args .self .cut) (c .before .before .sound .ensures), refl)
+loop-holds c = (set-out (c .before .before .before .before .before .before .args .out .now) (c .before .before .before .before .before .before .args .block .now) (c .before .sound .result) (c .before .before .before .before .before .before .args .self .kernel) (c .before .before .before .before .before .before .args .store .now) (c .before .before .before .before .before .before .args .self .cut) (c .before .sound .ensures), refl)
 
 gather-requires : tie.Need-gather-requires Inv-loop μ-loop
 gather-requires c κs = search needs
@@ -46,9 +45,10 @@ returns : tie.Need-returns Inv-loop μ-loop
 returns c =
     let l = c .before .before .before .before .before in
     let g = c .before .before .before .gather in
+    let cut = cutOf (l .loop .bytes) (l .loop .len) in
     stopped (gathers-on (l .loop .inv .0) (g .ensures)) (g .result .newline) (c .before .either .result)
-    (used-up (c .before .before .before .before .before .before .before .before .before .before .before .before .before .args .block .now) (l .loop .at) (cutOf (l .loop .bytes) (l .loop .len)) (g .result) (g .last .1 .1 .0) (g .ensures))
-    (stands (c .before .before .before .before .before .before .before .before .before .before .before .before .before .args .block .now) (l .loop .at) (cutOf (l .loop .bytes) (l .loop .len)) (g .result) (g .last .1 .1 .0) (g .ensures))
+    (used-up (c .before .before .before .before .before .before .before .before .before .before .before .before .args .block .now) (l .loop .at) cut (g .result) (g .last .1 .1 .0) (g .ensures))
+    (stands (c .before .before .before .before .before .before .before .before .before .before .before .before .args .block .now) (l .loop .at) cut (g .result) (g .last .1 .1 .0) (g .ensures))
     (c .before .either .ensures) (c .if1 .taken)
 
 keep-requires : tie.Need-keep-requires Inv-loop μ-loop
@@ -60,17 +60,15 @@ read-cut-requires c κs = search needs
 line-step-requires : tie.Need-line-step-requires Inv-loop μ-loop
 line-step-requires c κs = (c .before .before .before .before .before .before .before .before .before .loop .inv .0 .known, c .before .read-cut .ensures .1)
 
-tell-requires : tie.Need-tell-requires Inv-loop μ-loop
-tell-requires c κs =
-    let r = goes-on (c .before .before .before .before .before .before .before .before .before .before .before .before .gather .result .newline) (length (c .before .before .before .before .before .before .before .before .before .before .before .before .before .before .loop .out) - c .before .before .before .before .before .before .before .before .before .before .before .before .before .before .loop .written) (c .before .before .before .before .before .before .before .before .before .before .either .result) (c .before .before .before .before .before .before .before .before .before .before .either .ensures) (c .before .before .before .before .before .before .before .before .before .if1 .left) in
-    omega (arith, r .1)
+put-answer-requires : tie.Need-put-answer-requires Inv-loop μ-loop
+put-answer-requires c κs = search needs
 
 add-at : tie.Need-add-at Inv-loop μ-loop
 add-at c =
     let l = c .before .before .before .before .before .before .before .before .before .before .before .before .before .before .before .before .before .before in
     let g = c .before .before .before .before .before .before .before .before .before .before .before .before .before .before .before .before .gather in
     let r = goes-on (g .result .newline) (length (l .loop .out) - l .loop .written) (c .before .before .before .before .before .before .before .before .before .before .before .before .before .before .either .result) (c .before .before .before .before .before .before .before .before .before .before .before .before .before .before .either .ensures) (c .before .before .before .before .before .before .before .before .before .before .before .before .before .if1 .left) in
-    let h = further (c .before .before .before .before .before .before .before .before .before .before .before .before .before .before .before .before .before .before .before .before .before .before .before .before .before .before .args .block .now) (l .loop .at) (cutOf (l .loop .bytes) (l .loop .len)) (g .result) (g .last .1 .1 .0) (g .ensures) (r .0) in
+    let h = further (c .before .before .before .before .before .before .before .before .before .before .before .before .before .before .before .before .before .before .before .before .before .before .before .before .before .args .block .now) (l .loop .at) (cutOf (l .loop .bytes) (l .loop .len)) (g .result) (g .last .1 .1 .0) (g .ensures) (r .0) in
     omega (arith, h .1)
 
 loop-less : tie.Need-loop-less Inv-loop μ-loop
@@ -78,7 +76,7 @@ loop-less c =
     let l = c .before .before .before .before .before .before .before .before .before .before .before .before .before .before .before .before .before .before in
     let g = c .before .before .before .before .before .before .before .before .before .before .before .before .before .before .before .before .gather in
     let r = goes-on (g .result .newline) (length (l .loop .out) - l .loop .written) (c .before .before .before .before .before .before .before .before .before .before .before .before .before .before .either .result) (c .before .before .before .before .before .before .before .before .before .before .before .before .before .before .either .ensures) (c .before .before .before .before .before .before .before .before .before .before .before .before .before .if1 .left) in
-    let h = further (c .before .before .before .before .before .before .before .before .before .before .before .before .before .before .before .before .before .before .before .before .before .before .before .before .before .before .args .block .now) (l .loop .at) (cutOf (l .loop .bytes) (l .loop .len)) (g .result) (g .last .1 .1 .0) (g .ensures) (r .0) in
+    let h = further (c .before .before .before .before .before .before .before .before .before .before .before .before .before .before .before .before .before .before .before .before .before .before .before .before .before .args .block .now) (l .loop .at) (cutOf (l .loop .bytes) (l .loop .len)) (g .result) (g .last .1 .1 .0) (g .ensures) (r .0) in
     omega (arith, h .0, h .1)
 
 loop-again : tie.Need-loop-again Inv-loop μ-loop
@@ -88,10 +86,10 @@ loop-again c =
     let q = c .before .before .before .before .before .before .before .before .line-step in
     let cut = cutOf (c .before .before .before .before .before .before .before .before .before .before .before .keep .last .0) (c .before .before .before .before .before .before .before .before .before .before .before .keep .result) in
     let r = goes-on (g .result .newline) (length (l .loop .out) - l .loop .written) (c .before .before .before .before .before .before .before .before .before .before .before .before .before .before .either .result) (c .before .before .before .before .before .before .before .before .before .before .before .before .before .before .either .ensures) (c .before .before .before .before .before .before .before .before .before .before .before .before .before .if1 .left) in
-    let st = stands (c .before .before .before .before .before .before .before .before .before .before .before .before .before .before .before .before .before .before .before .before .before .before .before .before .before .before .args .block .now) (l .loop .at) (cutOf (l .loop .bytes) (l .loop .len)) (g .result) (g .last .1 .1 .0) (g .ensures) (r .0) in (
-      answered-on (gathers-on (l .loop .inv .0) (g .ensures)) cut (q .result) (q .last .1 .1 .1 .0) (c .before .before .before .tell .result) (c .before .before .before .tell .last .1 .1 .0) (c .before .before .before .before .before .before .before .before .before .before .before .keep .ensures)
+    let newline = stands (c .before .before .before .before .before .before .before .before .before .before .before .before .before .before .before .before .before .before .before .before .before .before .before .before .before .args .block .now) (l .loop .at) (cutOf (l .loop .bytes) (l .loop .len)) (g .result) (g .last .1 .1 .0) (g .ensures) (r .0) in (
+      answered-on (gathers-on (l .loop .inv .0) (g .ensures)) cut (q .result) (q .last .1 .1 .1 .0) (c .before .before .before .put-answer .result) (c .before .before .before .put-answer .last .0) (c .before .before .before .before .before .before .before .before .before .before .before .keep .ensures)
           (subst (λ (x : Read). Is (stepRead (l .loop .kernel) (l .loop .store) x) (q .result) (q .last .1 .1 .1 .0)) (c .before .before .before .before .before .before .before .before .before .before .read-cut .ensures .0) (q .ensures))
-          (c .before .before .before .tell .ensures) (reply-short (q .result .answer) (q .result .kernel .running)) (r .1) st,
+          (c .before .before .before .put-answer .ensures) (r .1) newline,
       search needs,
     )
 
@@ -112,7 +110,7 @@ answer-spec =
     keep-requires
     read-cut-requires
     line-step-requires
-    tell-requires
+    put-answer-requires
     add-at
     loop-less
     loop-again)
