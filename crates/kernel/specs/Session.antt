@@ -28,7 +28,8 @@ stepTold k s (Refused n) item = turnedAway k (noLine k s) s
 abbrev pub stepRead : Kernel → List ℕ → Read → Stepped
 stepRead k s r = stepTold k s (r .answer) (take (r .len) (r .item))
 
--- what a line says that has ended; "a longer line is one refusal 3 up to its newline"
+-- what a line says that has ended; "a longer line is one refusal 3 up to its newline". (`readOf` is the one reading that the reader's promise
+-- allows: `reads-as`, `read-is` in journal/proofs. `noCall` is refusal 3.)
 unfoldable pub readCut : Cut → Read
 readCut c = if ltb 256 (c .len) then noCall else readOf (take (c .len) (c .bytes))
 

@@ -55,6 +55,12 @@ pub struct Seen {
     pub pended: u16,
 }
 
+// For each slot, whether its task holds a mutex; and whether each object is fine.
+pub struct Holdings {
+    pub held: [bool; 16],
+    pub fine: bool,
+}
+
 // What goes on from block to block: the kernel, and what there is of a line whose newline has not come yet.
 pub struct Session {
     pub kernel: Kernel,

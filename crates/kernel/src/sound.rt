@@ -1,4 +1,4 @@
-// Whether a kernel value is sound: the order counted into tallies, the holders marked, then each table walked once; nothing is searched for each slot.
+// Whether a kernel value is sound: the order counted into tallies, then each table walked once, the holders marked on the way; nothing is searched for each slot.
 ghost use mathlib.Core.Path.{_≡_};
 ghost use Prim.Native.Nat.{ℕ};
 ghost use mathlib.Core.List.{List};
@@ -7,28 +7,34 @@ ghost use Rattle.order.specs.Order.{listed};
 ghost use Rattle.kernel.specs.Lines.{line};
 ghost use Rattle.kernel.specs.Sound.{heads, noHigher, runsFine, sound};
 ghost use Rattle.kernel.specs.Quick.{shaped, tasksFine, objectsFine};
+use crate::Holdings;
 use crate::Kernel;
 use calls::TaskNo;
 use slots::Kind;
 use slots::Place;
 
 impl Kernel {
-    // For each slot, whether its task holds a mutex.
-    fn holders(self) -> [bool; 16]
-        ensures { λ r. ⌜ r ≡ marksOf (self .objects) ⌝ }
+    // Who holds a mutex, and whether each object is fine, in one walk.
+    fn holdings(self) -> Holdings
+        ensures { λ r. ⌜ (r .held ≡ marksOf (self .objects)) × (r .fine ≡ objectsFine (self .tasks) (self .objects)) ⌝ }
     {
         let mut held = [false; 16];
+        let mut fine = true;
         let mut i = 0usize;
         while i < 16 {
             let x = self.objects[i];
             let kind = x.kind;
+            let mut p = Place::Free;
             let s = kind.holder().slot();
             if s < 16 {
                 held[s] = true;
+                let h = self.tasks[s];
+                p = h.place;
             }
+            fine = lists::both(fine, kind.fine(p));
             i += 1;
         }
-        held
+        Holdings { held, fine }
     }
 
     // Each task stands as often as `stands` says, and holds a mutex or not as `holds` says.
@@ -48,26 +54,6 @@ impl Kernel {
             }
             let t = TaskNo::of(i as u32);
             ok = lists::both(ok, x.fine(self.tick, t, stands[i], o, holds[i]));
-            i += 1;
-        }
-        ok
-    }
-
-    fn objects_fine(self) -> bool
-        ensures { λ r. ⌜ r ≡ objectsFine (self .tasks) (self .objects) ⌝ }
-    {
-        let mut ok = true;
-        let mut i = 0usize;
-        while i < 16 {
-            let x = self.objects[i];
-            let kind = x.kind;
-            let mut p = Place::Free;
-            let s = kind.holder().slot();
-            if s < 16 {
-                let h = self.tasks[s];
-                p = h.place;
-            }
-            ok = lists::both(ok, kind.fine(p));
             i += 1;
         }
         ok
@@ -137,10 +123,11 @@ impl Kernel {
         ensures { λ r. ⌜ r ≡ sound self ⌝ }
     {
         let o = self.order;
-        let held = self.holders();
+        let holdings = self.holdings();
+        let held = holdings.held;
         let idle = self.task(TaskNo::of(0));
         let idles = lists::both(idle.idle_fine(), !held[0]);
-        let tables = lists::both(self.tasks_fine(o.tallies(), held), self.objects_fine());
+        let tables = lists::both(self.tasks_fine(o.tallies(), held), holdings.fine);
         let pends = lists::either(0 < self.hold, self.pended == 0);
         let rest = lists::both(self.runs_fine(), lists::both(o.tidy(), pends));
         lists::both(self.shaped(), lists::both(idles, lists::both(tables, rest)))

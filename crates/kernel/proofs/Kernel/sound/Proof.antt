@@ -4,8 +4,8 @@ use mathlib.Core.Path.{_∙_}
 use Rattle.kernel.proofs.Kernel.sound.Statement.{statement}
 use Rattle.kernel.proofs.Kernel.sound.Tie as tie
 
-holders-requires : tie.Need-holders-requires
-holders-requires c κs = search needs
+holdings-requires : tie.Need-holdings-requires
+holdings-requires c κs = search needs
 
 of-requires : tie.Need-of-requires
 of-requires c κs = search needs
@@ -27,9 +27,6 @@ tallies-requires c κs = search needs
 
 tasks-fine-requires : tie.Need-tasks-fine-requires
 tasks-fine-requires c κs = search needs
-
-objects-fine-requires : tie.Need-objects-fine-requires
-objects-fine-requires c κs = search needs
 
 both-requires-2 : tie.Need-both-requires-2
 both-requires-2 c κs = search needs
@@ -64,14 +61,14 @@ both-requires-7 c κs = search needs
 returns : tie.Need-returns
 returns c =
     c .both7 .ensures
-    ∙ rw (c .before .both6 .ensures, c .before .before .both5 .ensures, c .before .before .before .shaped .ensures, c .before .before .before .before .both4 .ensures, c .before .before .before .before .before .both3 .ensures, c .before .before .before .before .before .before .tidy .ensures, c .before .before .before .before .before .before .before .runs-fine .ensures, c .before .before .before .before .before .before .before .before .either .ensures, c .before .before .before .before .before .before .before .before .before .before .before .both2 .ensures, c .before .before .before .before .before .before .before .before .before .before .before .before .objects-fine .ensures, c .before .before .before .before .before .before .before .before .before .before .before .before .before .tasks-fine .ensures, c .before .before .before .before .before .before .before .before .before .before .before .before .before .before .tallies .ensures, c .before .before .before .before .before .before .before .before .before .before .before .before .before .before .before .both .ensures, c .before .before .before .before .before .before .before .before .before .before .before .before .before .before .before .before .idle-fine .ensures, c .before .before .before .before .before .before .before .before .before .before .before .before .before .before .before .before .before .task .ensures, c .before .before .before .before .before .before .before .before .before .before .before .before .before .before .before .before .before .before .of .ensures, c .before .before .before .before .before .before .before .before .before .before .before .before .before .before .before .before .before .before .before .holders .ensures)
+    ∙ rw (c .before .both6 .ensures, c .before .before .both5 .ensures, c .before .before .before .shaped .ensures, c .before .before .before .before .both4 .ensures, c .before .before .before .before .before .both3 .ensures, c .before .before .before .before .before .before .tidy .ensures, c .before .before .before .before .before .before .before .runs-fine .ensures, c .before .before .before .before .before .before .before .before .either .ensures, c .before .before .before .before .before .before .before .before .before .before .before .both2 .ensures, c .before .before .before .before .before .before .before .before .before .before .before .before .tasks-fine .ensures, c .before .before .before .before .before .before .before .before .before .before .before .before .before .tallies .ensures, c .before .before .before .before .before .before .before .before .before .before .before .before .before .before .both .ensures, c .before .before .before .before .before .before .before .before .before .before .before .before .before .before .before .idle-fine .ensures, c .before .before .before .before .before .before .before .before .before .before .before .before .before .before .before .before .task .ensures, c .before .before .before .before .before .before .before .before .before .before .before .before .before .before .before .before .before .of .ensures, c .before .before .before .before .before .before .before .before .before .before .before .before .before .before .before .before .before .before .before .holdings .ensures .0, c .before .before .before .before .before .before .before .before .before .before .before .before .before .before .before .before .before .before .before .holdings .ensures .1)
     (quick-is (c .before .before .before .before .before .before .before .before .before .before .before .before .before .before .before .before .before .before .before .before .before .args .self))
 
 pub sound-spec : {M : Type 1} → statement M
 sound-spec =
     tie.close
     (tie.spec
-    holders-requires
+    holdings-requires
     of-requires
     task-requires
     idle-fine-requires
@@ -79,7 +76,6 @@ sound-spec =
     both-requires
     tallies-requires
     tasks-fine-requires
-    objects-fine-requires
     both-requires-2
     either-requires
     runs-fine-requires
