@@ -8,7 +8,8 @@ use lib.Dec.{eqb}
 use borrow.Author.Tests.{eq-eqb, ne-eqb}
 use Rattle.lists.specs.Choice.{if_then_else_}
 use Rattle.kernel.specs.Types.{Asked, Kernel}
-use Rattle.kernel.specs.Refusals.{seen, Row, firstRow, earlyRows, middleRows, lateRows, table, laterRow}
+use Rattle.kernel.specs.Refusals.{seen, Row, firstRow, table, laterRow}
+use Rattle.kernel.specs.Thirds.{earlyRows, middleRows, lateRows}
 
 -- no row has the number 0
 abbrev Numbered : List Row → Type 0

@@ -6,6 +6,7 @@ pub mod Quick
 pub mod Sentences
 pub mod Asking
 pub mod Refusals
+pub mod Thirds
 pub mod Waits
 pub mod Loans
 pub mod Ticks

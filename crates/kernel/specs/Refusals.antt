@@ -1,7 +1,7 @@
 -- "What is turned away": the table, a row for each number, in its order. "Of the numbers that apply, the one that stands first in this table is given, and none otherwise."
 use Prim.Native.Nat.{ℕ, _*_}
 use mathlib.Core.Bool.{Bool, false, not, _&&_, _||_}
-use mathlib.Core.List.{List, [], _∷_, _++_}
+use mathlib.Core.List.{List, [], _∷_}
 use lib.Dec.{eqb, ltb, leb}
 use Rattle.lists.specs.Choice.{if_then_else_}
 use Rattle.lists.specs.Lists.{isNone}
@@ -128,36 +128,24 @@ abbrev pub firstRow : List Row → ℕ
 firstRow [] = 0
 firstRow (r ∷ rs) = if r .applies then r .number else firstRow rs
 
--- "No. | Given exactly when", for a sound kernel: rows 4 to 8, 9 and 10, 11 to 16
-abbrev pub earlyRows : Seen → Asked → ℕ → List Row
-earlyRows s a item =
-    row 4 (outOfRange a)
-    ∷ row 5 (namesNone s a)
-    ∷ row 6 (wrongSize s a item)
-    ∷ row 7 (notForIdle s a)
-    ∷ row 8 (notWithHold s a)
-    ∷ []
-
-abbrev pub middleRows : Kernel → Asked → List Row
-middleRows k a =
-    row 9 (noSlot k a)
-    ∷ row 10 (inUse k a)
-    ∷ []
-
-abbrev pub lateRows : Seen → Asked → List Row
-lateRows s a =
-    row 11 (notHis s a)
-    ∷ row 12 (hisAlready s a)
-    ∷ row 13 (notSuspended s a)
-    ∷ row 14 (mustWait s a)
-    ∷ row 15 (noDepth s a)
-    ∷ row 16 (noTick s a)
-    ∷ []
-
--- the table; the lengths are the item's and the store's. (3 is the line reader's.)
+-- "No. | Given exactly when", for a sound kernel; the lengths are the item's and the store's. (3 is the line reader's.)
 unfoldable pub table : Kernel → Asked → ℕ → ℕ → List Row
 table k a item store =
-    row 2 (not (eqb store 9216)) ∷ (earlyRows (seen k a) a item ++ (middleRows k a ++ lateRows (seen k a) a))
+    row 2 (not (eqb store 9216))
+    ∷ row 4 (outOfRange a)
+    ∷ row 5 (namesNone (seen k a) a)
+    ∷ row 6 (wrongSize (seen k a) a item)
+    ∷ row 7 (notForIdle (seen k a) a)
+    ∷ row 8 (notWithHold (seen k a) a)
+    ∷ row 9 (noSlot k a)
+    ∷ row 10 (inUse k a)
+    ∷ row 11 (notHis (seen k a) a)
+    ∷ row 12 (hisAlready (seen k a) a)
+    ∷ row 13 (notSuspended (seen k a) a)
+    ∷ row 14 (mustWait (seen k a) a)
+    ∷ row 15 (noDepth (seen k a) a)
+    ∷ row 16 (noTick (seen k a) a)
+    ∷ []
 
 -- rows 2 to 16
 unfoldable pub laterRow : Kernel → Asked → ℕ → ℕ → ℕ

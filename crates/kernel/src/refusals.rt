@@ -1,6 +1,7 @@
 // The refusal table: a method for each row, and the first row that applies.
 ghost use mathlib.Core.Path.{_≡_};
-ghost use Rattle.kernel.specs.Refusals.{seen, outOfRange, namesNone, sizeDiffers, wrongSize, notForIdle, notWithHold, notHis, hisAlready, notSuspended, isFull, isEmpty, stopsAt, mustWait, noDepth, noTick, firstRow, earlyRows, heldOrWaited, middleRows, lateRows, laterRow};
+ghost use Rattle.kernel.specs.Refusals.{seen, outOfRange, namesNone, sizeDiffers, wrongSize, notForIdle, notWithHold, notHis, hisAlready, notSuspended, isFull, isEmpty, stopsAt, mustWait, noDepth, noTick, firstRow, heldOrWaited, laterRow};
+ghost use Rattle.kernel.specs.Thirds.{earlyRows, middleRows, lateRows};
 use crate::Kernel;
 use crate::Seen;
 use crate::asking;
