@@ -16,7 +16,3 @@ made-not n a d e f m = go (is 1 a) refl (is 10 a) refl m
     go true p c q h = is-not 1 n a d p
     go false p true q h = is-not 10 n a e q
     go false p false q h = is-not 11 n a f h
-
-pub or-none : (b : Bool) → (b || false) ≡ b
-or-none true = refl
-or-none false = refl

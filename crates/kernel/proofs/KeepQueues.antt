@@ -28,11 +28,6 @@ use Rattle.kernel.proofs.Blocks.{readied-nearly, readied-runs, blocked-
 use Rattle.kernel.proofs.Keeps.{Keeps, wait-busy, wait-free, must-wait, some-wait, ready-low, apart}
 use Rattle.kernel.proofs.KeepObjects.{not-by, object-low, object-runs, first-none, wake-ahead}
 
-queue-used : (x : Kind) → isQueue x ≡ true → isUnused x ≡ false
-queue-used Unused e = absurd (false≢true e)
-queue-used (Queue q) e = refl
-queue-used (Mutex h) e = absurd (false≢true e)
-
 -- who waits on a queue finds it empty or full
 empty-or-full : {t : TaskNo} {x : Kind} → MayWait t x → (q : Ring) → x ≡ Queue q → (0 < q .count) → q .count ≡ q .capacity
 empty-or-full (receiver {q = r} e) q p h = let z : r ≡ q = cc in absurd (omega (arith, e, ap (λ (y : Ring). y .count) z))

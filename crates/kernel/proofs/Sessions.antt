@@ -29,7 +29,7 @@ use Rattle.kernel.specs.Types.{Call, Kernel, Cut, Step, Served}
 use Rattle.kernel.specs.Sound.{sound}
 use Rattle.kernel.specs.Refusals.{laterRow, refusal}
 use Rattle.kernel.specs.Step.{Stepped, turnedAway, steppedBy, step}
-use Rattle.kernel.specs.Session.{noLine, stepTold, stepRead, readCut, lineStep, Run, told, answeredBy, fed, noRoom, run, begun, closed, callIn, lineRefusal}
+use Rattle.kernel.specs.Session.{noLine, stepTold, stepRead, readCut, lineStep, Run, told, answeredBy, fed, noRoom, run, begun, closed, callIn, beforeCall}
 use Rattle.kernel.specs.Promises.{Is, SoundSteps, Ran}
 use Rattle.kernel.proofs.Every.{step-kept}
 
@@ -54,7 +54,7 @@ step-by b k c item s e = ap (λ (t : Bool). steppedBy (if t then laterRow k (ask
 abbrev itemOf : Read → List ℕ
 itemOf r = take (r .len) (r .item)
 
-no-line : (k : Kernel) (s : List ℕ) (b : Bool) (m : ℕ) → sound k ≡ b → noLine k s ≡ lineRefusal (Refused m) b (length s)
+no-line : (k : Kernel) (s : List ℕ) (b : Bool) (m : ℕ) → sound k ≡ b → noLine k s ≡ beforeCall (Refused m) b (length s)
 unfolding noLine
 no-line k s true m e = ap (λ (t : Bool). if t then (if eqb (length s) 9216 then 3 else 2) else 1) e
 no-line k s false m e = ap (λ (t : Bool). if t then (if eqb (length s) 9216 then 3 else 2) else 1) e
@@ -65,14 +65,14 @@ read-as : (k : Kernel) (s : List ℕ) (r : Read) (t : Reading) (d : Stepped) (q 
 read-as k s r t d q after e f = subst (λ (x : Stepped). Is x q after) (sym (ap (λ (x : Reading). stepTold k s x (itemOf r)) e ∙ f))
 
 -- a number that is not 0 is given before the call is looked at
-pub line-refused : (k : Kernel) (s : List ℕ) (r : Read) (fine : Bool) (n : ℕ) → fine ≡ sound k → n ≡ lineRefusal (r .answer) fine (length s) → (n ≡ 0 → ⊥)
+pub line-refused : (k : Kernel) (s : List ℕ) (r : Read) (fine : Bool) (n : ℕ) → fine ≡ sound k → n ≡ beforeCall (r .answer) fine (length s) → (n ≡ 0 → ⊥)
     → Is (stepRead k s r) record { kernel = k; answer = NotDone n } s
 line-refused k s r fine n e g h = go (r .answer) refl fine (sym e) g
   where
     away : (t : Reading) → r .answer ≡ t → stepTold k s t (itemOf r) ≡ turnedAway k n s → Is (stepRead k s r) record { kernel = k; answer = NotDone n } s
     away t p q = read-as k s r t (turnedAway k n s) record { kernel = k; answer = NotDone n } s p q record { kernel = refl; answer = refl; store = refl }
 
-    go : (t : Reading) → r .answer ≡ t → (b : Bool) → sound k ≡ b → n ≡ lineRefusal t b (length s) → Is (stepRead k s r) record { kernel = k; answer = NotDone n } s
+    go : (t : Reading) → r .answer ≡ t → (b : Bool) → sound k ≡ b → n ≡ beforeCall t b (length s) → Is (stepRead k s r) record { kernel = k; answer = NotDone n } s
     go (Says c) p true f q = absurd (h q)
     go (Says c) p false f q = away (Says c) p (step-by false k c (itemOf r) s f ∙ ap (λ (x : ℕ). turnedAway k x s) (sym q))
     go (Refused m) p b f q = away (Refused m) p (ap (λ (x : ℕ). turnedAway k x s) (no-line k s b m f ∙ sym q))
@@ -82,11 +82,11 @@ two-or-three true z = omega arith
 two-or-three false z = omega arith
 
 -- else the line has a call, and the kernel is sound
-pub has-call : (k : Kernel) (s : List ℕ) (r : Read) (fine : Bool) (n : ℕ) → fine ≡ sound k → n ≡ lineRefusal (r .answer) fine (length s) → n ≡ 0
+pub has-call : (k : Kernel) (s : List ℕ) (r : Read) (fine : Bool) (n : ℕ) → fine ≡ sound k → n ≡ beforeCall (r .answer) fine (length s) → n ≡ 0
     → (sound k ≡ true) × (r .answer ≡ Says (callIn (r .answer)))
 has-call k s r fine n e g h = go (r .answer) fine (sym e) (sym g ∙ h)
   where
-    go : (t : Reading) (b : Bool) → sound k ≡ b → lineRefusal t b (length s) ≡ 0 → (sound k ≡ true) × (t ≡ Says (callIn t))
+    go : (t : Reading) (b : Bool) → sound k ≡ b → beforeCall t b (length s) ≡ 0 → (sound k ≡ true) × (t ≡ Says (callIn t))
     go t false f q = absurd (omega arith)
     go (Says c) true f q = (f, refl)
     go (Refused m) true f q = absurd (two-or-three (eqb (length s) 9216) q)
@@ -298,7 +298,7 @@ module _ (k : Kernel) (s : List ℕ) (c : Cut) (lent : List ℕ) where
 
   -- the line without a newline is answered
   pub last-told : (empty b fine : Bool) (m next : ℕ) (out : List ℕ) → empty ≡ isEmpty c → b ≡ (empty || ltb (length lent) 256) → b ≡ false
-      → fine ≡ sound k → m ≡ lineRefusal (Refused 3) fine (length s) → Wrote lent 0 (replyOf (NotDone m) (k .running)) next out
+      → fine ≡ sound k → m ≡ beforeCall (Refused 3) fine (length s) → Wrote lent 0 (replyOf (NotDone m) (k .running)) next out
       → Ran (closed (length lent) k s c) lent record { session = record { kernel = k; cut = cutOf (c .bytes) 0 }; taken = 0; written = next } s out
   unfolding ended
   last-told empty b fine m next out e f g p q w =

@@ -17,8 +17,11 @@ use Rattle.kernel.specs.Sound.{sound}
 use Rattle.kernel.specs.Step.{Stepped, turnedAway, step}
 
 -- "Of the numbers that apply, the one that stands first in this table is given": 1 and 2 stand before 3, "the line is no call's line"
+abbrev pub noLineOf : Bool → ℕ → ℕ
+noLineOf fine n = if fine then (if eqb n 9216 then 3 else 2) else 1
+
 unfoldable pub noLine : Kernel → List ℕ → ℕ
-noLine k s = if sound k then (if eqb (length s) 9216 then 3 else 2) else 1
+noLine k s = noLineOf (sound k) (length s)
 
 -- what the reader made of a line: the step of its call, or a refusal
 abbrev pub stepTold : Kernel → List ℕ → Reading → List ℕ → Stepped
@@ -90,7 +93,7 @@ callIn (Says c) = c
 callIn (Refused n) = Tick
 
 -- the number that a line gets before its call is looked at; 0 if it has a call to step
-abbrev pub lineRefusal : Reading → Bool → ℕ → ℕ
-lineRefusal r false n = 1
-lineRefusal (Says c) true n = 0
-lineRefusal (Refused m) true n = if eqb n 9216 then 3 else 2
+abbrev pub beforeCall : Reading → Bool → ℕ → ℕ
+beforeCall r false n = 1
+beforeCall (Says c) true n = 0
+beforeCall (Refused m) true n = noLineOf true n

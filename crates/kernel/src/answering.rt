@@ -2,7 +2,7 @@
 ghost use mathlib.Core.Path.{_≡_};
 ghost use Prim.Native.Nat.{_≤_};
 ghost use Rattle.kernel.specs.Sound.{sound};
-ghost use Rattle.kernel.specs.Session.{readCut, lineRefusal, callIn, stepRead, newSession};
+ghost use Rattle.kernel.specs.Session.{readCut, beforeCall, callIn, stepRead, newSession};
 ghost use Rattle.kernel.specs.Promises.{Is, Answers, Closes};
 use crate::Kernel;
 use crate::Served;
@@ -36,7 +36,7 @@ fn read_cut(cut: Cut) -> Read
 
 // The number that a line gets before its call is looked at: 1 and 2 stand before 3; 0 if it has a call to step.
 fn line_refusal(says: Reading, fine: bool, len: usize) -> u32
-    ensures { λ r. ⌜ r ≡ lineRefusal says fine len ⌝ }
+    ensures { λ r. ⌜ r ≡ beforeCall says fine len ⌝ }
 {
     if !fine {
         return 1;

@@ -39,7 +39,7 @@ impl Kernel {
             Call::Suspend(t) => self.suspend(t),
             Call::Resume(t) => self.resume(t),
             Call::SetPriority(t, p) => self.set_priority(t, p as u8),
-            Call::Delay(n) => self.delay(n),
+            Call::Delay(ticks) => self.delay(ticks),
             Call::Yield => self.give_way(),
             Call::Hold => self.hold(),
             Call::Release => self.release(),
