@@ -28,7 +28,7 @@ without-head (u ∷ m) r t s e n =
     rw (q, ne-eqb (r .0) (t .0) n)
 
 -- the same line from the same tests
-kept-same : (p q : TaskNo → Bool) → ((u : TaskNo) → p u ≡ q u) → (l : List TaskNo) → kept p l ≡ kept q l
+pub kept-same : (p q : TaskNo → Bool) → ((u : TaskNo) → p u ≡ q u) → (l : List TaskNo) → kept p l ≡ kept q l
 unfolding kept
 kept-same p q f [] = refl
 kept-same p q f (u ∷ l) = rw (f u, kept-same p q f l)

@@ -1,6 +1,7 @@
 pub mod Slots
 pub mod Leads
 pub mod Moves
+pub mod Walks
 pub mod Quicks
 pub mod Listings
 pub mod Says
@@ -8,6 +9,7 @@ pub mod Within
 pub mod Rows
 pub mod Passes
 pub mod Ends
+pub mod Turning
 pub mod Asks
 pub mod Nearly
 pub mod Slotted
@@ -18,6 +20,12 @@ pub mod Blocks
 pub mod Keeps
 pub mod KeepTasks
 pub mod KeepTicks
+pub mod Moments
+pub mod Turns
+pub mod Whens
+pub mod Noted
+pub mod Awakes
+pub mod Together
 pub mod KeepObjects
 pub mod KeepMutexes
 pub mod KeepQueues

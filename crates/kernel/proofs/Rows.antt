@@ -1,14 +1,16 @@
 -- The first row that applies, found part by part.
 use Prim.Native.Nat.{ℕ, _<_}
 use mathlib.Core.Path.{_≡_, refl, sym, ap, _∙_}
-use mathlib.Core.Bool.{Bool, true, false}
+use mathlib.Core.Bool.{Bool, true, false, _||_}
 use mathlib.Core.List.{List, [], _∷_, _++_}
 use native.Mathlib.Omega.{arith}
 use lib.Dec.{eqb}
 use borrow.Author.Tests.{eq-eqb, ne-eqb}
 use Rattle.lists.specs.Choice.{if_then_else_}
 use Rattle.kernel.specs.Types.{Asked, Kernel}
-use Rattle.kernel.specs.Refusals.{seen, Row, firstRow, table, laterRow}
+use Rattle.lists.proofs.Bools.{or-off}
+use Rattle.kernel.specs.Asking.{is, makes}
+use Rattle.kernel.specs.Refusals.{seen, noSlot, inUse, Row, firstRow, table, laterRow}
 use Rattle.kernel.specs.Thirds.{earlyRows, middleRows, lateRows}
 
 -- no row has the number 0
@@ -49,3 +51,11 @@ module _ (k : Kernel) (a : Asked) (item store : ℕ) (whole : store ≡ 9216) wh
 
   pub is-late : {n : ℕ} → early ≡ 0 → middle ≡ 0 → n ≡ late → n ≡ laterRow k a item store
   is-late {n} z y e = e ∙ sym (parts ∙ rw (eq-eqb early 0 z, eq-eqb middle 0 y))
+
+-- rows 9 and 10 speak of no other calls
+pub no-walk : (k : Kernel) (a : Asked) → (makes a || (is 2 a || is 12 a)) ≡ false → firstRow (middleRows k a) ≡ 0
+unfolding noSlot inUse
+no-walk k a e =
+    let m = or-off (makes a) (is 2 a || is 12 a) e in
+    let f = or-off (is 2 a) (is 12 a) (m .1) in
+    rw (m .0, f .0, f .1)

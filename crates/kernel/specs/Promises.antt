@@ -1,5 +1,5 @@
 -- What the functions promise, as propositions that contracts and theorems cite.
-use Prim.Native.Nat.{ℕ, _<_}
+use Prim.Native.Nat.{ℕ, _<_, _≤_}
 use mathlib.Core.Path.{_≡_}
 use mathlib.Core.List.{List, _++_}
 use lib.ListN.{length, drop}
@@ -7,18 +7,26 @@ use Rattle.lists.specs.Choice.{if_then_else_}
 use Rattle.calls.specs.Asked.{asked}
 use Rattle.calls.specs.Said.{Saying, says, said, done, made, waiting}
 use Rattle.slots.specs.Places.{isBlocked}
-use Rattle.kernel.specs.Types.{TaskNo, ObjNo, Ring, Queue, Call, Kernel, Step, Session, Served}
+use Rattle.kernel.specs.Types.{TaskNo, ObjNo, At, Delayed, Waiting, Ring, Queue, Call, Kernel, Step, Session, Served}
 use Rattle.kernel.specs.Tables.{taskAt, kindAt}
 use Rattle.kernel.specs.Lines.{chosen}
-use Rattle.kernel.specs.Sentences.{RingFits}
+use Rattle.kernel.specs.Sentences.{RingFits, Listing}
 use Rattle.kernel.specs.Refusals.{laterRow}
 use Rattle.kernel.specs.Effects.{effect}
 use Rattle.kernel.specs.Step.{Stepped, answered, steppedBy, step}
 use Rattle.kernel.specs.Session.{Run, run, begun, closed}
 
 -- waiting, exactly if the caller is now delayed or waits on an object
+abbrev pub waitingOr : Saying → Kernel → TaskNo → Saying
+waitingOr a next u = if isBlocked (taskAt (next .tasks) u .place) then says waiting 0 else a
+
 abbrev pub doneOrWaiting : Kernel → TaskNo → Saying
-doneOrWaiting next u = if isBlocked (taskAt (next .tasks) u .place) then says waiting 0 else says done 0
+doneOrWaiting next u = waitingOr (says done 0) next u
+
+-- the step r ends with choose, from k, and answers the caller u, where it does not wait, a
+pub record Concluded (k : Kernel) (u : TaskNo) (a : Saying) (r : Step) : Type 0 where
+  pub kernel : r .kernel ≡ chosen k
+  pub answer : said (r .answer) ≡ waitingOr a (chosen k) u
 
 -- the step r ends with choose, from k, and answers the caller u
 pub record Ended (k : Kernel) (u : TaskNo) (r : Step) : Type 0 where
@@ -38,6 +46,15 @@ pub record Accepts (k : Kernel) (c : Call) (r : Step) : Type 0 where
 pub record Steady (k : Kernel) : Type 0 where
   pub runs : k .running .0 < 16
   pub fit : (o : ObjNo) (q : Ring) → kindAt (k .objects) o ≡ Queue q → RingFits q
+
+-- what ticks lean on, all of which soundness gives: who has a wake tick is listed, and there is room for all
+pub record Timely (k : Kernel) : Type 0 where
+  pub task-slots : length (k .tasks) ≡ 16
+  pub order-places : length (k .order .places) ≡ 16
+  pub listing : Listing k
+  pub delay-range : (t : TaskNo) (w : ℕ) → taskAt (k .tasks) t .place ≡ Delayed w → w ≤ 4294967295
+  pub wait-range : (t : TaskNo) (o : ObjNo) (w : ℕ) → taskAt (k .tasks) t .place ≡ Waiting o (At w) → w ≤ 4294967295
+  pub tick-range : k .tick ≤ 4294967295
 
 -- the step r, with the store s afterwards, is what the definition d says
 pub record Is (d : Stepped) (r : Step) (s : List ℕ) : Type 0 where

@@ -1,16 +1,24 @@
--- What the code tests in one pass over each table: `stands` says how often each task stands in the order, `holding` whether it holds a mutex.
+-- What the code tests in one pass over the order and each table: `stands` says how often each task stands in the order, `holding` whether it holds a mutex.
 use Prim.Native.Nat.{ℕ}
-use mathlib.Core.Bool.{Bool, false, _&&_}
+use mathlib.Core.Bool.{Bool, true, false, _&&_, _||_}
 use mathlib.Core.List.{List}
 use lib.ListN.{getD}
+use Rattle.lists.specs.Choice.{if_then_else_}
 use Rattle.lists.specs.Lists.{allBelow}
-use Rattle.calls.specs.Numbers.{task}
+use Rattle.calls.specs.Numbers.{task, sameTask}
 use Rattle.slots.specs.Places.{waited}
+use Rattle.slots.specs.Tasks.{inLine, inHigher}
 use Rattle.slots.specs.Objects.{holderOf}
 use Rattle.slots.specs.Fine.{taskFine, kindFine}
-use Rattle.kernel.specs.Types.{Task, Object, Kernel}
+use Rattle.kernel.specs.Types.{TaskNo, Task, Object, Walk, Kernel}
 use Rattle.kernel.specs.Tables.{taskAt, kindAt}
 use Rattle.kernel.specs.Sound.{sixteen, counted, slotTask, slotKind}
+
+-- a walk of the order, where u runs with priority p, past the task t, x: the first of its line is u, and with no hold none is higher
+abbrev pub walked : TaskNo → ℕ → Bool → Walk → TaskNo → Task → Walk
+walked u p held w t x =
+    if inHigher p x then record { met = w .met; fine = w .fine && held }
+    else (if inLine p x then record { met = true; fine = w .fine && (w .met || sameTask t u) } else w)
 
 -- what the types of the code say already
 unfoldable pub shaped : Kernel → Bool

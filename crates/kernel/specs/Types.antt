@@ -30,5 +30,6 @@ pub use Rattle.kernel.specs.declared.Step.{Step}
 pub use Rattle.kernel.specs.declared.Outlet.{Outlet}
 pub use Rattle.kernel.specs.declared.Outlet.the-variants.{Waiter as toWaiter, Ring as toQueue, Caller as toCaller}
 pub use Rattle.kernel.specs.declared.Seen.{Seen}
+pub use Rattle.kernel.specs.declared.Walk.{Walk}
 pub use Rattle.kernel.specs.declared.Session.{Session}
 pub use Rattle.kernel.specs.declared.Served.{Served}

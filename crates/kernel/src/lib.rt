@@ -1,6 +1,7 @@
 // The kernel: a value that goes in with a call, and comes back with the next state, the running task and an answer.
 mod answering;
 mod asking;
+mod dues;
 mod endings;
 mod lines;
 mod loans;
@@ -53,6 +54,19 @@ pub struct Seen {
     pub running: TaskNo,
     pub hold: u8,
     pub pended: u16,
+}
+
+// A walk of the order, so far: whether it met one of the running task's line, and whether all is fine.
+pub struct Walk {
+    pub met: bool,
+    pub fine: bool,
+}
+
+// What the walk finds: how often each slot's number stands in the order, whether no other number does, and whether the running task may run.
+pub struct Standings {
+    pub tallies: [u8; 16],
+    pub numbers: bool,
+    pub runs: bool,
 }
 
 // For each slot, whether its task holds a mutex; and whether each object is fine.

@@ -1,8 +1,7 @@
-// Who stands first, who runs, and moves within the order.
+// Who stands first, and moves within the order.
 ghost use mathlib.Core.Path.{_≡_};
 ghost use Rattle.slots.specs.Leads.{whom};
-ghost use Rattle.kernel.specs.Tables.{withRunning};
-ghost use Rattle.kernel.specs.Lines.{first, chosen, toTail, toHead, leaves};
+ghost use Rattle.kernel.specs.Lines.{first, toTail, toHead, leaves};
 use crate::Kernel;
 use calls::TaskNo;
 use slots::Found;
@@ -28,27 +27,6 @@ impl Kernel {
             i += 1;
         }
         best.found()
-    }
-
-    // Who runs: with no hold, the head of the highest occupied line.
-    fn runner(self) -> TaskNo
-        ensures { λ r. ⌜ withRunning self r ≡ chosen self ⌝ }
-    {
-        if self.hold == 0 {
-            match self.first(Who::AllReady) {
-                Found::NoOne => self.running,
-                Found::Someone(t) => t,
-            }
-        } else {
-            self.running
-        }
-    }
-
-    // No line changes: who is overtaken stays at the head of its own.
-    pub(crate) fn chosen(self) -> Kernel
-        ensures { λ r. ⌜ r ≡ chosen self ⌝ }
-    {
-        self.runs(self.runner())
     }
 
     pub(crate) fn to_tail(self, t: TaskNo) -> Kernel

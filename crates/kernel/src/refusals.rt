@@ -9,6 +9,7 @@ use calls::Asked;
 use calls::Names;
 use calls::ObjNo;
 use slots::Kind;
+use slots::Place;
 use slots::Who;
 
 fn out_of_range(a: Asked) -> bool
@@ -222,14 +223,24 @@ impl Seen {
 }
 
 impl Kernel {
+    // Both slots are read here: `task` and `kind` would each copy the kernel.
     fn seen(self, a: Asked) -> Seen
         ensures { λ r. ⌜ r ≡ seen self a ⌝ }
     {
         let t = a.task;
         let o = a.object;
-        let x = self.task(t);
-        let place = x.place;
-        let kind = self.kind(o);
+        let mut place = Place::Free;
+        let i = t.slot();
+        if i < 16 {
+            let x = self.tasks[i];
+            place = x.place;
+        }
+        let mut kind = Kind::Unused;
+        let j = o.slot();
+        if j < 16 {
+            let y = self.objects[j];
+            kind = y.kind;
+        }
         let running = self.running;
         Seen {
             place,
@@ -287,9 +298,11 @@ impl Kernel {
         if early != 0 {
             return early;
         }
-        let middle = self.middle_row(a);
-        if middle != 0 {
-            return middle;
+        if asking::walks(a) {
+            let middle = self.middle_row(a);
+            if middle != 0 {
+                return middle;
+            }
         }
         s.late_row(a)
     }

@@ -4,7 +4,6 @@ ghost use mathlib.Core.Bool.{true};
 ghost use lib.ListN.{length};
 ghost use Rattle.calls.specs.Asked.{asked};
 ghost use Rattle.kernel.specs.Sound.{sound};
-ghost use Rattle.kernel.specs.Asking.{makes, newNumber};
 ghost use Rattle.kernel.specs.Refusals.{laterRow};
 ghost use Rattle.kernel.specs.Step.{stored};
 ghost use Rattle.kernel.specs.Promises.{Accepts, SoundSteps, Steps};
@@ -12,27 +11,21 @@ use crate::Kernel;
 use crate::Step;
 use crate::asking;
 use calls::Answer;
-use calls::Asked;
 use calls::Call;
 
 impl Kernel {
-    // The new number of a create or make. Found once, before the calls part.
-    fn number_for(self, a: Asked) -> u32
-        ensures { λ r. ⌜ (makes a ≡ true → r ≡ newNumber self a) ⌝ }
-    {
-        if asking::makes(a) {
-            self.new_number(a)
-        } else {
-            0
-        }
-    }
-
     // The call is one that no row of the table turns away.
     fn served(self, call: Call, item: &[u8], store: &mut [u8]) -> Step
         requires { ⌜ (sound self ≡ true) × (laterRow self (asked call) (length (now item)) (length (now store)) ≡ 0) ⌝ }
         ensures { λ r. ⌜ Accepts self call r × (now (store .exit) ≡ stored self (asked call) (now (item .entry)) (now (store .entry))) ⌝ }
     {
-        let n = self.number_for(call.asked());
+        let a = call.asked();
+        // The new number of a create or make. Found once, before the calls part.
+        let n = if asking::makes(a) {
+            self.new_number(a)
+        } else {
+            0
+        };
         match call {
             Call::Create(p) => self.create(n, p as u8),
             Call::Delete(t) => self.delete(t),

@@ -1,6 +1,6 @@
 // The fresh kernel, the slots of the two tables, and a kernel with one part changed.
 ghost use mathlib.Core.Path.{_≡_};
-ghost use Rattle.kernel.specs.Tables.{fresh, taskAt, kindAt, holds, freeSlot, freeObject, withTask, withObject, withOrder, withRunning, withTick, withHold};
+ghost use Rattle.kernel.specs.Tables.{fresh, taskAt, kindAt, holds, freeSlot, freeObject, withTask, withObject, withOrder, withTick, withHold};
 ghost use Rattle.kernel.specs.Asking.{newNumber};
 use crate::Kernel;
 use crate::asking;
@@ -80,13 +80,6 @@ impl Kernel {
         ensures { λ r. ⌜ r ≡ withOrder self o ⌝ }
     {
         self.order = o;
-        self
-    }
-
-    pub(crate) fn runs(mut self, t: TaskNo) -> Kernel
-        ensures { λ r. ⌜ r ≡ withRunning self t ⌝ }
-    {
-        self.running = t;
         self
     }
 

@@ -1,12 +1,12 @@
 -- There is room: a list in which each slot's number stands at most once, and no other number, fits into an order, and that order is tidy.
 use Prim.Native.Nat.{ℕ, zero, suc, _+_, _-_, _<_, _≤_, min}
-use mathlib.Core.Path.{_≡_, refl, ap, _∙_}
+use mathlib.Core.Path.{_≡_, refl, sym, ap, _∙_}
 use mathlib.Core.Bool.{Bool, true, false}
 use mathlib.Core.List.{List, [], _∷_, _++_}
 use native.Mathlib.Omega.{arith}
 use lib.Dec.{eqb, ltb, leb}
-use lib.ListN.{length, getD, take, replicate, length-take, getD-replicate, List·getD-append}
-use lib.Seq.{getD-take, getD-append-add}
+use lib.ListN.{length, getD, take, replicate, length-take, length-append, getD-replicate, List·getD-append}
+use lib.Seq.{getD-take, getD-append-add, length-take-le, ext-getD}
 use borrow.Author.Tests.{ltb-true, ltb-false, lt-ltb, le-ltb, leb-true, le-leb, eqb-true, eqb-false, eq-eqb, ne-eqb}
 use Rattle.lists.specs.Choice.{if_then_else_}
 use Rattle.lists.specs.Lists.{kept, allBelow}
@@ -17,6 +17,7 @@ use Rattle.order.specs.declared.Order.{Order}
 use Rattle.order.specs.Order.{listed, ordered}
 use Rattle.order.specs.Tidy.{count, tidyAt, tidy}
 use Rattle.order.proofs.Counts.{Exactly}
+use Rattle.order.proofs.Lines.{one-number}
 
 -- a number that stands nowhere; what stands somewhere counts
 pub count-none : (u : ℕ) (xs : List TaskNo) → ((i : ℕ) → i < length xs → getD xs i idle .0 ≡ u → ⊥) → count u xs ≡ 0
@@ -110,6 +111,31 @@ beyond xs i h l =
     ap (λ z. getD (xs ++ replicate 16 idle) z idle) q
     ∙ getD-append-add xs (replicate 16 idle) (i - length xs) idle
     ∙ getD-replicate 16 (i - length xs) idle idle (omega arith)
+
+-- an order with zeros behind its tasks is the order of what it lists
+pub ordered-listed : (o : Order) → length (o .places) ≡ 16 → o .living ≤ 16 → ((i : ℕ) → o .living ≤ i → i < 16 → getD (o .places) i idle .0 ≡ 0) → ordered (listed o) ≡ o
+unfolding ordered
+ordered-listed o len few zeros = λ j. record { places = ext-getD idle (take 16 (listed o ++ replicate 16 idle)) (o .places) (wide ∙ sym len) each j; living = lives j }
+  where
+    long : length (listed o) ≡ o .living
+    long = length-take-le (o .living) (o .places) (omega arith)
+
+    lives : min 16 (length (listed o)) ≡ o .living
+    lives = omega (arith, long)
+
+    wide : length (take 16 (listed o ++ replicate 16 idle)) ≡ 16
+    wide = length-take-le 16 (listed o ++ replicate 16 idle) (rw length-append (omega arith))
+
+    each : (i : ℕ) → i < length (take 16 (listed o ++ replicate 16 idle)) → getD (take 16 (listed o ++ replicate 16 idle)) i idle ≡ getD (o .places) i idle
+    each i l = getD-take 16 (listed o ++ replicate 16 idle) i idle (omega (arith, wide)) ∙ go (ltb i (o .living)) refl
+      where
+        go : (b : Bool) → ltb i (o .living) ≡ b → getD (listed o ++ replicate 16 idle) i idle ≡ getD (o .places) i idle
+        go true e =
+            let h : i < o .living = ltb-true i (o .living) e in
+            List·getD-append (listed o) (replicate 16 idle) idle i (omega (arith, long)) ∙ getD-take (o .living) (o .places) i idle h
+        go false e =
+            let h : o .living ≤ i = ltb-false i (o .living) e in
+            beyond (listed o) i (omega (arith, long)) (omega (arith, wide)) ∙ sym (one-number (getD (o .places) i idle) idle (zeros i h (omega (arith, wide))))
 
 -- each number at most once, and only a slot's
 module _ {e : ℕ → ℕ} (xs : List TaskNo) (x : Exactly e xs) (few : (n : ℕ) → e n ≤ 1) (low : (n : ℕ) → 16 ≤ n → e n ≡ 0) where

@@ -29,3 +29,8 @@ better w best t x = if isWho w (x .place) then leadOver best t (x .effective) el
 abbrev pub leads : Lead → List TaskNo
 leads Open = []
 leads (Best t p) = t ∷ []
+
+-- who leads; u where nobody does
+abbrev pub leadsOr : Lead → TaskNo → TaskNo
+leadsOr Open u = u
+leadsOr (Best t n) u = t

@@ -1,5 +1,5 @@
 -- "An existing task is ready, delayed, waiting on one object, or suspended."
-use Prim.Native.Nat.{ℕ}
+use Prim.Native.Nat.{ℕ, _+_, _-_, _%_, _^_}
 use mathlib.Core.Bool.{Bool, true, false, _||_}
 use lib.Dec.{eqb}
 use Rattle.calls.specs.declared.ObjNo.{ObjNo}
@@ -75,3 +75,18 @@ outcomeDue Ready = 0
 outcomeDue (Delayed w) = 1
 outcomeDue (Waiting o w) = 2
 outcomeDue Suspended = 0
+
+-- how many ticks come before the one at which it wakes, from the tick count `now` on: wrapped at 2^32, as the count is; 4,294,967,295 where it has no wake tick
+abbrev pub ahead : ℕ → ℕ → ℕ
+ahead now w = (w + (4294967295 - now)) % 2 ^ 32
+
+abbrev pub wakeAway : ℕ → Wake → ℕ
+wakeAway now Never = 4294967295
+wakeAway now (At w) = ahead now w
+
+abbrev pub away : ℕ → Place → ℕ
+away now Free = 4294967295
+away now Ready = 4294967295
+away now (Delayed w) = ahead now w
+away now (Waiting o w) = wakeAway now w
+away now Suspended = 4294967295

@@ -1,7 +1,9 @@
 // The sentences of soundness that speak of one slot.
 ghost use mathlib.Core.Path.{_≡_};
-ghost use Rattle.slots.specs.Fine.{idleFine, standsFine, mayWait, waitsFine, prioritiesFine, holderIn, wakeInRange, wakesInRange, notDue, ringFine, ringInRange, outcomeFine, freshIfFree, taskFine, kindFine};
-ghost use Rattle.slots.specs.Types.{Free};
+ghost use mathlib.Core.Bool.{not, _&&_};
+ghost use lib.Dec.{eqb, leb};
+ghost use Rattle.slots.specs.Fine.{idleFine, mayWait, prioritiesFine, wakeInRange, ringFine, taskFine, kindFine};
+ghost use Rattle.slots.specs.Places.{isAt};
 use crate::Holder;
 use crate::Kind;
 use crate::Place;
@@ -11,53 +13,14 @@ use crate::Wake;
 use calls::TaskNo;
 
 impl Wake {
-    // Its type says so already.
-    pub fn in_range(self) -> bool
-        ensures { λ r. ⌜ r ≡ wakeInRange self ⌝ }
+    // Its range is its type's: nothing to ask.
+    fn not_at(self, tick: u32) -> bool
+        ensures { λ r. ⌜ r ≡ (wakeInRange self && not (isAt tick self)) ⌝ }
     {
         match self {
             Wake::Never => true,
-            Wake::At(w) => w <= 4294967295,
+            Wake::At(w) => w != tick,
         }
-    }
-}
-
-impl Place {
-    pub fn stands(self, n: u8) -> bool
-        ensures { λ r. ⌜ r ≡ standsFine n self ⌝ }
-    {
-        if self.is_listed() { n == 1 } else { n == 0 }
-    }
-
-    pub fn waits_fine(self, t: TaskNo, x: Kind) -> bool
-        ensures { λ r. ⌜ r ≡ waitsFine t x self ⌝ }
-    {
-        match self {
-            Place::Free => true,
-            Place::Ready => true,
-            Place::Delayed(_) => true,
-            Place::Waiting(_, _) => x.may_wait(t),
-            Place::Suspended => true,
-        }
-    }
-
-    pub fn in_range(self) -> bool
-        ensures { λ r. ⌜ r ≡ wakesInRange self ⌝ }
-    {
-        match self {
-            Place::Free => true,
-            Place::Ready => true,
-            Place::Delayed(w) => w <= 4294967295,
-            Place::Waiting(_, w) => w.in_range(),
-            Place::Suspended => true,
-        }
-    }
-
-    pub fn not_due(self, tick: u32) -> bool
-        ensures { λ r. ⌜ r ≡ notDue tick self ⌝ }
-    {
-        let due = self.wakes_at(tick);
-        lists::both(self.in_range(), !due)
     }
 }
 
@@ -83,40 +46,49 @@ impl Task {
         )
     }
 
-    pub fn outcome_fine(self) -> bool
-        ensures { λ r. ⌜ r ≡ outcomeFine self ⌝ }
+    // What a free slot carries.
+    fn is_fresh(self) -> bool
+        ensures { λ r. ⌜ r ≡ (eqb (self .own) 0 && (eqb (self .effective) 0 && eqb (self .outcome) 0)) ⌝ }
     {
-        let p = self.place;
-        let blocked = p.is_blocked();
         lists::both(
-            self.outcome <= 3,
-            lists::either(!blocked, self.outcome == 0),
+            self.own == 0,
+            lists::both(self.effective == 0, self.outcome == 0),
         )
     }
 
-    pub fn fresh_if_free(self) -> bool
-        ensures { λ r. ⌜ r ≡ freshIfFree self ⌝ }
+    // What is asked of the values of a ready or a suspended task.
+    fn unblocked_fine(self, holds: bool) -> bool
+        ensures { λ r. ⌜ r ≡ (prioritiesFine holds self && leb (self .outcome) 3) ⌝ }
     {
-        let p = self.place;
-        let free = p.is_free();
-        let zeros = lists::both(
-            self.own == 0,
-            lists::both(self.effective == 0, self.outcome == 0),
-        );
-        lists::either(!free, zeros)
+        lists::both(self.priorities_fine(holds), self.outcome <= 3)
+    }
+
+    // What is asked of the values of a delayed or a waiting task; it is `early` if it is not due.
+    fn blocked_fine(self, holds: bool, early: bool) -> bool
+        ensures { λ r. ⌜ r ≡ (prioritiesFine holds self && (early && eqb (self .outcome) 0)) ⌝ }
+    {
+        lists::both(
+            self.priorities_fine(holds),
+            lists::both(early, self.outcome == 0),
+        )
     }
 
     // All that is asked of the task `t`: it stands `n` times in the order, waits on an object of the kind `o` if it waits, and holds a mutex or not.
+    // It matches the place once, and each place asks only what it leaves open.
     pub fn fine(self, tick: u32, t: TaskNo, n: u8, o: Kind, holds: bool) -> bool
         ensures { λ r. ⌜ r ≡ taskFine tick t n o holds self ⌝ }
     {
         let p = self.place;
-        let stands = lists::both(self.outcome_fine(), self.fresh_if_free());
-        let values = lists::both(
-            self.priorities_fine(holds),
-            lists::both(p.not_due(tick), stands),
-        );
-        lists::both(p.stands(n), lists::both(p.waits_fine(t, o), values))
+        match p {
+            Place::Free => lists::both(n == 0, self.is_fresh()),
+            Place::Ready => lists::both(n == 1, self.unblocked_fine(holds)),
+            Place::Delayed(w) => lists::both(n == 1, self.blocked_fine(holds, w != tick)),
+            Place::Waiting(_, w) => {
+                let values = self.blocked_fine(holds, w.not_at(tick));
+                lists::both(n == 1, lists::both(o.may_wait(t), values))
+            }
+            Place::Suspended => lists::both(n == 0, self.unblocked_fine(holds)),
+        }
     }
 }
 
@@ -147,33 +119,17 @@ impl Kind {
         }
     }
 
-    pub fn holder_in(self, p: Place) -> bool
-        ensures { λ r. ⌜ r ≡ holderIn p self ⌝ }
+    // All that is asked of an object whose holder, if it has one, stands at `p`.
+    pub fn fine(self, p: Place) -> bool
+        ensures { λ r. ⌜ r ≡ kindFine p self ⌝ }
     {
         match self {
             Kind::Unused => true,
-            Kind::Queue(_) => true,
+            Kind::Queue(q) => q.fine(),
             Kind::Mutex(h) => match h {
                 Holder::Nobody => true,
                 Holder::By(_) => !p.is_free(),
             },
         }
-    }
-
-    pub fn ring_in_range(self) -> bool
-        ensures { λ r. ⌜ r ≡ ringInRange self ⌝ }
-    {
-        match self {
-            Kind::Unused => true,
-            Kind::Queue(q) => q.fine(),
-            Kind::Mutex(_) => true,
-        }
-    }
-
-    // All that is asked of an object whose holder, if it has one, stands at `p`.
-    pub fn fine(self, p: Place) -> bool
-        ensures { λ r. ⌜ r ≡ kindFine p self ⌝ }
-    {
-        lists::both(self.holder_in(p), self.ring_in_range())
     }
 }

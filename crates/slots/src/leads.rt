@@ -2,7 +2,7 @@
 ghost use mathlib.Core.Path.{_≡_};
 ghost use mathlib.Core.Bool.{not};
 ghost use Rattle.lists.specs.Lists.{isNone};
-ghost use Rattle.slots.specs.Leads.{isWho, whom, leadOver, better, leads};
+ghost use Rattle.slots.specs.Leads.{isWho, whom, leadOver, better, leads, leadsOr};
 use crate::Found;
 use crate::Lead;
 use crate::Place;
@@ -46,6 +46,16 @@ impl Lead {
             self.behind(t, x.effective)
         } else {
             self
+        }
+    }
+
+    // Who leads; `u` where nobody does.
+    pub fn or(self, u: TaskNo) -> TaskNo
+        ensures { λ r. ⌜ r ≡ leadsOr self u ⌝ }
+    {
+        match self {
+            Lead::Open => u,
+            Lead::Best(t, _) => t,
         }
     }
 

@@ -1,17 +1,25 @@
 // Where a task stands.
 ghost use mathlib.Core.Path.{_≡_};
-ghost use Rattle.slots.specs.Places.{isFree, isReady, isSuspended, isBlocked, isListed, waitsOn, waited, isAt, wakesAt, outcomeDue};
+ghost use Rattle.slots.specs.Places.{isFree, isReady, isSuspended, isBlocked, isListed, waitsOn, waited, outcomeDue, ahead, wakeAway, away};
 use crate::Place;
 use crate::Wake;
 use calls::ObjNo;
 
+// How many ticks come before the one that makes the count `w`, from `now` on. A smaller `w` is not past: the count wraps before it comes.
+fn ahead(now: u32, w: u32) -> u32
+    ensures { λ r. ⌜ r ≡ ahead now w ⌝ }
+{
+    let distance = std::num::wrapping_sub_u32(w, now);
+    std::num::wrapping_sub_u32(distance, 1)
+}
+
 impl Wake {
-    pub fn is_at(self, n: u32) -> bool
-        ensures { λ r. ⌜ r ≡ isAt n self ⌝ }
+    pub fn away(self, now: u32) -> u32
+        ensures { λ r. ⌜ r ≡ wakeAway now self ⌝ }
     {
         match self {
-            Wake::Never => false,
-            Wake::At(w) => w == n,
+            Wake::Never => 4294967295,
+            Wake::At(w) => ahead(now, w),
         }
     }
 }
@@ -97,18 +105,6 @@ impl Place {
         }
     }
 
-    pub fn wakes_at(self, n: u32) -> bool
-        ensures { λ r. ⌜ r ≡ wakesAt n self ⌝ }
-    {
-        match self {
-            Place::Free => false,
-            Place::Ready => false,
-            Place::Delayed(w) => w == n,
-            Place::Waiting(_, w) => w.is_at(n),
-            Place::Suspended => false,
-        }
-    }
-
     // The outcome of a delay or wait that ends because it is due.
     pub fn outcome_due(self) -> u8
         ensures { λ r. ⌜ r ≡ outcomeDue self ⌝ }
@@ -119,6 +115,19 @@ impl Place {
             Place::Delayed(_) => 1,
             Place::Waiting(_, _) => 2,
             Place::Suspended => 0,
+        }
+    }
+
+    // How many ticks come before the one at which it wakes; 4,294,967,295 where it has no wake tick.
+    pub fn away(self, now: u32) -> u32
+        ensures { λ r. ⌜ r ≡ away now self ⌝ }
+    {
+        match self {
+            Place::Free => 4294967295,
+            Place::Ready => 4294967295,
+            Place::Delayed(w) => ahead(now, w),
+            Place::Waiting(_, w) => w.away(now),
+            Place::Suspended => 4294967295,
         }
     }
 }

@@ -1,27 +1,32 @@
 use borrow.Author.Needs.{needs}
 use Rattle.calls.specs.Asked.{asked}
-use Rattle.kernel.proofs.Passes.{passed, create-fits, set-fits, queue-fits, task-number, queue-number, mutex-number, hold-fits, release-fits, tick-fits, sound-steady}
+use Rattle.kernel.proofs.Passes.{passed, create-fits, set-fits, queue-fits, task-number, queue-number, mutex-number, hold-fits, release-fits, tick-fits, sound-steady, sound-timely}
 use Rattle.kernel.specs.Step.{stored}
 use lib.ListN.{length}
-use mathlib.Core.Path.{refl}
 use native.Mathlib.Omega.{arith}
+use mathlib.Core.Bool.{false≢true}
+use mathlib.Core.Path.{refl, sym, _∙_}
+use mathlib.Core.Logic.{⊎-elim}
 use Rattle.kernel.proofs.Kernel.served.Statement.{statement}
 use Rattle.kernel.proofs.Kernel.served.Tie as tie
 
 asked-requires : tie.Need-asked-requires
 asked-requires c κs = search needs
 
-number-for-requires : tie.Need-number-for-requires
-number-for-requires c κs = search needs
+makes-requires : tie.Need-makes-requires
+makes-requires c κs = search needs
+
+new-number-requires : tie.Need-new-number-requires
+new-number-requires c κs = search needs
 
 enum-known-call : tie.Need-enum-known-call
 enum-known-call c = search needs
 
 cast-create : tie.Need-cast-create
-cast-create c = let h = create-fits (c .before .call .given .1) (passed (c .before .before .before .before .before .before .before .args .self) (asked (c .before .before .before .before .before .before .before .args .call)) (length (c .before .before .before .before .before .before .before .args .item .now)) (length (c .before .before .before .before .before .before .before .args .store .now)) (c .before .before .before .before .before .before .before .pre .1) .in-range) in omega arith
+cast-create c = let h = create-fits (c .before .call .given .1) (passed (c .before .before .before .before .before .before .before .before .args .self) (asked (c .before .before .before .before .before .before .before .before .args .call)) (length (c .before .before .before .before .before .before .before .before .args .item .now)) (length (c .before .before .before .before .before .before .before .before .args .store .now)) (c .before .before .before .before .before .before .before .before .pre .1) .in-range) in omega arith
 
 create-requires : tie.Need-create-requires
-create-requires c κs = task-number (c .before .before .before .before .before .before .before .args .self) (c .before .call .given .1) (c .before .before .before .before .asked .ensures) (c .before .before .before .number-for .ensures)
+create-requires c κs = task-number (c .before .before .before .before .before .before .before .before .args .self) (c .before .call .given .1) (c .before .before .before .before .before .asked .ensures) (λ e. ⊎-elim (λ w. w .2 ∙ w .1 .ensures) (λ w. absurd (false≢true (sym (w .0 .left) ∙ c .before .before .before .before .makes .ensures ∙ e))) (c .before .before .before .if1 .came))
 
 enum-known-call-2 : tie.Need-enum-known-call-2
 enum-known-call-2 c = search needs
@@ -45,7 +50,7 @@ enum-known-call-5 : tie.Need-enum-known-call-5
 enum-known-call-5 c = search needs
 
 cast-set-priority : tie.Need-cast-set-priority
-cast-set-priority c = let h = set-fits (c .before .call5 .given .1) (passed (c .before .before .before .before .before .before .before .args .self) (asked (c .before .before .before .before .before .before .before .args .call)) (length (c .before .before .before .before .before .before .before .args .item .now)) (length (c .before .before .before .before .before .before .before .args .store .now)) (c .before .before .before .before .before .before .before .pre .1) .in-range) in omega arith
+cast-set-priority c = let h = set-fits (c .before .call5 .given .1) (passed (c .before .before .before .before .before .before .before .before .args .self) (asked (c .before .before .before .before .before .before .before .before .args .call)) (length (c .before .before .before .before .before .before .before .before .args .item .now)) (length (c .before .before .before .before .before .before .before .before .args .store .now)) (c .before .before .before .before .before .before .before .before .pre .1) .in-range) in omega arith
 
 set-priority-requires : tie.Need-set-priority-requires
 set-priority-requires c κs = search needs
@@ -66,31 +71,31 @@ enum-told-2 : tie.Need-enum-told-2
 enum-told-2 c = search needs
 
 hold-requires : tie.Need-hold-requires
-hold-requires c κs = hold-fits (c .before .before .before .before .before .before .args .self) (c .enum-told2 .given .1) (passed (c .before .before .before .before .before .before .args .self) (asked (c .before .before .before .before .before .before .args .call)) (length (c .before .before .before .before .before .before .args .item .now)) (length (c .before .before .before .before .before .before .args .store .now)) (c .before .before .before .before .before .before .pre .1) .deep)
+hold-requires c κs = hold-fits (c .before .before .before .before .before .before .before .args .self) (c .enum-told2 .given .1) (passed (c .before .before .before .before .before .before .before .args .self) (asked (c .before .before .before .before .before .before .before .args .call)) (length (c .before .before .before .before .before .before .before .args .item .now)) (length (c .before .before .before .before .before .before .before .args .store .now)) (c .before .before .before .before .before .before .before .pre .1) .deep)
 
 enum-told-3 : tie.Need-enum-told-3
 enum-told-3 c = search needs
 
 release-requires : tie.Need-release-requires
-release-requires c κs = release-fits (c .before .before .before .before .before .before .args .self) (c .enum-told3 .given .1) (passed (c .before .before .before .before .before .before .args .self) (asked (c .before .before .before .before .before .before .args .call)) (length (c .before .before .before .before .before .before .args .item .now)) (length (c .before .before .before .before .before .before .args .store .now)) (c .before .before .before .before .before .before .pre .1) .deep)
+release-requires c κs = (sound-timely (c .before .before .before .before .before .before .before .args .self) (c .before .before .before .before .before .before .before .pre .0), release-fits (c .before .before .before .before .before .before .before .args .self) (c .enum-told3 .given .1) (passed (c .before .before .before .before .before .before .before .args .self) (asked (c .before .before .before .before .before .before .before .args .call)) (length (c .before .before .before .before .before .before .before .args .item .now)) (length (c .before .before .before .before .before .before .before .args .store .now)) (c .before .before .before .before .before .before .before .pre .1) .deep))
 
 enum-known-call-7 : tie.Need-enum-known-call-7
 enum-known-call-7 c = search needs
 
 cast-make-queue : tie.Need-cast-make-queue
-cast-make-queue c = let h = queue-fits (c .before .call7 .given .1) (passed (c .before .before .before .before .before .before .before .args .self) (asked (c .before .before .before .before .before .before .before .args .call)) (length (c .before .before .before .before .before .before .before .args .item .now)) (length (c .before .before .before .before .before .before .before .args .store .now)) (c .before .before .before .before .before .before .before .pre .1) .in-range) in omega arith
+cast-make-queue c = let h = queue-fits (c .before .call7 .given .1) (passed (c .before .before .before .before .before .before .before .before .args .self) (asked (c .before .before .before .before .before .before .before .before .args .call)) (length (c .before .before .before .before .before .before .before .before .args .item .now)) (length (c .before .before .before .before .before .before .before .before .args .store .now)) (c .before .before .before .before .before .before .before .before .pre .1) .in-range) in omega arith
 
 cast-make-queue-2 : tie.Need-cast-make-queue-2
-cast-make-queue-2 c = let h = queue-fits (c .before .call7 .given .1) (passed (c .before .before .before .before .before .before .before .args .self) (asked (c .before .before .before .before .before .before .before .args .call)) (length (c .before .before .before .before .before .before .before .args .item .now)) (length (c .before .before .before .before .before .before .before .args .store .now)) (c .before .before .before .before .before .before .before .pre .1) .in-range) in omega arith
+cast-make-queue-2 c = let h = queue-fits (c .before .call7 .given .1) (passed (c .before .before .before .before .before .before .before .before .args .self) (asked (c .before .before .before .before .before .before .before .before .args .call)) (length (c .before .before .before .before .before .before .before .before .args .item .now)) (length (c .before .before .before .before .before .before .before .before .args .store .now)) (c .before .before .before .before .before .before .before .before .pre .1) .in-range) in omega arith
 
 make-queue-requires : tie.Need-make-queue-requires
-make-queue-requires c κs = queue-number (c .before .before .before .before .before .before .before .args .self) (c .before .call7 .given .1) (c .before .before .before .before .asked .ensures) (c .before .before .before .number-for .ensures)
+make-queue-requires c κs = queue-number (c .before .before .before .before .before .before .before .before .args .self) (c .before .call7 .given .1) (c .before .before .before .before .before .asked .ensures) (λ e. ⊎-elim (λ w. w .2 ∙ w .1 .ensures) (λ w. absurd (false≢true (sym (w .0 .left) ∙ c .before .before .before .before .makes .ensures ∙ e))) (c .before .before .before .if1 .came))
 
 enum-told-4 : tie.Need-enum-told-4
 enum-told-4 c = search needs
 
 make-mutex-requires : tie.Need-make-mutex-requires
-make-mutex-requires c κs = mutex-number (c .before .before .before .before .before .before .args .self) (c .enum-told4 .given .1) (c .before .before .before .asked .ensures) (c .before .before .number-for .ensures)
+make-mutex-requires c κs = mutex-number (c .before .before .before .before .before .before .before .args .self) (c .enum-told4 .given .1) (c .before .before .before .before .asked .ensures) (λ e. ⊎-elim (λ w. w .2 ∙ w .1 .ensures) (λ w. absurd (false≢true (sym (w .0 .left) ∙ c .before .before .before .makes .ensures ∙ e))) (c .before .before .if1 .came))
 
 enum-known-call-8 : tie.Need-enum-known-call-8
 enum-known-call-8 c = search needs
@@ -102,13 +107,13 @@ enum-known-call-9 : tie.Need-enum-known-call-9
 enum-known-call-9 c = search needs
 
 send-requires : tie.Need-send-requires
-send-requires c κs = sound-steady (c .before .before .before .before .before .before .before .before .args .self) (c .before .before .before .before .before .before .before .before .pre .0)
+send-requires c κs = sound-steady (c .before .before .before .before .before .before .before .before .before .args .self) (c .before .before .before .before .before .before .before .before .before .pre .0)
 
 enum-known-call-10 : tie.Need-enum-known-call-10
 enum-known-call-10 c = search needs
 
 receive-requires : tie.Need-receive-requires
-receive-requires c κs = (sound-steady (c .before .before .before .before .before .before .before .before .args .self) (c .before .before .before .before .before .before .before .before .pre .0), passed (c .before .before .before .before .before .before .before .before .args .self) (asked (c .before .before .before .before .before .before .before .before .args .call)) (length (c .before .before .before .before .before .before .before .before .args .item .now)) (length (c .before .before .before .before .before .before .before .before .args .store .now)) (c .before .before .before .before .before .before .before .before .pre .1) .whole)
+receive-requires c κs = (sound-steady (c .before .before .before .before .before .before .before .before .before .args .self) (c .before .before .before .before .before .before .before .before .before .pre .0), passed (c .before .before .before .before .before .before .before .before .before .args .self) (asked (c .before .before .before .before .before .before .before .before .before .args .call)) (length (c .before .before .before .before .before .before .before .before .before .args .item .now)) (length (c .before .before .before .before .before .before .before .before .before .args .store .now)) (c .before .before .before .before .before .before .before .before .before .pre .1) .whole)
 
 enum-known-call-11 : tie.Need-enum-known-call-11
 enum-known-call-11 c = search needs
@@ -126,7 +131,7 @@ enum-told-5 : tie.Need-enum-told-5
 enum-told-5 c = search needs
 
 tick-requires : tie.Need-tick-requires
-tick-requires c κs = tick-fits (c .before .before .before .before .before .before .args .self) (c .enum-told5 .given .1) (passed (c .before .before .before .before .before .before .args .self) (asked (c .before .before .before .before .before .before .args .call)) (length (c .before .before .before .before .before .before .args .item .now)) (length (c .before .before .before .before .before .before .args .store .now)) (c .before .before .before .before .before .before .pre .1) .ticks)
+tick-requires c κs = (sound-timely (c .before .before .before .before .before .before .before .args .self) (c .before .before .before .before .before .before .before .pre .0), tick-fits (c .before .before .before .before .before .before .before .args .self) (c .enum-told5 .given .1) (passed (c .before .before .before .before .before .before .before .args .self) (asked (c .before .before .before .before .before .before .before .args .call)) (length (c .before .before .before .before .before .before .before .args .item .now)) (length (c .before .before .before .before .before .before .before .args .store .now)) (c .before .before .before .before .before .before .before .pre .1) .ticks))
 
 returns : tie.Need-returns
 unfolding stored asked
@@ -207,7 +212,8 @@ served-spec =
     tie.close
     (tie.spec
     asked-requires
-    number-for-requires
+    makes-requires
+    new-number-requires
     enum-known-call
     cast-create
     create-requires
