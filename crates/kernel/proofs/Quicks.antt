@@ -90,7 +90,8 @@ module _ (k : Kernel) where
         (also _ _ (below-all 16 _ (λ n l. each-task n l .outcome))
         (also _ _ (and-right (tidy (k .order)) pends (and-right runs _ last))
         (also _ _ (below-all 16 _ (λ n l. each-task n l .free))
-        none))))))))))))))
+        (also _ _ (below-all 16 _ (λ n l. rw (← stands-at n l) (each-task n l .orders)))
+        none)))))))))))))))
 
   from-plain : sound k ≡ true → quick ≡ true
   unfolding sound shaped tasksFine objectsFine
@@ -101,6 +102,7 @@ module _ (k : Kernel) where
       (and-intro (tasksFine (k .tick) (k .objects) (k .tasks) stands holding) _
       (below-all 16 (taskFineAt (k .tick) (k .objects) (k .tasks) stands holding) (λ n l. task-whole _ _ _ _ _ _ (record {
         stands = rw (stands-at n l) (all-below 16 _ (at _ e 2) n l);
+        orders = rw (stands-at n l) (all-below 16 _ (at _ e 15) n l);
         waits = all-below 16 _ (at _ e 4) n l;
         priorities = rw (holding-at n l) (all-below 16 _ (at _ e 6) n l);
         due = all-below 16 _ (at _ e 8) n l;

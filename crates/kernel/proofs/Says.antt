@@ -20,7 +20,7 @@ use Rattle.order.proofs.Rooms.{tidy-few, tidy-zeros, tidy-none, tidy-from, coun
 use Rattle.slots.specs.Places.{isFree, isReady, isBlocked, isListed, waited}
 use Rattle.slots.specs.Tasks.{freeTask, inLine, inHigher}
 use Rattle.slots.specs.Objects.{unused, heldBy, holderOf}
-use Rattle.slots.specs.Fine.{idleFine, standsFine, mayWait, waitsFine, prioritiesFine, holderIn, notDue, ringFine, ringInRange, outcomeFine, freshIfFree}
+use Rattle.slots.specs.Fine.{idleFine, standsFine, ordersFine, mayWait, waitsFine, prioritiesFine, holderIn, notDue, ringFine, ringInRange, outcomeFine, freshIfFree}
 use Rattle.kernel.specs.Types.{TaskNo, ObjNo, Never, At, Place, Free, Ready, Delayed, Waiting, Suspended, Task, Ring, Nobody, By, Kind, Unused, Queue, Mutex, Object, Kernel}
 use Rattle.kernel.specs.Tables.{taskAt, kindAt, holds}
 use Rattle.kernel.specs.Lines.{line, level}
@@ -85,6 +85,21 @@ waits-may (receiver {q = q} e) = or-left (eqb (q .count) 0) (eqb (q .count) (q .
 waits-may (sender {q = q} e) = or-right (eqb (q .count) 0) (eqb (q .count) (q .capacity)) (eq-eqb (q .count) (q .capacity) e)
 waits-may {t} (taker {u = u} n) = not-off (sameTask u t) (ne-eqb (u .0) (t .0) n)
 
+-- how often it stands in the order: document 01's test and the order's own
+once-only : (n : ℕ) (p : Place) → standsFine n p ≡ true → ordersFine n p ≡ true → n ≡ (if isListed p then 1 else 0)
+once-only n Free s o = eqb-true n 0 o
+once-only n Ready s o = eqb-true n 1 s
+once-only n (Delayed w) s o = eqb-true n 1 o
+once-only n (Waiting q w) s o = eqb-true n 1 s
+once-only n Suspended s o = eqb-true n 0 o
+
+only-once : (n : ℕ) (p : Place) → n ≡ (if isListed p then 1 else 0) → (standsFine n p ≡ true) × (ordersFine n p ≡ true)
+only-once n Free e = (refl, eq-eqb n 0 e)
+only-once n Ready e = (eq-eqb n 1 e, refl)
+only-once n (Delayed w) e = (refl, eq-eqb n 1 e)
+only-once n (Waiting q w) e = (eq-eqb n 1 e, refl)
+only-once n Suspended e = (refl, eq-eqb n 0 e)
+
 ring-fits : (q : Ring) → ringFine q ≡ true → RingFits q
 ring-fits q e =
     let few = and-left (leb 1 (q .capacity) && leb (q .capacity) 64) _ e in
@@ -143,7 +158,9 @@ module _ (k : Kernel) (e : sound k ≡ true) where
   stands-once : (t : TaskNo) → count (t .0) l ≡ (if isListed (taskAt ts t .place) then 1 else 0)
   unfolding sound
   stands-once t =
-      eqb-true _ _ (any-task ts (λ u x. standsFine (count (u .0) l) (x .place)) (slots-16 .0) (at _ e 2)
+      once-only (count (t .0) l) (taskAt ts t .place)
+      (any-task ts (λ u x. standsFine (count (u .0) l) (x .place)) (slots-16 .0) (at _ e 2) (λ u h. refl) t)
+      (any-task ts (λ u x. ordersFine (count (u .0) l) (x .place)) (slots-16 .0) (at _ e 15)
       (λ u h. eq-eqb (count (u .0) l) 0 (tidy-none (k .order) tidied (u .0) h)) t)
 
   runs-say : runsFine ts l (k .running) (k .hold) ≡ true
@@ -375,7 +392,7 @@ module _ (k : Kernel) (s : Sound k) where
   says-sound =
       also _ _ (and-intro _ _ (eq-eqb _ _ (s .task-slots)) (and-intro _ _ (eq-eqb _ _ (s .object-slots)) (eq-eqb _ _ (s .order-places))))
       (also _ _ (rw (s .idle-ready, s .idle-own, s .idle-effective))
-      (also _ _ (below-all 16 _ (λ n h. eq-eqb _ _ (s .listing .once (task n))))
+      (also _ _ (below-all 16 _ (λ n h. only-once _ (taskAt us (task n) .place) (s .listing .once (task n)) .0))
       (also _ _ (and-intro (isReady (taskAt us (k .running) .place)) _ (rw (s .runs)) (and-intro _ _ (one-heads (line us (level us (k .running)) m) (k .running) (s .heads)) (hold-or (ltb 0 (k .hold)) refl)))
       (also _ _ (below-all 16 _ (λ n h. waits-fine (task n) _ refl))
       (also _ _ (not-off _ (none-holds qs idle (s .idle-holds)))
@@ -388,4 +405,5 @@ module _ (k : Kernel) (s : Sound k) where
       (also _ _ (below-all 16 _ (λ n h. and-intro _ _ (le-leb _ _ (s .outcome-range (task n))) (outcome-or (task n) _ refl)))
       (also _ _ (pends-or (ltb 0 (k .hold)) refl)
       (also _ _ (below-all 16 _ (λ n h. fresh-fine (task n) _ refl))
-      none))))))))))))))
+      (also _ _ (below-all 16 _ (λ n h. only-once _ (taskAt us (task n) .place) (s .listing .once (task n)) .1))
+      none)))))))))))))))

@@ -37,7 +37,8 @@ pub record RingFits (q : Ring) : Type 0 where
   pub starts : q .first < q .capacity
   pub counts : q .count ≤ q .capacity
 
--- the order, which carries the lines and the lists: each ready, delayed and waiting task once, and no one else; zeros behind them
+-- the one order, our kernel value's own, which carries the lines and the lists: each ready, delayed and waiting task once, and no one else; zeros behind them.
+-- Of the ready and the waiting document 01 asks it too (`lines`, `lists` below); of the delayed, the suspended and the free slots it does not
 pub record Listing (k : Kernel) : Type 0 where
   pub once : (t : TaskNo) → count (t .0) (listed (k .order)) ≡ (if isListed (taskAt (k .tasks) t .place) then 1 else 0)
   pub room : k .order .living ≤ 16
@@ -47,6 +48,7 @@ pub record Sound (k : Kernel) : Type 0 where
   -- "16 task slots, 0 to 15"; "16 object slots, 0 to 15"
   pub task-slots : length (k .tasks) ≡ 16
   pub object-slots : length (k .objects) ≡ 16
+  -- no sentence of document 01, but our kernel value's own
   pub order-places : length (k .order .places) ≡ 16
   pub listing : Listing k
   -- "idle is as above": "always there, always ready, priority 0"

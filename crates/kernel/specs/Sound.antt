@@ -11,7 +11,7 @@ use Rattle.order.specs.Tidy.{count, tidy}
 use Rattle.slots.specs.Places.{isReady, waited}
 use Rattle.slots.specs.Tasks.{inHigher}
 use Rattle.slots.specs.Objects.{holderOf}
-use Rattle.slots.specs.Fine.{idleFine, standsFine, waitsFine, prioritiesFine, holderIn, notDue, ringInRange, outcomeFine, freshIfFree}
+use Rattle.slots.specs.Fine.{idleFine, standsFine, ordersFine, waitsFine, prioritiesFine, holderIn, notDue, ringInRange, outcomeFine, freshIfFree}
 use Rattle.kernel.specs.Types.{TaskNo, Task, Object, Kind, Kernel}
 use Rattle.kernel.specs.Tables.{taskAt, kindAt, holds}
 use Rattle.kernel.specs.Lines.{line, level}
@@ -74,4 +74,6 @@ sound k =
     ∷ (ltb 0 (k .hold) || eqb (k .pended) 0)
     -- "free slots carry the fresh values"; that "a number that a state does not use is 0" holds by the types, and of the order by tidy
     ∷ allBelow 16 (λ n. freshIfFree (slotTask (k .tasks) n))
+    -- no sentence of document 01, but our kernel value's own: the one order lists a delayed task once, and a suspended one or a free slot not at all
+    ∷ allBelow 16 (λ n. ordersFine (count n (listed (k .order))) (slotTask (k .tasks) n .place))
     ∷ [])

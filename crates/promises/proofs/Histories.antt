@@ -44,6 +44,7 @@ pub placed : (k : Kernel) → Sound k → Placed k
 placed k S =
     record {
       one-state = λ t e. one-of-four (taskAt (k .tasks) t .place) e;
+      order = S .listing .once;
       lines = S .lines;
       lists = S .lists;
       not-outranked = λ h t e. go h t e (ltb (level (k .tasks) (k .running)) (level (k .tasks) t)) refl;

@@ -9,11 +9,13 @@ pub mod Together
 pub mod Refused
 pub mod Surplus
 pub mod TwoOrders
+pub mod Exact
 pub mod Histories
 pub mod Faults
 pub mod AnyBlocks
 pub mod Progress
 pub mod LineSteps
 pub mod LineForLine
+pub mod Reaches
 pub mod EachLine
 pub mod Typing

@@ -8,15 +8,16 @@ use lib.Dec.{eqb, ltb}
 use lib.ListN.{length, take, set, replicate, length-append, length-set}
 use lib.Seq.{append-snoc, take-suc-set}
 use borrow.Author.Tests.{ltb-true, ltb-false, lt-ltb, le-ltb, eqb-false, eq-eqb, ne-eqb}
+use Rattle.lists.specs.Choice.{if_then_else_}
 use Rattle.lists.specs.Lists.{foldl, index}
 use Rattle.journal.specs.Steps.{readOf, noCall}
 use Rattle.journal.proofs.Newlines.{Clear, Ended, one-clear, clear-append, ended-append}
 use Rattle.cuts.specs.declared.Cut.{Cut}
-use Rattle.cuts.specs.Keeping.{noByte, kept, ended}
+use Rattle.cuts.specs.Keeping.{noByte, kept, ended, isEmpty}
 use Rattle.kernel.specs.declared.Kernel.{Kernel}
 use Rattle.kernel.specs.Tables.{fresh}
-use Rattle.kernel.specs.Session.{Run, lineStep, readCut, stepRead, told, answeredBy, fed, begun, closed, newSession}
-use Rattle.kernel.specs.Step.{Stepped}
+use Rattle.kernel.specs.Session.{Run, noLine, lineStep, readCut, stepRead, told, answeredBy, fed, begun, closed, newSession}
+use Rattle.kernel.specs.Step.{Stepped, turnedAway}
 use Rattle.promises.specs.Program.{inFront, linesOf, stepOfLine, Answered, answering, program, answersTo}
 use Rattle.promises.specs.Turns.{Turn, Pause, afterTurns, cameIn, afterEnd, opened, atStart, outcome}
 use Rattle.promises.proofs.AnyBlocks.{all-as-in-one}
@@ -189,6 +190,34 @@ lines-fed n m (b ∷ input) r p h c = go (eqb b 10) refl (lines-fed n m input)
         ∙ ih record { taken = r .taken + 1; kernel = r .kernel; store = r .store; cut = kept (r .cut) b; answers = r .answers } (p ++ (b ∷ [])) (kept-holds h b) (clear-append p (b ∷ []) c (one-clear b (eqb-false b 10 e)))
         ∙ ap (λ (l : List ℕ). before (r .answers) (answering (r .kernel) (r .store) (linesOf l))) (append-snoc p b input)
 
+-- the end changes neither kernel nor store
+closed-stays : (n : ℕ) (k : Kernel) (s : List ℕ) (c : Cut) → (closed n k s c .kernel ≡ k) × (closed n k s c .store ≡ s)
+unfolding closed
+closed-stays n k s c = go (isEmpty c) (ltb n 256)
+  where
+    closedBy : Bool → Bool → Run
+    closedBy a b = if a then begun k s c else if b then begun k s c else record { taken = 0; kernel = k; store = s; cut = ended c; answers = told (turnedAway k (noLine k s) s) }
+
+    go : (a b : Bool) → (closedBy a b .kernel ≡ k) × (closedBy a b .store ≡ s)
+    go true b = (refl, refl)
+    go false true = (refl, refl)
+    go false false = (refl, refl)
+
+-- no byte of a line
+none-held : Holds noByte []
+unfolding noByte
+none-held = record { size = refl; len = refl; bytes = λ g. refl }
+
+-- before the end, too, kernel and store are those of the lines
+pub fed-so-far : (k : Kernel) (s input : List ℕ)
+    → (foldl fed (begun k s noByte) input .kernel ≡ answering k s (linesOf input) .kernel) × (foldl fed (begun k s noByte) input .store ≡ answering k s (linesOf input) .store)
+unfolding index
+fed-so-far k s input =
+    let r = foldl fed (begun k s noByte) input in
+    let e = lines-fed 256 (omega arith) input (begun k s noByte) [] none-held refl in
+    let c = closed-stays 256 (r .kernel) (r .store) (r .cut) in
+    (sym (c .0) ∙ ap (λ (x : Answered). x .kernel) e, sym (c .1) ∙ ap (λ (x : Answered). x .store) e)
+
 -- ---- the session
 
 -- from any kernel and store, with the bytes p of a line: whatever the blocks and the bytes lent, kernel, store and answers are those of the lines
@@ -201,8 +230,8 @@ line-for-line k s c p h g ts e n m =
 -- with no byte of a line: kernel, store and answers are those of the lines that came
 pub session-answers-lines : (k : Kernel) (s : List ℕ) (ts : List Turn) → afterTurns (opened k s noByte) ts .waits ≡ [] → (n : ℕ) → 256 ≤ n
     → outcome (afterEnd (afterTurns (opened k s noByte) ts) n) ≡ answering k s (linesOf (cameIn ts))
-unfolding noByte index
-session-answers-lines k s = line-for-line k s noByte [] record { size = refl; len = refl; bytes = λ g. refl } refl
+unfolding index
+session-answers-lines k s = line-for-line k s noByte [] none-held refl
 
 -- "The program starts from the fresh kernel and a store of zeros": a session begun so writes all that the program is to write, and no more
 pub session-is-the-program : (ts : List Turn) → afterTurns atStart ts .waits ≡ [] → (n : ℕ) → 256 ≤ n → outcome (afterEnd (afterTurns atStart ts) n) ≡ program (cameIn ts)

@@ -12,7 +12,7 @@ use Rattle.order.specs.Tidy.{count}
 use Rattle.slots.specs.declared.Place.{Place}
 use Rattle.slots.specs.declared.Place.the-variants.{Free, Ready, Delayed, Waiting, Suspended}
 use Rattle.slots.specs.declared.Who.the-variants.{WaitersOf}
-use Rattle.slots.specs.Places.{isFree, isReady, isSuspended, waitsOn}
+use Rattle.slots.specs.Places.{isFree, isReady, isSuspended, isListed, waitsOn}
 use Rattle.slots.specs.Tasks.{inLine}
 use Rattle.kernel.specs.declared.Kernel.{Kernel}
 use Rattle.kernel.specs.Tables.{fresh, taskAt}
@@ -59,7 +59,9 @@ states p = once (isReady p) + once (isDelayed p) + once (isWaiting p) + once (is
 pub record Placed (k : Kernel) : Type 0 where
   -- "every existing task is in exactly one of the four states"
   pub one-state : (t : TaskNo) → isFree (taskAt (k .tasks) t .place) ≡ false → states (taskAt (k .tasks) t .place) ≡ 1
-  -- "and listed only where that state belongs": in the line of its effective priority, once, if it is ready, and else in none
+  -- "and listed only where that state belongs": in the one order each ready, delayed or waiting task once, and no one else
+  pub order : (t : TaskNo) → count (t .0) (listed (k .order)) ≡ once (isListed (taskAt (k .tasks) t .place))
+  -- in the line of its effective priority, once, if it is ready, and else in none
   pub lines : (p : ℕ) (t : TaskNo) → count (t .0) (line (k .tasks) p (listed (k .order))) ≡ once (inLine p (taskAt (k .tasks) t))
   -- in the list of the object that it waits on, once, and in no other
   pub lists : (o : ObjNo) (t : TaskNo) → count (t .0) (those (k .tasks) (WaitersOf o) (listed (k .order))) ≡ once (waitsOn o (taskAt (k .tasks) t .place))

@@ -5,4 +5,6 @@ pub mod Alike
 pub mod History
 pub mod Program
 pub mod Turns
+pub mod Reached
+pub mod TurnedAway
 pub mod Typed

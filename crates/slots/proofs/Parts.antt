@@ -5,10 +5,11 @@ use mathlib.Core.Bool.{Bool, true}
 use Rattle.lists.proofs.Bools.{and-left, and-right, and-intro}
 use Rattle.calls.specs.declared.TaskNo.{TaskNo}
 use Rattle.slots.specs.Types.{Place, Task, Kind}
-use Rattle.slots.specs.Fine.{standsFine, waitsFine, prioritiesFine, holderIn, notDue, ringInRange, outcomeFine, freshIfFree, taskFine, kindFine}
+use Rattle.slots.specs.Fine.{standsFine, ordersFine, waitsFine, prioritiesFine, holderIn, notDue, ringInRange, outcomeFine, freshIfFree, taskFine, kindFine}
 
 pub record TaskParts (tick : ℕ) (t : TaskNo) (n : ℕ) (o : Kind) (holds : Bool) (x : Task) : Type 0 where
   pub stands : standsFine n (x .place) ≡ true
+  pub orders : ordersFine n (x .place) ≡ true
   pub waits : waitsFine t o (x .place) ≡ true
   pub priorities : prioritiesFine holds x ≡ true
   pub due : notDue tick (x .place) ≡ true
@@ -20,22 +21,26 @@ module _ (tick : ℕ) (t : TaskNo) (n : ℕ) (o : Kind) (holds : Bool) (x : Task
   unfolding taskFine
   task-parts e =
       let e₁ = and-right (standsFine n (x .place)) _ e in
-      let e₂ = and-right (waitsFine t o (x .place)) _ e₁ in
-      let e₃ = and-right (prioritiesFine holds x) _ e₂ in
-      let e₄ = and-right (notDue tick (x .place)) _ e₃ in
+      let e₂ = and-right (ordersFine n (x .place)) _ e₁ in
+      let e₃ = and-right (waitsFine t o (x .place)) _ e₂ in
+      let e₄ = and-right (prioritiesFine holds x) _ e₃ in
+      let e₅ = and-right (notDue tick (x .place)) _ e₄ in
       record {
         stands = and-left (standsFine n (x .place)) _ e;
-        waits = and-left (waitsFine t o (x .place)) _ e₁;
-        priorities = and-left (prioritiesFine holds x) _ e₂;
-        due = and-left (notDue tick (x .place)) _ e₃;
-        outcome = and-left (outcomeFine x) _ e₄;
-        free = and-right (outcomeFine x) _ e₄;
+        orders = and-left (ordersFine n (x .place)) _ e₁;
+        waits = and-left (waitsFine t o (x .place)) _ e₂;
+        priorities = and-left (prioritiesFine holds x) _ e₃;
+        due = and-left (notDue tick (x .place)) _ e₄;
+        outcome = and-left (outcomeFine x) _ e₅;
+        free = and-right (outcomeFine x) _ e₅;
       }
 
   pub task-whole : TaskParts tick t n o holds x → taskFine tick t n o holds x ≡ true
   unfolding taskFine
   task-whole p =
-      and-intro _ _ (p .stands) (and-intro _ _ (p .waits) (and-intro _ _ (p .priorities) (and-intro _ _ (p .due) (and-intro _ _ (p .outcome) (p .free)))))
+      and-intro _ _ (p .stands)
+      (and-intro _ _ (p .orders)
+      (and-intro _ _ (p .waits) (and-intro _ _ (p .priorities) (and-intro _ _ (p .due) (and-intro _ _ (p .outcome) (p .free))))))
 
 pub kind-parts : (p : Place) (x : Kind) → kindFine p x ≡ true → (holderIn p x ≡ true) × (ringInRange x ≡ true)
 unfolding kindFine

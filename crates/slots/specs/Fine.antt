@@ -2,19 +2,22 @@
 use Prim.Native.Nat.{ℕ, _*_}
 use mathlib.Core.Bool.{Bool, true, false, not, _&&_, _||_}
 use lib.Dec.{eqb, ltb, leb}
-use Rattle.lists.specs.Choice.{if_then_else_}
 use Rattle.calls.specs.declared.TaskNo.{TaskNo}
 use Rattle.slots.specs.Types.{Wake, Never, At, Place, Free, Ready, Delayed, Waiting, Suspended, Task, Ring, Nobody, By, Kind, Unused, Queue, Mutex}
-use Rattle.slots.specs.Places.{isFree, isReady, isBlocked, isListed, wakesAt}
+use Rattle.slots.specs.Places.{isFree, isReady, isBlocked, wakesAt}
 use Rattle.slots.specs.Objects.{isBy, isTaken}
 
 -- idle is "always there, always ready, priority 0"
 abbrev pub idleFine : Task → Bool
 idleFine x = isReady (x .place) && (eqb (x .own) 0 && eqb (x .effective) 0)
 
--- "each ready task stands once"; "each object lists its waiters once": n is how often it stands in the order
+-- "each ready task stands once"; "each object lists its waiters once": n is how often it stands in the order, which carries lines and lists
 abbrev pub standsFine : ℕ → Place → Bool
-standsFine n p = eqb n (if isListed p then 1 else 0)
+standsFine n Free = true
+standsFine n Ready = eqb n 1
+standsFine n (Delayed w) = true
+standsFine n (Waiting o w) = eqb n 1
+standsFine n Suspended = true
 
 -- "receivers wait only on an empty queue, senders only on a full one, takers only on a mutex held by another"
 abbrev pub mayWait : TaskNo → Kind → Bool
@@ -75,15 +78,24 @@ outcomeFine x = leb (x .outcome) 3 && (not (isBlocked (x .place)) || eqb (x .out
 abbrev pub freshIfFree : Task → Bool
 freshIfFree x = not (isFree (x .place)) || (eqb (x .own) 0 && (eqb (x .effective) 0 && eqb (x .outcome) 0))
 
+-- what the one order asks beside document 01's sentences: it lists a delayed task once, and a suspended one or a free slot not at all
+abbrev pub ordersFine : ℕ → Place → Bool
+ordersFine n Free = eqb n 0
+ordersFine n Ready = true
+ordersFine n (Delayed w) = eqb n 1
+ordersFine n (Waiting o w) = true
+ordersFine n Suspended = eqb n 0
+
 -- all that is asked of the task t, x: it stands n times in the order, waits on an object of the kind o if it waits, and holds a mutex or not
 unfoldable pub taskFine : ℕ → TaskNo → ℕ → Kind → Bool → Task → Bool
 taskFine tick t n o holds x =
     standsFine n (x .place)
+    && (ordersFine n (x .place)
     && (waitsFine t o (x .place)
     && (prioritiesFine holds x
     && (notDue tick (x .place)
     && (outcomeFine x
-    && freshIfFree x))))
+    && freshIfFree x)))))
 
 -- all that is asked of an object whose holder, if it has one, stands at p
 unfoldable pub kindFine : Place → Kind → Bool

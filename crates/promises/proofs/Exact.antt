@@ -1,0 +1,140 @@
+-- A step is refused n exactly if row n is the first of the table that applies; then nothing has changed. Else it is accepted.
+use Prim.Native.Nat.{ℕ}
+use mathlib.Core.Path.{_≡_, refl, sym, ap, _∙_}
+use mathlib.Core.Bool.{Bool, true, false, not, _&&_, false≢true}
+use mathlib.Core.Logic.{inl, inr, ⊎-elim}
+use mathlib.Core.List.{List, [], _∷_}
+use native.Mathlib.Omega.{arith}
+use lib.Dec.{eqb}
+use lib.ListN.{length}
+use borrow.Author.Tests.{eqb-true, eqb-false, eq-eqb, ne-eqb}
+use Rattle.lists.specs.Choice.{if_then_else_}
+use Rattle.calls.specs.Asked.{asked}
+use Rattle.calls.specs.Said.{Word, done, made, waiting, refused, Saying, says, said}
+use Rattle.slots.specs.Places.{isBlocked}
+use Rattle.kernel.specs.declared.Step.{Step}
+use Rattle.kernel.specs.Tables.{taskAt}
+use Rattle.kernel.specs.Lines.{chosen}
+use Rattle.kernel.specs.Sound.{sound}
+use Rattle.kernel.specs.Asking.{makes, newNumber}
+use Rattle.kernel.specs.Refusals.{Row, row, firstRow, table, laterRow, refusal}
+use Rattle.kernel.specs.Effects.{effect}
+use Rattle.kernel.specs.Step.{Stepped, answered, accepted, turnedAway, steppedBy, step}
+use Rattle.kernel.specs.Promises.{Is, Steps}
+use Rattle.promises.specs.Types.{Asked, Call, Kernel}
+use Rattle.promises.specs.TurnedAway.{rows, First, here, below, None, end, off, Refusal, Accepted, Exactly, Some, Decided}
+
+-- ── the first row that applies, as a number and as a proposition
+first-is : {n : ℕ} {rs : List Row} → First n rs → firstRow rs ≡ n
+first-is (here e a) = rw a e
+first-is (below a f) = rw a (first-is f)
+
+none-is : {rs : List Row} → None rs → firstRow rs ≡ 0
+none-is end = refl
+none-is (off a f) = rw a (none-is f)
+
+-- every row has a number that is not 0
+unfoldable numbered : List Row → Bool
+numbered [] = true
+numbered (r ∷ rs) = not (eqb (r .number) 0) && numbered rs
+
+is-first : (n : ℕ) (rs : List Row) → firstRow rs ≡ n → (n ≡ 0 → ⊥) → First n rs
+is-first n [] e z = absurd (z (sym e))
+is-first n (r ∷ rs) e z = go (r .applies) refl e
+  where
+    go : (b : Bool) → r .applies ≡ b → (if b then r .number else firstRow rs) ≡ n → First n (r ∷ rs)
+    go true a q = here q a
+    go false a q = below a (is-first n rs q z)
+
+is-none : (rs : List Row) → numbered rs ≡ true → firstRow rs ≡ 0 → None rs
+unfolding numbered
+is-none [] h e = end
+is-none (r ∷ rs) h e = go (r .applies) refl e (eqb (r .number) 0) refl h
+  where
+    go : (b : Bool) → r .applies ≡ b → (if b then r .number else firstRow rs) ≡ 0 → (c : Bool) → eqb (r .number) 0 ≡ c → (not c && numbered rs) ≡ true → None (r ∷ rs)
+    go b a q true c g = absurd (false≢true g)
+    go true a q false c g = absurd (eqb-false (r .number) 0 c q)
+    go false a q false c g = off a (is-none rs g q)
+
+module _ (k : Kernel) (a : Asked) (item s : ℕ) where
+  rows-refusal : firstRow (rows k a item s) ≡ refusal k a item s
+  unfolding refusal laterRow
+  rows-refusal = go (sound k)
+    where
+      go : (b : Bool) → (if not b then 1 else firstRow (table k a item s)) ≡ (if b then firstRow (table k a item s) else 1)
+      go true = refl
+      go false = refl
+
+  rows-numbered : numbered (rows k a item s) ≡ true
+  unfolding numbered table
+  rows-numbered = refl
+
+  -- a row is the first that applies, or none applies
+  pub decided : Decided (rows k a item s)
+  decided = go (eqb (firstRow (rows k a item s)) 0) refl
+    where
+      go : (b : Bool) → eqb (firstRow (rows k a item s)) 0 ≡ b → Decided (rows k a item s)
+      go true e = inr (is-none (rows k a item s) rows-numbered (eqb-true _ 0 e))
+      go false e = inl (record { number = firstRow (rows k a item s); first = is-first _ (rows k a item s) refl (eqb-false _ 0 e) })
+
+-- ── an accepted call is answered by no refusal
+pub not-refused : (k : Kernel) (a : Asked) (next : Kernel) (n : ℕ) → answered k a next ≡ says refused n → ⊥
+unfolding answered
+not-refused k a next n = go (makes a) (isBlocked (taskAt (next .tasks) (k .running) .place))
+  where
+    go : (b c : Bool) → (if b then says made (newNumber k a) else if c then says waiting 0 else says done 0) ≡ says refused n → ⊥
+    go true c e = let w : made ≡ refused = ap (λ (x : Saying). x .word) e in let z : _≡_ {A = ℕ} 0 1 = cc in omega arith
+    go false true e = let w : waiting ≡ refused = ap (λ (x : Saying). x .word) e in let z : _≡_ {A = ℕ} 0 1 = cc in omega arith
+    go false false e = let w : done ≡ refused = ap (λ (x : Saying). x .word) e in let z : _≡_ {A = ℕ} 0 1 = cc in omega arith
+
+-- ── the step
+module _ (k : Kernel) (c : Call) (item s : List ℕ) (r : Step) (after : List ℕ) (S : Steps k c item s r after) where
+  no : ℕ
+  no = refusal k (asked c) (length item) (length s)
+
+  table-no : firstRow (rows k (asked c) (length item) (length s)) ≡ no
+  table-no = rows-refusal k (asked c) (length item) (length s)
+
+  is-refused : (eqb no 0 ≡ false) → Is (turnedAway k no s) r after
+  unfolding step
+  is-refused e = rw e at S
+
+  is-accepted : (eqb no 0 ≡ true) → Is (accepted k c item s) r after
+  unfolding step
+  is-accepted e = rw e at S
+
+  away : (n : ℕ) → First n (rows k (asked c) (length item) (length s)) → (n ≡ 0 → ⊥) → Refusal k s n r after
+  away n f z =
+      let e : no ≡ n = sym table-no ∙ first-is f in
+      let h = is-refused (ne-eqb no 0 (λ q. z (sym e ∙ q))) in
+      record { number = h .answer ∙ ap (says refused) e; kernel = h .kernel; store = h .store }
+
+  -- the number of a row that applies first is not 0
+  first-some : (n : ℕ) → First n (rows k (asked c) (length item) (length s)) → n ≡ 0 → ⊥
+  first-some n f z = none-first (is-none _ (rows-numbered k (asked c) (length item) (length s)) (first-is f ∙ z)) f
+    where
+      none-first : {rs : List Row} → None rs → First n rs → ⊥
+      none-first end ()
+      none-first (off a g) (here e b) = false≢true (sym a ∙ b)
+      none-first (off a g) (below b f) = none-first g f
+
+  pub turned-away-exactly : Exactly k c item s r after
+  unfolding accepted
+  turned-away-exactly =
+      record {
+        given = λ n f. away n f (first-some n f);
+        only = λ n e. only n e (eqb no 0) refl;
+        else = λ f.
+            let h = is-accepted (eq-eqb no 0 (sym table-no ∙ none-is f)) in
+            record {
+              accepts = record { kernel = h .kernel; answer = h .answer };
+              store = h .store;
+              no-refusal = λ n e. not-refused k (asked c) (chosen (effect k c)) n (sym (h .answer) ∙ e);
+            };
+      }
+    where
+      only : (n : ℕ) → said (r .answer) ≡ says refused n → (b : Bool) → eqb no 0 ≡ b → First n (rows k (asked c) (length item) (length s))
+      only n e true q = absurd (not-refused k (asked c) (chosen (effect k c)) n (sym (is-accepted q .answer) ∙ e))
+      only n e false q =
+          let m : no ≡ n = ap (λ (x : Saying). x .number) (sym (is-refused q .answer) ∙ e) in
+          is-first n _ (table-no ∙ m) (λ z. eqb-false no 0 q (m ∙ z))

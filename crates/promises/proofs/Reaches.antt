@@ -1,0 +1,75 @@
+-- The program's kernel is one that calls reach, after every line of every input, however it is cut: so what holds after any calls holds of the program.
+use Prim.Native.Nat.{ℕ}
+use mathlib.Core.Path.{_≡_, refl, sym, ap, subst, _∙_}
+use mathlib.Core.Bool.{Bool, true, false}
+use mathlib.Core.List.{List, [], _∷_, _++_}
+use lib.Dec.{ltb}
+use lib.ListN.{length, take, replicate}
+use Rattle.lists.specs.Choice.{if_then_else_}
+use Rattle.journal.specs.declared.Reading.{Reading}
+use Rattle.journal.specs.declared.Reading.the-variants.{Says, Refused}
+use Rattle.journal.specs.Steps.{readOf}
+use Rattle.kernel.specs.declared.Kernel.{Kernel}
+use Rattle.kernel.specs.Tables.{fresh}
+use Rattle.kernel.specs.Step.{turnedAway}
+use Rattle.kernel.specs.Session.{noLine, stepTold, stepRead, newSession}
+use Rattle.promises.specs.History.{Made, after, reached, Placed}
+use Rattle.promises.specs.Program.{linesOf, stepOfLine, answering}
+use Rattle.promises.specs.Turns.{Turn, Pause, afterTurns, atStart}
+use Rattle.promises.specs.Reached.{saidCall, callOfLine, callsOf, programCalls, SoFar}
+use Rattle.promises.proofs.Histories.{after-any-calls}
+use Rattle.promises.proofs.AnyBlocks.{turns-through}
+use Rattle.promises.proofs.LineForLine.{fed-so-far}
+
+after-more : (k : Kernel) (ms ns : List Made) → after k (ms ++ ns) ≡ after (after k ms) ns
+unfolding after
+after-more k [] ns = refl
+after-more k (m ∷ ms) ns = after-more _ ms ns
+
+-- a line: its call, or none
+line-reaches : (k : Kernel) (s l : List ℕ) → stepOfLine k s l .kernel ≡ after k (callOfLine s l)
+unfolding stepOfLine callOfLine after
+line-reaches k s l = go (ltb 256 (length l))
+  where
+    read : (x : Reading) (item : List ℕ) → stepTold k s x item .kernel ≡ after k (saidCall s x item)
+    read (Says c) item = refl
+    read (Refused n) item = refl
+
+    go : (b : Bool) → (if b then turnedAway k (noLine k s) s else stepRead k s (readOf l)) .kernel ≡ after k (if b then [] else saidCall s (readOf l .answer) (take (readOf l .len) (readOf l .item)))
+    go true = refl
+    go false = read (readOf l .answer) (take (readOf l .len) (readOf l .item))
+
+lines-reach : (k : Kernel) (s : List ℕ) (ls : List (List ℕ)) → answering k s ls .kernel ≡ after k (callsOf k s ls)
+unfolding answering callsOf after
+lines-reach k s [] = refl
+lines-reach k s (l ∷ ls) =
+    let d = stepOfLine k s l in
+    lines-reach (d .kernel) (d .store) ls
+    ∙ ap (λ (j : Kernel). after j (callsOf (d .kernel) (d .store) ls)) (line-reaches k s l)
+    ∙ sym (after-more k (callOfLine s l) (callsOf (d .kernel) (d .store) ls))
+
+-- after every line: whatever the lines so far, the program's kernel is reached by their calls
+pub program-reached : (ls : List (List ℕ)) → answering fresh (replicate 9216 0) ls .kernel ≡ reached (programCalls ls)
+program-reached ls = lines-reach fresh (replicate 9216 0) ls
+
+-- however the input is cut: at any time the session's kernel and store are the program's on what was taken
+pub session-so-far : (ts : List Turn) → SoFar ts
+unfolding newSession
+session-so-far ts =
+    let h = turns-through atStart ts in
+    let f = fed-so-far fresh (replicate 9216 0) (h .taken) in
+    record {
+      taken = h .taken;
+      nothing-lost = h .nothing-lost;
+      kernel = ap (λ (p : Pause). p .kernel) (h .as-in-one) ∙ f .0;
+      store = ap (λ (p : Pause). p .store) (h .as-in-one) ∙ f .1;
+    }
+
+-- so "each task in exactly one state and listed only where that state belongs; unless held, no ready task outranks the running one"
+pub program-placed : (ls : List (List ℕ)) → Placed (answering fresh (replicate 9216 0) ls .kernel)
+program-placed ls = subst (λ (k : Kernel). Placed k) (sym (program-reached ls)) (after-any-calls (programCalls ls))
+
+pub session-placed : (ts : List Turn) → Placed (afterTurns atStart ts .kernel)
+session-placed ts =
+    let h = session-so-far ts in
+    subst (λ (k : Kernel). Placed k) (sym (h .kernel)) (program-placed (linesOf (h .taken)))

@@ -1,0 +1,55 @@
+-- "A refusal carries its number, is given exactly where document 01 says, and leaves the kernel and every lent byte as they were."
+use Prim.Native.Nat.{ℕ}
+use mathlib.Core.Path.{_≡_}
+use mathlib.Core.Bool.{true, false, not}
+use mathlib.Core.Logic.{_⊎_}
+use mathlib.Core.List.{List, [], _∷_}
+use lib.ListN.{length}
+use Rattle.calls.specs.Asked.{asked}
+use Rattle.calls.specs.Said.{says, said, refused}
+use Rattle.kernel.specs.declared.Step.{Step}
+use Rattle.kernel.specs.Sound.{sound}
+use Rattle.kernel.specs.Refusals.{Row, row, table}
+use Rattle.kernel.specs.Step.{stored}
+use Rattle.kernel.specs.Promises.{Accepts}
+use Rattle.promises.specs.Types.{Asked, Call, Kernel}
+
+-- the table of refusals, whole: 1 "the kernel value is not sound" stands first. (3 is the line reader's.)
+abbrev pub rows : Kernel → Asked → ℕ → ℕ → List Row
+rows k a item store = row 1 (not (sound k)) ∷ table k a item store
+
+-- "Of the numbers that apply, the one that stands first": row n applies, and none before it
+pub data First (n : ℕ) : List Row → Type 0 where
+  here : {r : Row} {rs : List Row} → r .number ≡ n → r .applies ≡ true → First n (r ∷ rs)
+  below : {r : Row} {rs : List Row} → r .applies ≡ false → First n rs → First n (r ∷ rs)
+
+-- "and none otherwise": no row applies
+pub data None : List Row → Type 0 where
+  end : None []
+  off : {r : Row} {rs : List Row} → r .applies ≡ false → None rs → None (r ∷ rs)
+
+-- r and the store `after` are a refusal n: it carries its number, and the kernel and all lent bytes stay
+pub record Refusal (k : Kernel) (s : List ℕ) (n : ℕ) (r : Step) (after : List ℕ) : Type 0 where
+  pub number : said (r .answer) ≡ says refused n
+  pub kernel : r .kernel ≡ k
+  pub store : after ≡ s
+
+-- r and the store `after` are what the call tables say, and no refusal
+pub record Accepted (k : Kernel) (c : Call) (item s : List ℕ) (r : Step) (after : List ℕ) : Type 0 where
+  pub accepts : Accepts k c r
+  pub store : after ≡ stored k (asked c) item s
+  pub no-refusal : (n : ℕ) → said (r .answer) ≡ says refused n → ⊥
+
+-- refused n exactly if row n is the first that applies, and then nothing has changed; else accepted
+pub record Exactly (k : Kernel) (c : Call) (item s : List ℕ) (r : Step) (after : List ℕ) : Type 0 where
+  pub given : (n : ℕ) → First n (rows k (asked c) (length item) (length s)) → Refusal k s n r after
+  pub only : (n : ℕ) → said (r .answer) ≡ says refused n → First n (rows k (asked c) (length item) (length s))
+  pub else : None (rows k (asked c) (length item) (length s)) → Accepted k c item s r after
+
+-- one of the two holds: some row is the first that applies, or none applies
+pub record Some (rs : List Row) : Type 0 where
+  pub number : ℕ
+  pub first : First number rs
+
+abbrev pub Decided : List Row → Type 0
+Decided rs = Some rs ⊎ None rs
