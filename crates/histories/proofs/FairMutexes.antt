@@ -27,6 +27,7 @@ use Rattle.kernel.proofs.Passes.{Passed}
 use Rattle.kernel.proofs.Slotted.{at-same, at-other}
 use Rattle.kernel.proofs.Blocks.{Same, prioritized-same, prioritized-tasks}
 use Rattle.kernel.proofs.Keeps.{exists-low, ready-low}
+use Rattle.promises.proofs.Histories.{exists-there}
 use Rattle.histories.specs.Types.{TaskNo, ObjNo, Wake, Place, Free, Ready, Delayed, Waiting, Suspended, Task, Nobody, By, Kind, Unused, Queue, Mutex, Kernel, Take, Give}
 use Rattle.histories.specs.Moments.{Moment, waitsIn}
 use Rattle.histories.specs.Borrowed.{largest, givenAt, lends, lentAt}
@@ -35,13 +36,6 @@ use Rattle.histories.proofs.Quiet.{Quiet, still, onward, each}
 use Rattle.histories.proofs.QuietCalls.{Quietly, wait-quiet, handed-quiet}
 use Rattle.histories.proofs.Fair.{Fair, Lends, lending, on, none-given, quiet-fair, bare-fair}
 use Rattle.histories.proofs.FairTasks.{moment, that-or-other, places-kept, ranked-at, prioritized-quiet}
-
-pub exists-there : (p : Place) → (p ≡ Free → ⊥) → isFree p ≡ false
-exists-there Free n = absurd (n refl)
-exists-there Ready n = refl
-exists-there (Delayed w) n = refl
-exists-there (Waiting o w) n = refl
-exists-there Suspended n = refl
 
 -- a task's effective priority changed leaves every own one
 owns-kept : (k : Kernel) (t : TaskNo) (eff : ℕ) (v : TaskNo) → taskAt (prioritized k t (taskAt (k .tasks) t .own) eff .tasks) v .own ≡ taskAt (k .tasks) v .own

@@ -15,12 +15,12 @@ use Rattle.kernel.specs.Sentences.{Exists}
 use Rattle.kernel.proofs.Says.{sound-says, not-held}
 use Rattle.kernel.proofs.Every.{fresh-sound, step-kept}
 use Rattle.promises.specs.History.{Made, after, reached}
+use Rattle.promises.proofs.Histories.{exists-there}
 use Rattle.histories.specs.Types.{TaskNo, Kernel}
 use Rattle.histories.specs.Moments.{Moment, momentOf, momentsFrom, moments, hasMutex}
 use Rattle.histories.specs.Borrowed.{largest, givenAt, lastOf, lastGiven, lentAt, counted, due}
 use Rattle.histories.proofs.Largest.{largest-append, larger-none}
 use Rattle.histories.proofs.Fair.{Fair}
-use Rattle.histories.proofs.FairMutexes.{exists-there}
 use Rattle.histories.proofs.FairSteps.{step-fair}
 
 -- what the past accounts for

@@ -1,6 +1,6 @@
 -- A step is refused n exactly if row n is the first of the table that applies; then nothing has changed. Else it is accepted.
 use Prim.Native.Nat.{ℕ}
-use mathlib.Core.Path.{_≡_, refl, sym, ap, _∙_}
+use mathlib.Core.Path.{_≡_, refl, sym, ap, subst, _∙_}
 use mathlib.Core.Bool.{Bool, true, false, not, _&&_, false≢true}
 use mathlib.Core.Logic.{inl, inr, ⊎-elim}
 use mathlib.Core.List.{List, [], _∷_}
@@ -40,21 +40,22 @@ numbered (r ∷ rs) = not (eqb (r .number) 0) && numbered rs
 
 is-first : (n : ℕ) (rs : List Row) → firstRow rs ≡ n → (n ≡ 0 → ⊥) → First n rs
 is-first n [] e z = absurd (z (sym e))
-is-first n (r ∷ rs) e z = go (r .applies) refl e
+is-first n (r ∷ rs) e z = go (r .applies) refl e (λ q. is-first n rs q z)
   where
-    go : (b : Bool) → r .applies ≡ b → (if b then r .number else firstRow rs) ≡ n → First n (r ∷ rs)
-    go true a q = here q a
-    go false a q = below a (is-first n rs q z)
+    go : (b : Bool) → r .applies ≡ b → (if b then r .number else firstRow rs) ≡ n → (firstRow rs ≡ n → First n rs) → First n (r ∷ rs)
+    go true a q ih = here q a
+    go false a q ih = below a (ih q)
 
 is-none : (rs : List Row) → numbered rs ≡ true → firstRow rs ≡ 0 → None rs
 unfolding numbered
 is-none [] h e = end
-is-none (r ∷ rs) h e = go (r .applies) refl e (eqb (r .number) 0) refl h
+is-none (r ∷ rs) h e = go (r .applies) refl e (eqb (r .number) 0) refl h (is-none rs)
   where
-    go : (b : Bool) → r .applies ≡ b → (if b then r .number else firstRow rs) ≡ 0 → (c : Bool) → eqb (r .number) 0 ≡ c → (not c && numbered rs) ≡ true → None (r ∷ rs)
-    go b a q true c g = absurd (false≢true g)
-    go true a q false c g = absurd (eqb-false (r .number) 0 c q)
-    go false a q false c g = off a (is-none rs g q)
+    go : (b : Bool) → r .applies ≡ b → (if b then r .number else firstRow rs) ≡ 0 → (c : Bool) → eqb (r .number) 0 ≡ c → (not c && numbered rs) ≡ true
+        → (numbered rs ≡ true → firstRow rs ≡ 0 → None rs) → None (r ∷ rs)
+    go b a q true c g ih = absurd (false≢true g)
+    go true a q false c g ih = absurd (eqb-false (r .number) 0 c q)
+    go false a q false c g ih = off a (ih g q)
 
 module _ (k : Kernel) (a : Asked) (item s : ℕ) where
   rows-refusal : firstRow (rows k a item s) ≡ refusal k a item s
@@ -89,19 +90,19 @@ not-refused k a next n = go (makes a) (isBlocked (taskAt (next .tasks) (k .runni
 
 -- ── the step
 module _ (k : Kernel) (c : Call) (item s : List ℕ) (r : Step) (after : List ℕ) (S : Steps k c item s r after) where
-  no : ℕ
+  abbrev no : ℕ
   no = refusal k (asked c) (length item) (length s)
 
   table-no : firstRow (rows k (asked c) (length item) (length s)) ≡ no
   table-no = rows-refusal k (asked c) (length item) (length s)
 
-  is-refused : (eqb no 0 ≡ false) → Is (turnedAway k no s) r after
+  is-refused : eqb no 0 ≡ false → Is (turnedAway k no s) r after
   unfolding step
-  is-refused e = rw e at S
+  is-refused e = subst (λ (b : Bool). Is (if b then accepted k c item s else turnedAway k no s) r after) e S
 
-  is-accepted : (eqb no 0 ≡ true) → Is (accepted k c item s) r after
+  is-accepted : eqb no 0 ≡ true → Is (accepted k c item s) r after
   unfolding step
-  is-accepted e = rw e at S
+  is-accepted e = subst (λ (b : Bool). Is (if b then accepted k c item s else turnedAway k no s) r after) e S
 
   away : (n : ℕ) → First n (rows k (asked c) (length item) (length s)) → (n ≡ 0 → ⊥) → Refusal k s n r after
   away n f z =
@@ -114,7 +115,6 @@ module _ (k : Kernel) (c : Call) (item s : List ℕ) (r : Step) (after : List �
   first-some n f z = none-first (is-none _ (rows-numbered k (asked c) (length item) (length s)) (first-is f ∙ z)) f
     where
       none-first : {rs : List Row} → None rs → First n rs → ⊥
-      none-first end ()
       none-first (off a g) (here e b) = false≢true (sym a ∙ b)
       none-first (off a g) (below b f) = none-first g f
 

@@ -6,24 +6,24 @@ use mathlib.Core.List.{List}
 use lib.ListN.{length}
 use native.Mathlib.Omega.{arith}
 use Rattle.lists.specs.Lists.{larger}
-use Rattle.calls.specs.declared.TaskNo.{TaskNo}
-use Rattle.calls.specs.declared.ObjNo.{ObjNo}
 use Rattle.calls.specs.Numbers.{idle}
-use Rattle.slots.specs.declared.Wake.{Wake}
-use Rattle.slots.specs.declared.Place.the-variants.{Ready, Waiting}
-use Rattle.slots.specs.declared.Kind.{Kind}
-use Rattle.slots.specs.declared.Kind.the-variants.{Unused}
 use Rattle.slots.specs.Tasks.{ranked}
-use Rattle.kernel.specs.declared.Kernel.{Kernel}
-use Rattle.kernel.specs.Tables.{taskAt, kindAt, holds}
+use Rattle.kernel.specs.Tables.{fresh, taskAt, kindAt}
 use Rattle.kernel.specs.Lines.{level}
 use Rattle.kernel.specs.Sentences.{Holds, Exists, MayWait, receiver, sender, taker, Sound}
-use Rattle.kernel.specs.Loans.{newPriority}
-use Rattle.kernel.proofs.Says.{sound-says}
+use Rattle.kernel.specs.Loans.{prioritized, newPriority}
+use Rattle.kernel.specs.Effects.{effect}
+use Rattle.kernel.specs.Step.{accepted, step}
+use Rattle.kernel.proofs.Says.{sound-says, some-holds}
 use Rattle.kernel.proofs.Slotted.{at-same}
 use Rattle.kernel.proofs.Blocks.{prioritized-tasks}
+use Rattle.kernel.proofs.Ends.{chosen-tasks}
+use Rattle.kernel.proofs.Keeps.{exists-low}
+use Rattle.promises.specs.Types.{TaskNo, ObjNo, SetPriority, Wake, Ready, Waiting, Kind, Unused, Kernel}
 use Rattle.promises.specs.History.{Made, reached}
-use Rattle.promises.proofs.Histories.{reached-sound}
+use Rattle.promises.specs.Depth.{isAccepted, depth}
+use Rattle.promises.proofs.Histories.{exists-there, reached-sound}
+use Rattle.promises.proofs.Depths.{depth-by-calls}
 
 module _ (ms : List Made) where
   abbrev k : Kernel
@@ -40,9 +40,9 @@ module _ (ms : List Made) where
   pub holder-stays : (t : TaskNo) (o : ObjNo) → Holds (k .objects) t o → Exists (k .tasks) t
   holder-stays = S .holders
 
-  -- the hold's count overflowing: it stays within its range
-  pub hold-within : k .hold ≤ 255
-  hold-within = S .hold-range
+  -- the hold's count overflowing: it is the number of accepted holds less the accepted releases, which stays within its range; so it never comes round to 0
+  pub hold-counts : (k .hold ≡ depth fresh 0 ms) × (depth fresh 0 ms ≤ 255)
+  hold-counts = (depth-by-calls ms, omega (arith, depth-by-calls ms, S .hold-range))
 
   -- an object in use removed: whoever waits, waits on an object that is there
   pub waited-stays : (t : TaskNo) (o : ObjNo) (w : Wake) → taskAt (k .tasks) t .place ≡ Waiting o w → kindAt (k .objects) o ≡ Unused → ⊥
@@ -53,8 +53,17 @@ module _ (ms : List Made) where
       not-unused (sender h) q = let z : _≡_ {A = ℕ} 0 1 = cc in omega arith
       not-unused (taker h) q = let z : _≡_ {A = ℕ} 0 1 = cc in omega arith
 
--- a raised priority of a boosted holder lost: a holder set to p owns p, and runs at the larger of p and what it had
-pub raise-stays : (k : Kernel) (t : TaskNo) (p : ℕ) → t .0 < length (k .tasks) → holds (k .objects) t ≡ true
-    → taskAt (newPriority k t p .tasks) t ≡ ranked (taskAt (k .tasks) t) p (larger (level (k .tasks) t) p)
-unfolding newPriority
-raise-stays k t p low h = rw h (ap (λ ts. taskAt ts t) (prioritized-tasks k t p (larger (level (k .tasks) t) p)) ∙ at-same (k .tasks) t (ranked (taskAt (k .tasks) t) p (larger (level (k .tasks) t) p)) low)
+  -- a raised priority of a boosted holder lost: a holder whose accepted change says p owns p after it, and runs at the larger of p and what it had
+  pub raise-stays : (t : TaskNo) (o : ObjNo) (p : ℕ) (item s : List ℕ) → Holds (k .objects) t o → isAccepted k record { call = SetPriority t p; item = item; store = s } ≡ true
+      → taskAt (step k (SetPriority t p) item s .kernel .tasks) t ≡ ranked (taskAt (k .tasks) t) p (larger (level (k .tasks) t) p)
+  unfolding step accepted effect newPriority
+  raise-stays t o p item s h e =
+      rw (e, some-holds (k .objects) t o h)
+      (ap (λ ts. taskAt ts t) (chosen-tasks (prioritized k t p both) ∙ prioritized-tasks k t p both)
+      ∙ at-same (k .tasks) t (ranked (taskAt (k .tasks) t) p both) low)
+    where
+      both : ℕ
+      both = larger (level (k .tasks) t) p
+
+      low : t .0 < length (k .tasks)
+      low = omega (arith, S .task-slots, exists-low (k .tasks) t (S .task-slots) (exists-there (taskAt (k .tasks) t .place) (S .holders t o h)))

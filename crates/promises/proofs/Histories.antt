@@ -29,6 +29,14 @@ after-sound k (m ∷ ms) e = after-sound _ ms (step-kept k (m .call) (m .item) (
 pub reached-sound : (ms : List Made) → sound (reached ms) ≡ true
 reached-sound ms = after-sound fresh ms fresh-sound
 
+-- a task that exists has a place
+pub exists-there : (p : Place) → (p ≡ Free → ⊥) → isFree p ≡ false
+exists-there Free n = absurd (n refl)
+exists-there Ready n = refl
+exists-there (Delayed w) n = refl
+exists-there (Waiting o w) n = refl
+exists-there Suspended n = refl
+
 one-of-four : (p : Place) → isFree p ≡ false → states p ≡ 1
 one-of-four Free e = absurd (false≢true (sym e))
 one-of-four Ready e = refl

@@ -11,6 +11,7 @@ pub mod Surplus
 pub mod TwoOrders
 pub mod Exact
 pub mod Histories
+pub mod Depths
 pub mod Faults
 pub mod AnyBlocks
 pub mod Progress

@@ -7,4 +7,5 @@ pub mod Program
 pub mod Turns
 pub mod Reached
 pub mod TurnedAway
+pub mod Depth
 pub mod Typed

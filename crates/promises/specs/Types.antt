@@ -9,4 +9,10 @@ pub use Rattle.slots.specs.declared.Wake.the-variants.{Never, At}
 pub use Rattle.slots.specs.declared.Place.{Place}
 pub use Rattle.slots.specs.declared.Place.the-variants.{Free, Ready, Delayed, Waiting, Suspended}
 pub use Rattle.slots.specs.declared.Task.{Task}
+pub use Rattle.slots.specs.declared.Holder.the-variants.{Nobody, By}
+pub use Rattle.slots.specs.declared.Kind.{Kind}
+pub use Rattle.slots.specs.declared.Kind.the-variants.{Unused, Queue, Mutex}
+pub use Rattle.slots.specs.declared.Who.the-variants.{AllReady, WaitersOf}
 pub use Rattle.kernel.specs.declared.Kernel.{Kernel}
+pub use Rattle.kernel.specs.declared.Outlet.{Outlet}
+pub use Rattle.kernel.specs.declared.Outlet.the-variants.{Waiter as toWaiter, Ring as toQueue, Caller as toCaller}

@@ -1,0 +1,182 @@
+-- The depth of hold after any calls is the number of accepted holds less the accepted releases: no call lets it wrap, and no other call touches it.
+use Prim.Native.Nat.{ℕ, zero, suc, _+_, _-_}
+use mathlib.Core.Path.{_≡_, refl, sym, ap, _∙_}
+use mathlib.Core.Bool.{Bool, true, false}
+use mathlib.Core.List.{List, [], _∷_}
+use native.Mathlib.Omega.{arith}
+use lib.Dec.{eqb, ltb}
+use lib.ListN.{length}
+use borrow.Author.Tests.{eqb-true}
+use Rattle.lists.specs.Choice.{if_then_else_}
+use Rattle.lists.specs.Lists.{upTo}
+use Rattle.calls.specs.Numbers.{task}
+use Rattle.calls.specs.Asked.{asked}
+use Rattle.order.specs.Order.{listed}
+use Rattle.slots.specs.Places.{isListed, wakesAt, outcomeDue}
+use Rattle.slots.specs.Tasks.{brokenOff}
+use Rattle.kernel.specs.Tables.{fresh, taskAt, kindAt, holds, withTask, withTick, withHold}
+use Rattle.kernel.specs.Lines.{level, first, runsIf, chosen, toTail, leaves}
+use Rattle.kernel.specs.Sound.{noHigher}
+use Rattle.kernel.specs.Waits.{later, readied, blocked, waitFor}
+use Rattle.kernel.specs.Loans.{prioritized, newPriority, lent, ownAgain}
+use Rattle.kernel.specs.Ticks.{wokenIfDue, wakes, oneTick, turned, ticked, ticks, released, held}
+use Rattle.kernel.specs.Items.{oneLess, outlet, sentBy, sent, sentTo, refilledBy, received, receivedFrom}
+use Rattle.kernel.specs.Effects.{created, deleted, suspended, resumed, yielded, delayed, queueMade, mutexMade, removed, takenFrom, taken, handedTo, handedOn, given, effect}
+use Rattle.kernel.specs.Refusals.{refusal}
+use Rattle.kernel.specs.Step.{accepted, turnedAway, step}
+use Rattle.kernel.proofs.Blocks.{prioritized-same}
+use Rattle.promises.specs.Types.{TaskNo, ObjNo, Call, Create, Delete, Suspend, Resume, SetPriority, Delay, Yield, Hold, Release, MakeQueue, MakeMutex, Remove, Send, Receive, Take, Give, Tick, Delayed, AllReady, WaitersOf, Nobody, By, Kind, Unused, Queue, Mutex, Outlet, toWaiter, toQueue, toCaller, Kernel}
+use Rattle.promises.specs.History.{Made, after, reached}
+use Rattle.promises.specs.Depth.{deeper, isAccepted, depth}
+
+-- ── what leaves the depth as it was
+woken-hold : (k : Kernel) (n : ℕ) → wokenIfDue k n .hold ≡ k .hold
+unfolding wokenIfDue readied toTail
+woken-hold k n = go (wakesAt (k .tick) (taskAt (k .tasks) (task n) .place))
+  where
+    go : (b : Bool) → (if b then readied k (task n) (outcomeDue (taskAt (k .tasks) (task n) .place)) else k) .hold ≡ k .hold
+    go true = refl
+    go false = refl
+
+turns-hold : (f : Kernel → ℕ → Kernel) → ((k : Kernel) (n : ℕ) → f k n .hold ≡ k .hold) → (n : ℕ) (k : Kernel) → upTo f n k .hold ≡ k .hold
+unfolding upTo
+turns-hold f h zero k = refl
+turns-hold f h (suc n) k = h (upTo f n k) n ∙ turns-hold f h n k
+
+tick-hold : (k : Kernel) → oneTick k .hold ≡ k .hold
+unfolding oneTick wakes
+tick-hold k = turns-hold wokenIfDue woken-hold 16 (withTick k (later (k .tick) 1))
+
+turned-hold : (k : Kernel) → turned k .hold ≡ k .hold
+unfolding turned toTail
+turned-hold k = go (noHigher (k .tasks) (level (k .tasks) (k .running)) (listed (k .order)))
+  where
+    go : (b : Bool) → (if b then toTail k (k .running) else k) .hold ≡ k .hold
+    go true = refl
+    go false = refl
+
+module _ (k : Kernel) where
+  ticked-hold : ticked k .hold ≡ k .hold
+  unfolding ticked
+  ticked-hold = go (ltb 0 (k .hold))
+    where
+      go : (b : Bool) → (if b then withHold k (k .hold) (k .pended + 1) else turned (oneTick k)) .hold ≡ k .hold
+      go true = refl
+      go false = turned-hold (oneTick k) ∙ tick-hold k
+
+  suspended-hold : (t : TaskNo) → suspended k t .hold ≡ k .hold
+  unfolding suspended leaves
+  suspended-hold t = go (isListed (taskAt (k .tasks) t .place))
+    where
+      go : (b : Bool) → (if b then leaves (withTask k t (brokenOff (taskAt (k .tasks) t))) t else k) .hold ≡ k .hold
+      go true = refl
+      go false = refl
+
+  delayed-hold : (n : ℕ) → delayed k n .hold ≡ k .hold
+  unfolding delayed yielded blocked toTail
+  delayed-hold n = go (eqb n 0)
+    where
+      go : (b : Bool) → (if b then yielded k else blocked k (Delayed (later (k .tick) n))) .hold ≡ k .hold
+      go true = refl
+      go false = refl
+
+  sent-hold : (o : ObjNo) (x : Kind) (w : ℕ) → sentTo k o x w .hold ≡ k .hold
+  unfolding sent readied waitFor blocked toTail
+  sent-hold o Unused w = refl
+  sent-hold o (Queue q) w = go (outlet k o q)
+    where
+      go : (x : Outlet) → sentBy k o q w x .hold ≡ k .hold
+      go (toWaiter t) = refl
+      go toQueue = refl
+      go toCaller = refl
+  sent-hold o (Mutex h) w = refl
+
+  received-hold : (o : ObjNo) (x : Kind) (w : ℕ) → receivedFrom k o x w .hold ≡ k .hold
+  unfolding received readied waitFor blocked toTail
+  received-hold o Unused w = refl
+  received-hold o (Queue q) w = go (eqb (q .count) 0) (first k (WaitersOf o))
+    where
+      go : (b : Bool) (l : List TaskNo) → (if b then waitFor k o w else refilledBy k o (oneLess q) l) .hold ≡ k .hold
+      go true l = refl
+      go false [] = refl
+      go false (t ∷ l) = refl
+  received-hold o (Mutex h) w = refl
+
+  taken-hold : (o : ObjNo) (x : Kind) (w : ℕ) → takenFrom k o x w .hold ≡ k .hold
+  unfolding lent waitFor blocked toTail
+  taken-hold o Unused w = refl
+  taken-hold o (Queue q) w = refl
+  taken-hold o (Mutex Nobody) w = refl
+  taken-hold o (Mutex (By h)) w = prioritized-same k h _ _ .hold
+
+  given-hold : (o : ObjNo) → given k o .hold ≡ k .hold
+  unfolding given ownAgain handedOn readied toTail
+  given-hold o = again (handedOn k o) (holds (handedOn k o .objects) (k .running)) ∙ hand (first k (WaitersOf o))
+    where
+      again : (j : Kernel) (b : Bool) → (if b then j else prioritized j (k .running) (taskAt (j .tasks) (k .running) .own) (taskAt (j .tasks) (k .running) .own)) .hold ≡ j .hold
+      again j true = refl
+      again j false = prioritized-same j (k .running) _ _ .hold
+
+      hand : (l : List TaskNo) → handedTo k o l .hold ≡ k .hold
+      hand [] = refl
+      hand (t ∷ l) = refl
+
+  released-hold : released k .hold ≡ k .hold - 1
+  unfolding released ticks
+  released-hold = go (eqb (k .hold) 1) refl
+    where
+      go : (b : Bool) → eqb (k .hold) 1 ≡ b → (if b then upTo (λ x i. oneTick x) (k .pended) (withHold k 0 0) else withHold k (k .hold - 1) (k .pended)) .hold ≡ k .hold - 1
+      go true e = turns-hold (λ x i. oneTick x) (λ x i. tick-hold x) (k .pended) (withHold k 0 0) ∙ omega (arith, eqb-true (k .hold) 1 e)
+      go false e = refl
+
+  effect-hold : (c : Call) → effect k c .hold ≡ deeper (asked c) (k .hold)
+  unfolding effect asked created deleted resumed yielded queueMade mutexMade removed taken newPriority held readied leaves toTail
+  effect-hold (Create p) = refl
+  effect-hold (Delete t) = refl
+  effect-hold (Suspend t) = suspended-hold t
+  effect-hold (Resume t) = refl
+  effect-hold (SetPriority t p) = prioritized-same k t _ _ .hold
+  effect-hold (Delay n) = delayed-hold n
+  effect-hold Yield = refl
+  effect-hold Hold = refl
+  effect-hold Release = released-hold
+  effect-hold (MakeQueue c z) = refl
+  effect-hold MakeMutex = refl
+  effect-hold (Remove o) = refl
+  effect-hold (Send o w) = sent-hold o (kindAt (k .objects) o) w
+  effect-hold (Receive o w) = received-hold o (kindAt (k .objects) o) w
+  effect-hold (Take o w) = taken-hold o (kindAt (k .objects) o) w
+  effect-hold (Give o) = given-hold o
+  effect-hold Tick = ticked-hold
+
+  chosen-hold : chosen k .hold ≡ k .hold
+  unfolding chosen
+  chosen-hold = go (eqb (k .hold) 0) (first k AllReady)
+    where
+      go : (b : Bool) (l : List TaskNo) → (if b then runsIf k l else k) .hold ≡ k .hold
+      go true [] = refl
+      go true (t ∷ l) = refl
+      go false l = refl
+
+-- ── one step: an accepted hold is one deeper, an accepted release one less, and nothing else changes the depth
+pub step-depth : (k : Kernel) (m : Made) → step k (m .call) (m .item) (m .store) .kernel .hold ≡ (if isAccepted k m then deeper (asked (m .call)) (k .hold) else k .hold)
+unfolding step accepted
+step-depth k m = go (isAccepted k m)
+  where
+    no : ℕ
+    no = refusal k (asked (m .call)) (length (m .item)) (length (m .store))
+
+    go : (b : Bool) → (if b then accepted k (m .call) (m .item) (m .store) else turnedAway k no (m .store)) .kernel .hold ≡ (if b then deeper (asked (m .call)) (k .hold) else k .hold)
+    go true = chosen-hold (effect k (m .call)) ∙ effect-hold k (m .call)
+    go false = refl
+
+after-depth : (k : Kernel) (n : ℕ) (ms : List Made) → k .hold ≡ n → after k ms .hold ≡ depth k n ms
+unfolding after depth
+after-depth k n [] e = e
+after-depth k n (m ∷ ms) e =
+    after-depth (step k (m .call) (m .item) (m .store) .kernel) _ ms (step-depth k m ∙ ap (λ (d : ℕ). if isAccepted k m then deeper (asked (m .call)) d else d) e)
+
+-- after any calls from the fresh kernel
+pub depth-by-calls : (ms : List Made) → reached ms .hold ≡ depth fresh 0 ms
+unfolding fresh
+depth-by-calls ms = after-depth fresh 0 ms refl
