@@ -1,6 +1,6 @@
 -- "Borrowed priority is paid back": after any calls from the fresh kernel the effective priorities are what the history says.
 use Prim.Native.Nat.{ℕ, zero, suc}
-use mathlib.Core.Path.{_≡_, refl, sym, ap, _∙_}
+use mathlib.Core.Path.{_≡_, refl, sym, ap, subst, _∙_}
 use mathlib.Core.Bool.{Bool, true, false, false≢true}
 use mathlib.Core.List.{List, [], _∷_, _++_}
 use lib.ListN.{getD, replicate}
@@ -15,10 +15,14 @@ use Rattle.kernel.specs.Sentences.{Exists}
 use Rattle.kernel.proofs.Says.{sound-says, not-held}
 use Rattle.kernel.proofs.Every.{fresh-sound, step-kept}
 use Rattle.promises.specs.History.{Made, after, reached}
+use Rattle.promises.specs.Program.{linesOf, answering}
+use Rattle.promises.specs.Turns.{Turn, afterTurns, atStart}
+use Rattle.promises.specs.Reached.{programCalls}
 use Rattle.promises.proofs.Histories.{exists-there}
+use Rattle.promises.proofs.Reaches.{program-reached, session-so-far}
 use Rattle.histories.specs.Types.{TaskNo, Kernel}
 use Rattle.histories.specs.Moments.{Moment, momentOf, momentsFrom, moments, hasMutex}
-use Rattle.histories.specs.Borrowed.{largest, givenAt, lastOf, lastGiven, lentAt, counted, due}
+use Rattle.histories.specs.Borrowed.{largest, givenAt, lastOf, lastGiven, lentAt, counted, due, PaysBack}
 use Rattle.histories.proofs.Largest.{largest-append, larger-none}
 use Rattle.histories.proofs.Fair.{Fair}
 use Rattle.histories.proofs.FairSteps.{step-fair}
@@ -103,3 +107,14 @@ module _ (ms : List Made) (t : TaskNo) (there : Exists ((reached ms) .tasks) t) 
       go : (b : Bool) → hasMutex (reached ms) t ≡ b → level ((reached ms) .tasks) t ≡ (if b then largest (counted t (moments ms)) else lastGiven t (moments ms))
       go true e = with-mutex e
       go false e = without-mutex e
+
+-- ── of the program: the calls are those of its lines
+-- after every line of every input
+pub program-pays-back : (ls : List (List ℕ)) (t : TaskNo) → PaysBack (programCalls ls) (answering fresh (replicate 9216 0) ls .kernel) t
+program-pays-back ls t = subst (λ (k : Kernel). PaysBack (programCalls ls) k t) (sym (program-reached ls)) (paid-back (programCalls ls) t)
+
+-- however the input is cut, at any time
+pub session-pays-back : (ts : List Turn) (t : TaskNo) → PaysBack (programCalls (linesOf (session-so-far ts .taken))) (afterTurns atStart ts .kernel) t
+session-pays-back ts t =
+    let h = session-so-far ts in
+    subst (λ (k : Kernel). PaysBack (programCalls (linesOf (h .taken))) k t) (sym (h .kernel)) (program-pays-back (linesOf (h .taken)) t)

@@ -1,5 +1,6 @@
 -- "Borrowed priority is paid back": what a task's effective priority is, told by the moments of the history alone.
 use Prim.Native.Nat.{ℕ}
+use mathlib.Core.Path.{_≡_}
 use mathlib.Core.Bool.{Bool, _&&_, _||_}
 use mathlib.Core.List.{List, [], _∷_, _++_, map}
 use Rattle.lists.specs.Choice.{if_then_else_}
@@ -10,9 +11,11 @@ use Rattle.slots.specs.Places.{waited}
 use Rattle.slots.specs.Objects.{heldBy}
 use Rattle.kernel.specs.Tables.{taskAt, kindAt}
 use Rattle.kernel.specs.Lines.{level}
+use Rattle.kernel.specs.Sentences.{Exists}
 use Rattle.kernel.specs.Asking.{is}
+use Rattle.promises.specs.History.{Made}
 use Rattle.histories.specs.Types.{TaskNo, Kernel}
-use Rattle.histories.specs.Moments.{Moment, hasMutex, appears, begins, accepted, tasksBelow}
+use Rattle.histories.specs.Moments.{Moment, moments, hasMutex, appears, begins, accepted, tasksBelow}
 
 -- the largest of several, 0 for none
 unfoldable pub largest : List ℕ → ℕ
@@ -58,3 +61,7 @@ counted t (m ∷ earlier) =
 -- "a task without a mutex has exactly the priority last given to it"; "A task with one has the largest of" those counted
 unfoldable pub due : Kernel → List Moment → TaskNo → ℕ
 due k past t = if hasMutex k t then largest (counted t past) else lastGiven t past
+
+-- a task that exists in k, which these calls reach, has the effective priority that their history says
+abbrev pub PaysBack : List Made → Kernel → TaskNo → Type 0
+PaysBack ms k t = Exists (k .tasks) t → level (k .tasks) t ≡ due k (moments ms) t

@@ -7,6 +7,8 @@ use native.Mathlib.Omega.{arith}
 use lib.Dec.{ltb}
 use borrow.Author.Tests.{ltb-true, ltb-false, eq-eqb}
 use Rattle.calls.specs.declared.TaskNo.{TaskNo}
+use Rattle.calls.specs.Numbers.{task}
+use Rattle.order.specs.Order.{ordered}
 use Rattle.order.specs.Tidy.{count}
 use Rattle.slots.specs.declared.Place.{Place}
 use Rattle.slots.specs.declared.Place.the-variants.{Free, Ready, Delayed, Waiting, Suspended}
@@ -18,7 +20,7 @@ use Rattle.kernel.specs.Sound.{sound}
 use Rattle.kernel.specs.Sentences.{Sound}
 use Rattle.kernel.proofs.Says.{sound-says}
 use Rattle.kernel.proofs.Every.{fresh-sound, step-kept}
-use Rattle.promises.specs.History.{Made, after, reached, states, Placed}
+use Rattle.promises.specs.History.{Made, after, reached, states, Placed, overlisted}
 
 -- soundness all the way
 pub after-sound : (k : Kernel) (ms : List Made) → sound k ≡ true → sound (after k ms) ≡ true
@@ -63,6 +65,11 @@ placed k S =
         let empty = S .no-higher h (level (k .tasks) t) (ltb-true _ _ q) in
         absurd (none-listed (t .0) (ap (count (t .0)) (sym empty) ∙ S .lines (level (k .tasks) t) t ∙ rw (e, eq-eqb (level (k .tasks) t) (level (k .tasks) t) refl)))
     go h t e false q = ltb-false _ _ q
+
+-- the order counts: lines and lists alone would let a suspended task stay listed
+pub overlisted-not-placed : Placed overlisted → ⊥
+unfolding overlisted ordered count taskAt
+overlisted-not-placed P = omega (arith, P .order (task 1))
 
 -- the first two sentences of the demand, after each history
 pub after-any-calls : (ms : List Made) → Placed (reached ms)

@@ -16,6 +16,7 @@ pub mod Faults
 pub mod AnyBlocks
 pub mod Progress
 pub mod LineSteps
+pub mod InWords
 pub mod LineForLine
 pub mod Reaches
 pub mod EachLine

@@ -191,7 +191,7 @@ lines-fed n m (b ∷ input) r p h c = go (eqb b 10) refl (lines-fed n m input)
         ∙ ap (λ (l : List ℕ). before (r .answers) (answering (r .kernel) (r .store) (linesOf l))) (append-snoc p b input)
 
 -- the end changes neither kernel nor store
-closed-stays : (n : ℕ) (k : Kernel) (s : List ℕ) (c : Cut) → (closed n k s c .kernel ≡ k) × (closed n k s c .store ≡ s)
+pub closed-stays : (n : ℕ) (k : Kernel) (s : List ℕ) (c : Cut) → (closed n k s c .kernel ≡ k) × (closed n k s c .store ≡ s)
 unfolding closed
 closed-stays n k s c = go (isEmpty c) (ltb n 256)
   where

@@ -3,17 +3,20 @@ use Prim.Native.Nat.{ℕ, _+_, _≤_}
 use mathlib.Core.Path.{_≡_}
 use mathlib.Core.Bool.{Bool, true, false}
 use mathlib.Core.List.{List, [], _∷_}
+use lib.ListN.{replicate}
 use Rattle.lists.specs.Choice.{if_then_else_}
 use Rattle.calls.specs.declared.TaskNo.{TaskNo}
 use Rattle.calls.specs.declared.ObjNo.{ObjNo}
 use Rattle.calls.specs.declared.Call.{Call}
-use Rattle.order.specs.Order.{listed}
+use Rattle.calls.specs.Numbers.{task, idle}
+use Rattle.order.specs.Order.{listed, ordered}
 use Rattle.order.specs.Tidy.{count}
 use Rattle.slots.specs.declared.Place.{Place}
 use Rattle.slots.specs.declared.Place.the-variants.{Free, Ready, Delayed, Waiting, Suspended}
 use Rattle.slots.specs.declared.Who.the-variants.{WaitersOf}
 use Rattle.slots.specs.Places.{isFree, isReady, isSuspended, isListed, waitsOn}
-use Rattle.slots.specs.Tasks.{inLine}
+use Rattle.slots.specs.Tasks.{freeTask, readyAt, brokenOff, inLine}
+use Rattle.slots.specs.Objects.{unused}
 use Rattle.kernel.specs.declared.Kernel.{Kernel}
 use Rattle.kernel.specs.Tables.{fresh, taskAt}
 use Rattle.kernel.specs.Lines.{line, those, level}
@@ -67,3 +70,16 @@ pub record Placed (k : Kernel) : Type 0 where
   pub lists : (o : ObjNo) (t : TaskNo) → count (t .0) (those (k .tasks) (WaitersOf o) (listed (k .order))) ≡ once (waitsOn o (taskAt (k .tasks) t .place))
   -- "and unless the scheduler is held no ready task outranks the running one"
   pub not-outranked : k .hold ≡ 0 → (t : TaskNo) → taskAt (k .tasks) t .place ≡ Ready → level (k .tasks) t ≤ level (k .tasks) (k .running)
+
+-- a kernel that is not to be: its order lists a suspended task, and a free slot twice, which no line and no list shows
+unfoldable pub overlisted : Kernel
+overlisted =
+    record {
+      tasks = readyAt 0 ∷ brokenOff (readyAt 3) ∷ replicate 14 freeTask;
+      objects = replicate 16 unused;
+      order = ordered (idle ∷ task 1 ∷ task 5 ∷ task 5 ∷ []);
+      running = idle;
+      tick = 0;
+      hold = 0;
+      pended = 0;
+    }

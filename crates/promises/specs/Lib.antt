@@ -4,6 +4,7 @@ pub mod Wrong
 pub mod Alike
 pub mod History
 pub mod Program
+pub mod ByLines
 pub mod Turns
 pub mod Reached
 pub mod TurnedAway

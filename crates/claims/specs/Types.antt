@@ -1,0 +1,11 @@
+-- The declared records and variants, under one name.
+pub use Rattle.calls.specs.declared.TaskNo.{TaskNo}
+pub use Rattle.calls.specs.declared.Call.{Call}
+pub use Rattle.calls.specs.declared.Answer.{Answer}
+pub use Rattle.calls.specs.declared.Asked.{Asked}
+pub use Rattle.journal.specs.declared.Read.{Read}
+pub use Rattle.journal.specs.declared.Written.{Written}
+pub use Rattle.kernel.specs.declared.Kernel.{Kernel}
+pub use Rattle.kernel.specs.declared.Step.{Step}
+pub use Rattle.kernel.specs.declared.Session.{Session}
+pub use Rattle.kernel.specs.declared.Served.{Served}
