@@ -1,20 +1,20 @@
 -- Hold, release and tick keep soundness.
 use Prim.Native.Nat.{ℕ, zero, suc, _+_, _-_, _<_, _≤_}
 use mathlib.Core.Path.{_≡_, refl, sym, ap, _∙_, subst}
-use mathlib.Core.Bool.{Bool, true, false, false≢true}
-use mathlib.Core.List.{List}
+use mathlib.Core.Bool.{Bool, true, false, _||_, false≢true}
+use mathlib.Core.List.{List, [], _∷_, _++_}
 use native.Mathlib.Omega.{arith}
 use lib.Dec.{eqb, ltb}
 use lib.ListN.{length}
 use borrow.Author.Tests.{eqb-true, eqb-false, ltb-true, ltb-false, lt-ltb, le-ltb}
 use Rattle.lists.specs.Choice.{if_then_else_}
-use Rattle.lists.specs.Lists.{upTo}
+use Rattle.lists.specs.Lists.{foldl, upTo}
 use Rattle.lists.proofs.Bools.{and-left, and-intro, not-off, or-off}
-use Rattle.calls.specs.Numbers.{task}
+use Rattle.calls.specs.Numbers.{task, sameTask}
 use Rattle.calls.specs.Asked.{asked}
 use Rattle.order.specs.Order.{listed}
 use Rattle.order.proofs.Lines.{one-number}
-use Rattle.slots.specs.Places.{wakesAt, outcomeDue}
+use Rattle.slots.specs.Places.{isFree, wakesAt, outcomeDue}
 use Rattle.slots.specs.Tasks.{placed}
 use Rattle.slots.specs.Fine.{wakesInRange, notDue}
 use Rattle.kernel.specs.Types.{TaskNo, Place, Free, Ready, Delayed, Waiting, Suspended, Task, Hold, Release, Tick, Kernel}
@@ -24,7 +24,7 @@ use Rattle.kernel.specs.Sound.{noHigher}
 use Rattle.kernel.specs.Sentences.{Sound}
 use Rattle.kernel.specs.Refusals.{noDepth, noTick}
 use Rattle.kernel.specs.Waits.{later, readied}
-use Rattle.kernel.specs.Ticks.{wokenIfDue, wakes, oneTick, turned, ticked, ticks, released, held}
+use Rattle.kernel.specs.Ticks.{wokenIfDue, wakes, byNumber, oneTick, turned, ticked, ticks, released, held}
 use Rattle.kernel.specs.Effects.{effect}
 use Rattle.kernel.proofs.Slots.{past-tasks}
 use Rattle.kernel.proofs.Passes.{Passed}
@@ -32,7 +32,7 @@ use Rattle.kernel.proofs.Nearly.{Owing, settled, Counted, Nearly, Runs}
 use Rattle.kernel.proofs.Slotted.{at-same, at-other, moved-nearly}
 use Rattle.kernel.proofs.Chosen.{sound-nearly, sound-runs}
 use Rattle.kernel.proofs.Blocks.{Same, readied-nearly}
-use Rattle.kernel.proofs.Keeps.{Keeps, ready-low}
+use Rattle.kernel.proofs.Keeps.{Keeps, exists-low, ready-low}
 
 -- ── the counts changed, and what is open told anew
 recount : {w : Owing} (k : Kernel) (h p : ℕ) → Nearly w k → Counted (withHold k h p) → Nearly w (withHold k h p)
@@ -84,12 +84,12 @@ reopen v k N D O =
 pub at-tick : (j : Kernel) {n : ℕ} → j .tick ≡ n → Nearly (settled n) j → Nearly (settled (j .tick)) j
 at-tick j e N = subst (λ (m : ℕ). Nearly (settled m) j) (sym e) N
 
--- ── the wakes: below n nobody is due any more
-abbrev waking : ℕ → ℕ → Owing
-waking tick n = record { due = λ t p. if ltb (t .0) n then notDue tick p else wakesInRange p; owes = λ t. false }
+-- ── the wakes: of those that were asked nobody is due any more
+abbrev waking : ℕ → (TaskNo → Bool) → Owing
+waking tick asked = record { due = λ t p. if asked t then notDue tick p else wakesInRange p; owes = λ t. false }
 
-record Woken (tick : ℕ) (n : ℕ) (j : Kernel) : Type 0 where
-  nearly : Nearly (waking tick n) j
+record Woken (tick : ℕ) (asked : TaskNo → Bool) (j : Kernel) : Type 0 where
+  nearly : Nearly (waking tick asked) j
   ticks : j .tick ≡ tick
 
 readied-ticks : (j : Kernel) (t : TaskNo) (n : ℕ) → Same (readied j t n) j
@@ -100,6 +100,14 @@ pub readied-at : (j : Kernel) (t : TaskNo) (n : ℕ) → t .0 < length (j .tasks
 unfolding readied toTail
 readied-at j t n h = at-same (j .tasks) t (placed (taskAt (j .tasks) t) Ready n) h
 
+-- who is due exists
+pub due-there : (n : ℕ) (p : Place) → wakesAt n p ≡ true → isFree p ≡ false
+due-there n Free e = absurd (false≢true e)
+due-there n Ready e = refl
+due-there n (Delayed w) e = refl
+due-there n (Waiting q w) e = refl
+due-there n Suspended e = refl
+
 -- who is due is delayed or waits, and its outcome is 1 or 2
 due-outcome : (p : Place) → outcomeDue p ≤ 3
 due-outcome Free = omega arith
@@ -108,57 +116,71 @@ due-outcome (Delayed w) = omega arith
 due-outcome (Waiting o w) = omega arith
 due-outcome Suspended = omega arith
 
-module _ (tick n : ℕ) (low : n < 16) (j : Kernel) (W : Woken tick n j) where
-  -- the test for the others does not change with n
-  step-due : (t : TaskNo) (p : Place) → (t .0 ≡ n → ⊥) → (if ltb (t .0) n then notDue tick p else wakesInRange p) ≡ true → (if ltb (t .0) (suc n) then notDue tick p else wakesInRange p) ≡ true
-  step-due t p d e = go (ltb (t .0) n) refl (ltb (t .0) (suc n)) refl e
+module _ (tick : ℕ) (asked : TaskNo → Bool) (x : TaskNo) (j : Kernel) (W : Woken tick asked j) where
+  abbrev askedToo : TaskNo → Bool
+  askedToo t = sameTask t x || asked t
+
+  in-range : (b : Bool) (p : Place) → (if b then notDue tick p else wakesInRange p) ≡ true → wakesInRange p ≡ true
+  in-range true p e = and-left (wakesInRange p) _ e
+  in-range false p e = e
+
+  -- every task after the step of x, if what stands in its slot then is not due
+  next-due : (us : List Task) → ((t : TaskNo) → (if asked t then notDue tick (taskAt us t .place) else wakesInRange (taskAt us t .place)) ≡ true) → notDue tick (taskAt us x .place) ≡ true
+      → (t : TaskNo) → (if askedToo t then notDue tick (taskAt us t .place) else wakesInRange (taskAt us t .place)) ≡ true
+  next-due us D h t = go (sameTask t x) refl
     where
-      go : (a : Bool) → ltb (t .0) n ≡ a → (b : Bool) → ltb (t .0) (suc n) ≡ b → (if a then notDue tick p else wakesInRange p) ≡ true → (if b then notDue tick p else wakesInRange p) ≡ true
-      go true q true r h = h
-      go true q false r h = absurd (omega (arith, ltb-true (t .0) n q, ltb-false (t .0) (suc n) r))
-      go false q true r h = absurd (d (omega (arith, ltb-false (t .0) n q, ltb-true (t .0) (suc n) r)))
-      go false q false r h = h
+      go : (b : Bool) → sameTask t x ≡ b → (if b || asked t then notDue tick (taskAt us t .place) else wakesInRange (taskAt us t .place)) ≡ true
+      go true e = rw (one-number t x (eqb-true (t .0) (x .0) e)) h
+      go false e = D t
 
-  -- every task after the step of slot n, if what slot n then holds is not due
-  next-due : (us : List Task) → ((t : TaskNo) → (if ltb (t .0) n then notDue tick (taskAt us t .place) else wakesInRange (taskAt us t .place)) ≡ true) → notDue tick (taskAt us (task n) .place) ≡ true
-      → (t : TaskNo) → (if ltb (t .0) (suc n) then notDue tick (taskAt us t .place) else wakesInRange (taskAt us t .place)) ≡ true
-  next-due us D h t = go (eqb (t .0) n) refl
-    where
-      go : (b : Bool) → eqb (t .0) n ≡ b → (if ltb (t .0) (suc n) then notDue tick (taskAt us t .place) else wakesInRange (taskAt us t .place)) ≡ true
-      go true e =
-          let q : t .0 ≡ n = eqb-true (t .0) n e in
-          rw (lt-ltb (t .0) (suc n) (omega arith)) (rw (← one-number t (task n) q) at h)
-      go false e = step-due t (taskAt us t .place) (eqb-false (t .0) n e) (D t)
+  ready-due : (b : Bool) → (if b then notDue tick Ready else wakesInRange Ready) ≡ true
+  ready-due true = refl
+  ready-due false = refl
 
-  open-here : (p : Place) → (if ltb n n then notDue tick p else wakesInRange p) ≡ wakesInRange p
-  open-here p = rw (le-ltb n n (omega arith))
-
-  woken-next : Woken tick (suc n) (wokenIfDue j n)
+  woken-next : Woken tick askedToo (wokenIfDue j x)
   unfolding wokenIfDue
-  woken-next = go (wakesAt (j .tick) (taskAt (j .tasks) (task n) .place)) refl
+  woken-next = go (wakesAt (j .tick) (taskAt (j .tasks) x .place)) refl
     where
-      ready-now : (m : ℕ) → notDue tick (taskAt (readied j (task n) m .tasks) (task n) .place) ≡ true
-      ready-now m = ap (λ (x : Task). notDue tick (x .place)) (readied-at j (task n) m (omega (arith, W .nearly .task-slots)))
+      low : wakesAt (j .tick) (taskAt (j .tasks) x .place) ≡ true → x .0 < 16
+      low e = exists-low (j .tasks) x (W .nearly .task-slots) (due-there (j .tick) (taskAt (j .tasks) x .place) e)
 
-      go : (b : Bool) → wakesAt (j .tick) (taskAt (j .tasks) (task n) .place) ≡ b → Woken tick (suc n) (if b then readied j (task n) (outcomeDue (taskAt (j .tasks) (task n) .place)) else j)
+      ready-now : (m : ℕ) → x .0 < 16 → notDue tick (taskAt (readied j x m .tasks) x .place) ≡ true
+      ready-now m l = ap (λ (y : Task). notDue tick (y .place)) (readied-at j x m (omega (arith, W .nearly .task-slots)))
+
+      go : (b : Bool) → wakesAt (j .tick) (taskAt (j .tasks) x .place) ≡ b → Woken tick askedToo (if b then readied j x (outcomeDue (taskAt (j .tasks) x .place)) else j)
       go true e =
-          let D : (if ltb n n then notDue tick Ready else wakesInRange Ready) ≡ true = open-here Ready in
-          let M = readied-nearly j (W .nearly) (task n) low (outcomeDue (taskAt (j .tasks) (task n) .place)) (due-outcome (taskAt (j .tasks) (task n) .place)) D in
-          record {
-            nearly = reopen (waking tick (suc n)) (readied j (task n) (outcomeDue (taskAt (j .tasks) (task n) .place))) M
-                (next-due _ (λ t. M .tasks t .due) (ready-now (outcomeDue (taskAt (j .tasks) (task n) .place)))) (λ t q. refl);
-            ticks = readied-ticks j (task n) _ .tick ∙ W .ticks;
-          }
+          let m = outcomeDue (taskAt (j .tasks) x .place) in
+          let M = readied-nearly j (W .nearly) x (low e) m (due-outcome (taskAt (j .tasks) x .place)) (ready-due (asked x)) in
+          record { nearly = reopen (waking tick askedToo) (readied j x m) M (next-due _ (λ t. M .tasks t .due) (ready-now m (low e))) (λ t q. refl); ticks = readied-ticks j x m .tick ∙ W .ticks }
       go false e =
-          record {
-            nearly = reopen (waking tick (suc n)) j (W .nearly) (next-due (j .tasks) (λ t. W .nearly .tasks t .due) (and-intro (wakesInRange (taskAt (j .tasks) (task n) .place)) _ (sym (open-here (taskAt (j .tasks) (task n) .place)) ∙ W .nearly .tasks (task n) .due) (not-off _ (rw (W .ticks) at e)))) (λ t q. refl);
-            ticks = W .ticks;
-          }
+          let p = taskAt (j .tasks) x .place in
+          let h = and-intro (wakesInRange p) _ (in-range (asked x) p (W .nearly .tasks x .due)) (not-off _ (rw (W .ticks) at e)) in
+          record { nearly = reopen (waking tick askedToo) j (W .nearly) (next-due (j .tasks) (λ t. W .nearly .tasks t .due) h) (λ t q. refl); ticks = W .ticks }
 
-woken-all : (tick n : ℕ) → n ≤ 16 → (k : Kernel) → Woken tick 0 k → Woken tick n (upTo wokenIfDue n k)
-unfolding upTo
-woken-all tick zero h k W = W
-woken-all tick (suc n) h k W = woken-next tick n (omega arith) (upTo wokenIfDue n k) (woken-all tick n (omega arith) k W)
+-- those asked after the wakes of l
+askedAll : (TaskNo → Bool) → List TaskNo → TaskNo → Bool
+askedAll asked [] = asked
+askedAll asked (x ∷ l) = askedAll (λ t. sameTask t x || asked t) l
+
+woken-all : (tick : ℕ) (asked : TaskNo → Bool) (l : List TaskNo) (j : Kernel) → Woken tick asked j → Woken tick (askedAll asked l) (foldl wokenIfDue j l)
+unfolding foldl askedAll
+woken-all tick asked [] j W = W
+woken-all tick asked (x ∷ l) j W = woken-all tick (λ t. sameTask t x || asked t) l (wokenIfDue j x) (woken-next tick asked x j W)
+
+-- by number, all are asked
+asked-more : (asked : TaskNo → Bool) (l m : List TaskNo) → askedAll asked (l ++ m) ≡ askedAll (askedAll asked l) m
+unfolding askedAll
+asked-more asked [] m = refl
+asked-more asked (x ∷ l) m = asked-more (λ t. sameTask t x || asked t) l m
+
+all-asked : (asked : TaskNo → Bool) (n : ℕ) (t : TaskNo) → t .0 < n → askedAll asked (byNumber n) t ≡ true
+unfolding byNumber askedAll
+all-asked asked zero t h = absurd (omega arith)
+all-asked asked (suc n) t h = ap (λ (f : TaskNo → Bool). f t) (asked-more asked (byNumber n) (task n ∷ [])) ∙ go (eqb (t .0) n) refl (all-asked asked n t)
+  where
+    go : (b : Bool) → eqb (t .0) n ≡ b → (t .0 < n → askedAll asked (byNumber n) t ≡ true) → (b || askedAll asked (byNumber n) t) ≡ true
+    go true e ih = refl
+    go false e ih = ih (omega (arith, eqb-false (t .0) n e))
 
 -- ── what the wakes leave: the hold, who runs, and who was ready
 pub record After (k j : Kernel) : Type 0 where
@@ -169,21 +191,21 @@ pub record After (k j : Kernel) : Type 0 where
 after-trans : {k j i : Kernel} → After k j → After j i → After k i
 after-trans a b = record { hold = b .hold ∙ a .hold; running = b .running ∙ a .running; ready = λ t e. b .ready t (a .ready t e) }
 
-woken-after : (j : Kernel) (n : ℕ) → After j (wokenIfDue j n)
+woken-after : (j : Kernel) (u : TaskNo) → After j (wokenIfDue j u)
 unfolding wokenIfDue readied toTail
-woken-after j n = go (wakesAt (j .tick) (taskAt (j .tasks) (task n) .place)) refl
+woken-after j u = go (wakesAt (j .tick) (taskAt (j .tasks) u .place)) refl
   where
-    go : (b : Bool) → wakesAt (j .tick) (taskAt (j .tasks) (task n) .place) ≡ b → After j (if b then readied j (task n) (outcomeDue (taskAt (j .tasks) (task n) .place)) else j)
-    go true e = record { hold = refl; running = refl; ready = λ t q. ap (λ (x : Task). x .place) (at-other (j .tasks) (task n) _ t (other t q)) ∙ q }
+    go : (b : Bool) → wakesAt (j .tick) (taskAt (j .tasks) u .place) ≡ b → After j (if b then readied j u (outcomeDue (taskAt (j .tasks) u .place)) else j)
+    go true e = record { hold = refl; running = refl; ready = λ t q. ap (λ (x : Task). x .place) (at-other (j .tasks) u _ t (other t q)) ∙ q }
       where
-        other : (t : TaskNo) → taskAt (j .tasks) t .place ≡ Ready → t .0 ≡ n → ⊥
-        other t q z = false≢true (sym (ap (wakesAt (j .tick)) (sym (ap (λ v. taskAt (j .tasks) v .place) (one-number t (task n) z)) ∙ q)) ∙ e)
+        other : (t : TaskNo) → taskAt (j .tasks) t .place ≡ Ready → t .0 ≡ u .0 → ⊥
+        other t q z = false≢true (sym (ap (wakesAt (j .tick)) (sym (ap (λ v. taskAt (j .tasks) v .place) (one-number t u z)) ∙ q)) ∙ e)
     go false e = record { hold = refl; running = refl; ready = λ t q. q }
 
-all-after : (n : ℕ) (k : Kernel) → After k (upTo wokenIfDue n k)
-unfolding upTo
-all-after zero k = record { hold = refl; running = refl; ready = λ t e. e }
-all-after (suc n) k = after-trans (all-after n k) (woken-after (upTo wokenIfDue n k) n)
+all-after : (l : List TaskNo) (k : Kernel) → After k (foldl wokenIfDue k l)
+unfolding foldl
+all-after [] k = record { hold = refl; running = refl; ready = λ t e. e }
+all-after (u ∷ l) k = after-trans (woken-after k u) (all-after l (wokenIfDue k u))
 
 -- ── one tick's count and wakes
 pub record Ticked (k j : Kernel) : Type 0 where
@@ -193,13 +215,16 @@ pub record Ticked (k j : Kernel) : Type 0 where
 pub one-tick : (k : Kernel) → Nearly (settled (k .tick)) k → Ticked k (oneTick k)
 unfolding oneTick wakes
 one-tick k N =
-    let W = woken-all (later (k .tick) 1) 16 (omega arith) (withTick k (later (k .tick) 1)) start in
+    let next = withTick k (later (k .tick) 1) in
+    let j = foldl wokenIfDue next (byNumber 16) in
+    let W = woken-all (later (k .tick) 1) (λ t. false) (byNumber 16) next start in
+    let A = all-after (byNumber 16) next in
     record {
-      nearly = at-tick (upTo wokenIfDue 16 (withTick k (later (k .tick) 1))) (W .ticks) (reopen (settled (later (k .tick) 1)) (upTo wokenIfDue 16 (withTick k (later (k .tick) 1))) (W .nearly) (all-woken (upTo wokenIfDue 16 (withTick k (later (k .tick) 1))) (W .nearly)) (λ t q. refl));
-      after = record { hold = all-after 16 (withTick k (later (k .tick) 1)) .hold; running = all-after 16 (withTick k (later (k .tick) 1)) .running; ready = all-after 16 (withTick k (later (k .tick) 1)) .ready };
+      nearly = at-tick j (W .ticks) (reopen (settled (later (k .tick) 1)) j (W .nearly) (all-woken j (W .nearly)) (λ t q. refl));
+      after = record { hold = A .hold; running = A .running; ready = A .ready };
     }
   where
-    start : Woken (later (k .tick) 1) 0 (withTick k (later (k .tick) 1))
+    start : Woken (later (k .tick) 1) (λ t. false) (withTick k (later (k .tick) 1))
     start =
         record {
           nearly = record {
@@ -215,7 +240,7 @@ one-tick k N =
               at-least = N .tasks t .at-least;
               range = N .tasks t .range;
               equal = N .tasks t .equal;
-              due = rw (le-ltb (t .0) 0 (omega arith)) (and-left (wakesInRange (taskAt (k .tasks) t .place)) _ (N .tasks t .due));
+              due = (and-left (wakesInRange (taskAt (k .tasks) t .place)) _ (N .tasks t .due));
               outcome = N .tasks t .outcome;
               free = N .tasks t .free;
             };
@@ -227,11 +252,11 @@ one-tick k N =
           ticks = refl;
         }
 
-    all-woken : (j : Kernel) → Nearly (waking (later (k .tick) 1) 16) j → (t : TaskNo) → notDue (later (k .tick) 1) (taskAt (j .tasks) t .place) ≡ true
+    all-woken : (j : Kernel) → Nearly (waking (later (k .tick) 1) (askedAll (λ u. false) (byNumber 16))) j → (t : TaskNo) → notDue (later (k .tick) 1) (taskAt (j .tasks) t .place) ≡ true
     all-woken j M t = go (ltb (t .0) 16) refl
       where
         go : (b : Bool) → ltb (t .0) 16 ≡ b → notDue (later (k .tick) 1) (taskAt (j .tasks) t .place) ≡ true
-        go true e = rw e at (M .tasks t .due)
+        go true e = rw (all-asked (λ u. false) 16 t (ltb-true (t .0) 16 e)) at (M .tasks t .due)
         go false e = let past : length (j .tasks) ≤ t .0 = omega (arith, ltb-false (t .0) 16 e, M .task-slots) in rw (past-tasks (j .tasks) t past)
 
 -- ── the calls

@@ -19,13 +19,8 @@ pub mod Heads
 pub mod Blocks
 pub mod Keeps
 pub mod KeepTasks
+pub mod Jumps
 pub mod KeepTicks
-pub mod Moments
-pub mod Turns
-pub mod Whens
-pub mod Noted
-pub mod Awakes
-pub mod Together
 pub mod KeepObjects
 pub mod KeepMutexes
 pub mod KeepQueues

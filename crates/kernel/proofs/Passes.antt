@@ -15,7 +15,7 @@ use Rattle.kernel.specs.Tables.{freeSlot, freeObject}
 use Rattle.kernel.specs.Asking.{makes, newNumber}
 use Rattle.kernel.specs.Sound.{sound}
 use Rattle.kernel.specs.Refusals.{seen, outOfRange, namesNone, wrongSize, notForIdle, notWithHold, noSlot, inUse, notHis, hisAlready, notSuspended, mustWait, noDepth, noTick, table, laterRow}
-use Rattle.kernel.specs.Promises.{Steady, Timely}
+use Rattle.kernel.specs.Promises.{Steady}
 use Rattle.kernel.specs.Sentences.{Sound}
 use Rattle.kernel.proofs.Slots.{past-tasks}
 use Rattle.kernel.proofs.Says.{sound-says}
@@ -150,9 +150,3 @@ sound-steady k e = record { runs = go (ltb (k .running .0) 16) refl; fit = s .qu
         let past : length (k .tasks) ≤ k .running .0 = omega (arith, ltb-false (k .running .0) 16 h, s .task-slots) in
         let z : _≡_ {A = Bool} false true = ap isReady (sym (ap (λ (x : Task). x .place) (past-tasks (k .tasks) (k .running) past)) ∙ s .runs) in
         absurd (false≢true z)
-
--- what ticks lean on
-pub sound-timely : (k : Kernel) → sound k ≡ true → Timely k
-sound-timely k e =
-    let s = sound-says k e in
-    record { task-slots = s .task-slots; order-places = s .order-places; listing = s .listing; delay-range = s .delay-range; wait-range = s .wait-range; tick-range = s .tick-range }

@@ -10,7 +10,6 @@ pub mod Thirds
 pub mod Waits
 pub mod Loans
 pub mod Ticks
-pub mod Passing
 pub mod Items
 pub mod Effects
 pub mod Step

@@ -1,31 +1,41 @@
 -- The tick: count and wakes, the turn of the line; and the release that runs pended ticks.
-use Prim.Native.Nat.{ℕ, _+_, _-_}
+use Prim.Native.Nat.{ℕ, zero, suc, _+_, _-_, min}
+use mathlib.Core.List.{List, [], _∷_, _++_}
 use lib.Dec.{eqb, ltb}
 use Rattle.lists.specs.Choice.{if_then_else_}
-use Rattle.lists.specs.Lists.{upTo}
+use Rattle.lists.specs.Lists.{foldl, upTo}
 use Rattle.calls.specs.Numbers.{task}
 use Rattle.order.specs.Order.{listed}
-use Rattle.slots.specs.Places.{wakesAt, outcomeDue}
-use Rattle.kernel.specs.Types.{Kernel}
+use Rattle.slots.specs.Places.{wakesAt, outcomeDue, away}
+use Rattle.kernel.specs.Types.{TaskNo, Task, Kernel}
 use Rattle.kernel.specs.Tables.{taskAt, withTick, withHold}
 use Rattle.kernel.specs.Lines.{level, toTail}
 use Rattle.kernel.specs.Sound.{noHigher}
 use Rattle.kernel.specs.Waits.{later, readied}
 
--- the task of slot n, made ready if it is due
-unfoldable pub wokenIfDue : Kernel → ℕ → Kernel
-wokenIfDue k n =
-    if wakesAt (k .tick) (taskAt (k .tasks) (task n) .place)
-    then readied k (task n) (outcomeDue (taskAt (k .tasks) (task n) .place))
+-- the task t, made ready if it is due
+unfoldable pub wokenIfDue : Kernel → TaskNo → Kernel
+wokenIfDue k t =
+    if wakesAt (k .tick) (taskAt (k .tasks) t .place)
+    then readied k t (outcomeDue (taskAt (k .tasks) t .place))
     else k
 
--- "the due tasks are made ready in order of task number"
-unfoldable pub wakes : Kernel → Kernel
-wakes k = upTo wokenIfDue 16 k
+-- of those that l lists the due are made ready, in its order
+unfoldable pub wakes : Kernel → List TaskNo → Kernel
+wakes k l = foldl wokenIfDue k l
 
--- "the count goes up, then the due tasks are made ready"
+-- "in order of task number": the tasks below n
+unfoldable pub byNumber : ℕ → List TaskNo
+byNumber zero = []
+byNumber (suc n) = byNumber n ++ (task n ∷ [])
+
+-- "the count goes up, then the due tasks are made ready in order of task number"
 unfoldable pub oneTick : Kernel → Kernel
-oneTick k = wakes (withTick k (later (k .tick) 1))
+oneTick k = wakes (withTick k (later (k .tick) 1)) (byNumber 16)
+
+-- how many ticks pass before the one on which a task is next due; 4,294,967,295 where none has a wake tick
+unfoldable pub untilDue : ℕ → List Task → ℕ
+untilDue now ts = foldl (λ n x. min n (away now (x .place))) 4294967295 ts
 
 -- "then, if no higher line is occupied, the running task goes to the tail of its line"
 unfoldable pub turned : Kernel → Kernel

@@ -1,7 +1,6 @@
 // The kernel: a value that goes in with a call, and comes back with the next state, the running task and an answer.
 mod answering;
 mod asking;
-mod dues;
 mod endings;
 mod lines;
 mod loans;

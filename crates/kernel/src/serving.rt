@@ -10,7 +10,7 @@ ghost use Rattle.kernel.specs.Types.{Create, Delete, Suspend, Resume, Se
 ghost use Rattle.kernel.specs.Tables.{freeSlot, freeObject};
 ghost use Rattle.kernel.specs.Effects.{handedOn};
 ghost use Rattle.kernel.specs.Step.{stored};
-ghost use Rattle.kernel.specs.Promises.{Steady, Timely, Accepts};
+ghost use Rattle.kernel.specs.Promises.{Steady, Accepts};
 use crate::Kernel;
 use crate::Step;
 use calls::ObjNo;
@@ -95,7 +95,7 @@ impl Kernel {
     }
 
     pub(crate) fn release(self) -> Step
-        requires { ⌜ Timely self × (eqb (self .hold) 0 ≡ false) ⌝ }
+        requires { ⌜ eqb (self .hold) 0 ≡ false ⌝ }
         ensures { λ r. ⌜ Accepts self Release r ⌝ }
     {
         let u = self.running;
@@ -191,7 +191,7 @@ impl Kernel {
     }
 
     pub(crate) fn tick(self) -> Step
-        requires { ⌜ Timely self × ((ltb 0 (self .hold) && eqb (self .pended) 65535) ≡ false) ⌝ }
+        requires { ⌜ (ltb 0 (self .hold) && eqb (self .pended) 65535) ≡ false ⌝ }
         ensures { λ r. ⌜ Accepts self Tick r ⌝ }
     {
         let u = self.running;

@@ -1,6 +1,6 @@
 // Where a task stands.
 ghost use mathlib.Core.Path.{_≡_};
-ghost use Rattle.slots.specs.Places.{isFree, isReady, isSuspended, isBlocked, isListed, waitsOn, waited, outcomeDue, ahead, wakeAway, away};
+ghost use Rattle.slots.specs.Places.{isFree, isReady, isSuspended, isBlocked, isListed, waitsOn, waited, isAt, wakesAt, outcomeDue, ahead, wakeAway, away};
 use crate::Place;
 use crate::Wake;
 use calls::ObjNo;
@@ -14,6 +14,15 @@ fn ahead(now: u32, w: u32) -> u32
 }
 
 impl Wake {
+    fn is_at(self, n: u32) -> bool
+        ensures { λ r. ⌜ r ≡ isAt n self ⌝ }
+    {
+        match self {
+            Wake::Never => false,
+            Wake::At(w) => w == n,
+        }
+    }
+
     pub fn away(self, now: u32) -> u32
         ensures { λ r. ⌜ r ≡ wakeAway now self ⌝ }
     {
@@ -102,6 +111,19 @@ impl Place {
             Place::Delayed(_) => ObjNo::of(16),
             Place::Waiting(o, _) => o,
             Place::Suspended => ObjNo::of(16),
+        }
+    }
+
+    // It is due at the count `n`.
+    pub fn wakes_at(self, n: u32) -> bool
+        ensures { λ r. ⌜ r ≡ wakesAt n self ⌝ }
+    {
+        match self {
+            Place::Free => false,
+            Place::Ready => false,
+            Place::Delayed(w) => w == n,
+            Place::Waiting(_, w) => w.is_at(n),
+            Place::Suspended => false,
         }
     }
 

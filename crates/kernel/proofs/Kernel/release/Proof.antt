@@ -2,7 +2,6 @@ use borrow.Author.Needs.{needs}
 use Rattle.calls.specs.Asked.{asked}
 use Rattle.kernel.proofs.Ends.{ends}
 use Rattle.kernel.proofs.Passes.{above-0}
-use Rattle.kernel.proofs.Together.{timely-held}
 use Rattle.kernel.specs.Effects.{effect}
 use Rattle.kernel.specs.Step.{answered}
 use Rattle.kernel.specs.Ticks.{released}
@@ -17,13 +16,13 @@ with-hold-requires : tie.Need-with-hold-requires
 with-hold-requires c κs = search needs
 
 ticks-requires : tie.Need-ticks-requires
-ticks-requires c κs = timely-held (c .before .before .before .before .args .self) 0 0 (c .with-hold .ensures) (c .before .before .before .before .pre .0)
+ticks-requires c κs = search needs
 
 ended-requires : tie.Need-ended-requires
 ended-requires c κs = search needs
 
 sub-with-hold : tie.Need-sub-with-hold
-sub-with-hold c = let h = above-0 (c .before .before .before .before .args .self .hold) (c .before .before .before .before .pre .1) in omega arith
+sub-with-hold c = let h = above-0 (c .before .before .before .before .args .self .hold) (c .before .before .before .before .pre) in omega arith
 
 with-hold-requires-2 : tie.Need-with-hold-requires-2
 with-hold-requires-2 c κs = search needs

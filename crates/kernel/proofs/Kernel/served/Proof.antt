@@ -1,6 +1,6 @@
 use borrow.Author.Needs.{needs}
 use Rattle.calls.specs.Asked.{asked}
-use Rattle.kernel.proofs.Passes.{passed, create-fits, set-fits, queue-fits, task-number, queue-number, mutex-number, hold-fits, release-fits, tick-fits, sound-steady, sound-timely}
+use Rattle.kernel.proofs.Passes.{passed, create-fits, set-fits, queue-fits, task-number, queue-number, mutex-number, hold-fits, release-fits, tick-fits, sound-steady}
 use Rattle.kernel.specs.Step.{stored}
 use lib.ListN.{length}
 use native.Mathlib.Omega.{arith}
@@ -77,7 +77,7 @@ enum-told-3 : tie.Need-enum-told-3
 enum-told-3 c = search needs
 
 release-requires : tie.Need-release-requires
-release-requires c κs = (sound-timely (c .before .before .before .before .before .before .before .args .self) (c .before .before .before .before .before .before .before .pre .0), release-fits (c .before .before .before .before .before .before .before .args .self) (c .enum-told3 .given .1) (passed (c .before .before .before .before .before .before .before .args .self) (asked (c .before .before .before .before .before .before .before .args .call)) (length (c .before .before .before .before .before .before .before .args .item .now)) (length (c .before .before .before .before .before .before .before .args .store .now)) (c .before .before .before .before .before .before .before .pre .1) .deep))
+release-requires c κs = release-fits (c .before .before .before .before .before .before .before .args .self) (c .enum-told3 .given .1) (passed (c .before .before .before .before .before .before .before .args .self) (asked (c .before .before .before .before .before .before .before .args .call)) (length (c .before .before .before .before .before .before .before .args .item .now)) (length (c .before .before .before .before .before .before .before .args .store .now)) (c .before .before .before .before .before .before .before .pre .1) .deep)
 
 enum-known-call-7 : tie.Need-enum-known-call-7
 enum-known-call-7 c = search needs
@@ -131,7 +131,7 @@ enum-told-5 : tie.Need-enum-told-5
 enum-told-5 c = search needs
 
 tick-requires : tie.Need-tick-requires
-tick-requires c κs = (sound-timely (c .before .before .before .before .before .before .before .args .self) (c .before .before .before .before .before .before .before .pre .0), tick-fits (c .before .before .before .before .before .before .before .args .self) (c .enum-told5 .given .1) (passed (c .before .before .before .before .before .before .before .args .self) (asked (c .before .before .before .before .before .before .before .args .call)) (length (c .before .before .before .before .before .before .before .args .item .now)) (length (c .before .before .before .before .before .before .before .args .store .now)) (c .before .before .before .before .before .before .before .pre .1) .ticks))
+tick-requires c κs = tick-fits (c .before .before .before .before .before .before .before .args .self) (c .enum-told5 .given .1) (passed (c .before .before .before .before .before .before .before .args .self) (asked (c .before .before .before .before .before .before .before .args .call)) (length (c .before .before .before .before .before .before .before .args .item .now)) (length (c .before .before .before .before .before .before .before .args .store .now)) (c .before .before .before .before .before .before .before .pre .1) .ticks)
 
 returns : tie.Need-returns
 unfolding stored asked

@@ -13,7 +13,7 @@ use Rattle.kernel.proofs.Kernel.tick.Statement.{statement}
 use Rattle.kernel.proofs.Kernel.tick.Tie as tie
 
 add-with-hold : tie.Need-add-with-hold
-add-with-hold c = let h = tick-room (c .before .before .before .before .args .self .hold) (c .before .before .before .before .args .self .pended) (c .before .if1 .taken) (omega arith) (c .before .before .before .before .pre .1) in omega arith
+add-with-hold c = let h = tick-room (c .before .before .before .before .args .self .hold) (c .before .before .before .before .args .self .pended) (c .before .if1 .taken) (omega arith) (c .before .before .before .before .pre) in omega arith
 
 with-hold-requires : tie.Need-with-hold-requires
 with-hold-requires c κs = search needs
