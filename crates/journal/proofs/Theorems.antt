@@ -5,10 +5,10 @@ use mathlib.Core.Logic.{inl, inr, ⊎-elim}
 use mathlib.Core.Bool.{Bool, true, false, false≢true}
 use mathlib.Core.List.{List, [], _∷_, _++_, map}
 use native.Mathlib.Omega.{arith}
-use lib.ListN.{length, take, drop, replicate}
+use lib.ListN.{length, take, drop, replicate, length-append}
 use lib.Seq.{sets, sets-eq, take-at}
 use lib.Dec.{eqb, ltb}
-use borrow.Author.Tests.{eq-eqb, le-ltb, ltb-false}
+use borrow.Author.Tests.{eqb-true, eq-eqb, le-ltb, ltb-false}
 use Rattle.lists.specs.Choice.{if_then_else_}
 use Rattle.calls.specs.Table.{called}
 use Rattle.fields.specs.Item.{filled}
@@ -135,46 +135,68 @@ isCount (count n) = true
 isCount (aCall w) = false
 isCount (refusal n) = false
 
-countOf : Told → ℕ
-countOf (count n) = n
-countOf (aCall w) = 0
-countOf (refusal n) = 0
+numberIn : Told → ℕ
+numberIn (count n) = n
+numberIn (aCall w) = 0
+numberIn (refusal n) = n
 
--- what a writer that counted has left
-record Counted (k : ℕ) (text l : List ℕ) (n : ℕ) (m : List ℕ) : Type 0 where
-  none : eqb k 0 ≡ true
-  long : n ≡ length text
-  line : m ≡ text ++ drop (length text) l
+-- a writer that counted has refused nothing ..
+pub record Counted (k : ℕ) (text l : List ℕ) (n : ℕ) (m : List ℕ) : Type 0 where
+  pub none : k ≡ 0
+  pub long : n ≡ length text
+  pub line : m ≡ text ++ drop (length text) l
 
-counted : (k : ℕ) (text l : List ℕ) (n : ℕ) (m : List ℕ) → Writes k text l (Count n) m → Counted k text l n m
-unfolding isCount countOf
+pub counted : (k : ℕ) (text l : List ℕ) (n : ℕ) (m : List ℕ) → Writes k text l (Count n) m → Counted k text l n m
+unfolding isCount numberIn
 counted k text l n m f = go (eqb k 0) refl (f .answer) (f .line)
   where
     go : (z : Bool) → eqb k 0 ≡ z → count n ≡ (if z then count (length text) else refusal k) → m ≡ (if z then text ++ drop (length text) l else l)
         → Counted k text l n m
-    go true e a b = record { none = e; long = ap countOf a; line = b }
+    go true e a b = record { none = eqb-true k 0 e; long = ap numberIn a; line = b }
     go false e a b = absurd (false≢true (sym (ap isCount a)))
 
-within-64 : (l b : List ℕ) → eqb (lineRefusal l (itemRefusal b)) 0 ≡ true → length b ≤ 64
+-- .. and one that refused gave the number
+pub turned-away : (k : ℕ) (text l : List ℕ) (n : ℕ) (m : List ℕ) → Writes k text l (NotWritten n) m → (eqb k 0 ≡ false) × (n ≡ k)
+unfolding isCount numberIn
+turned-away k text l n m f = go (eqb k 0) refl (f .answer)
+  where
+    go : (z : Bool) → eqb k 0 ≡ z → refusal n ≡ (if z then count (length text) else refusal k) → (eqb k 0 ≡ false) × (n ≡ k)
+    go true e a = absurd (false≢true (ap isCount a))
+    go false e a = (e, ap numberIn a)
+
+-- an item that is not refused has at most 64 bytes
+pub within-64 : (l b : List ℕ) → lineRefusal l (itemRefusal b) ≡ 0 → length b ≤ 64
 within-64 l b = go (eqb (length l) 256) (ltb 64 (length b)) refl
   where
-    go : (x y : Bool) → ltb 64 (length b) ≡ y → eqb (if x then (if y then 6 else 0) else 2) 0 ≡ true → length b ≤ 64
-    go true true t e = absurd (false≢true e)
+    go : (x y : Bool) → ltb 64 (length b) ≡ y → _≡_ {A = ℕ} (if x then (if y then 6 else 0) else 2) 0 → length b ≤ 64
+    go true true t e = absurd (omega (arith, e))
     go true false t e = ltb-false 64 (length b) t
-    go false y t e = absurd (false≢true e)
+    go false y t e = absurd (omega (arith, e))
 
 -- what was written is the call's line, and the call has it
-pub as-written : (c : Call) (b l : List ℕ) (n : ℕ) (m : List ℕ) → WritesCall c b l (Count n) m → (take n m ≡ lineOf c b) × HasLine c b
+pub record AsWritten (c : Call) (b l : List ℕ) (n : ℕ) (m : List ℕ) : Type 0 where
+  pub none : lineRefusal l (itemRefusal b) ≡ 0
+  pub has : HasLine c b
+  pub front : take n m ≡ lineOf c b
+  pub within : n ≤ length m
+
+pub as-written : (c : Call) (b l : List ℕ) (n : ℕ) (m : List ℕ) → WritesCall c b l (Count n) m → AsWritten c b l n m
 as-written c b l n m f =
-    let g = counted _ (lineOf c b) l n m (f .written) in
-    (ap (take n) (g .line) ∙ take-at (lineOf c b) (drop (length (lineOf c b)) l) n (sym (g .long)), f .has (within-64 l b (g .none)))
+    let t = lineOf c b in
+    let g = counted _ t l n m (f .written) in
+    record {
+      none = g .none;
+      has = f .has (within-64 l b (g .none));
+      front = ap (take n) (g .line) ∙ take-at t (drop (length t) l) n (sym (g .long));
+      within = omega (arith, g .long, ap length (g .line), length-append t (drop (length t) l));
+    }
 
 -- "reading it gives back the call": what the writer counted is read as the call itself and its item
 pub written-reads-back : (c : Call) (b l : List ℕ) (n : ℕ) (m : List ℕ) (r : Read) → WritesCall c b l (Count n) m → ReadsAs (take n m) r
     → (r .answer ≡ Says c) × Tells r (aCall (called c)) b
 written-reads-back c b l n m r f g =
     let w = as-written c b l n m f in
-    let t = round-trip c b r (w .1) (rw (w .0) at g) in
+    let t = round-trip c b r (w .has) (rw (w .front) at g) in
     (one-reading (r .answer) (Says c) (t .answer), t)
 
 -- "each call whose item is at most 64 bytes has one journal line": with 256 bytes lent it is written, and never refused ..
@@ -198,7 +220,7 @@ pub one-written-call : (c d : Call) (a b l k : List ℕ) (i j : ℕ) (m o : List
 one-written-call c d a b l k i j m o f g e =
     let v = as-written c a l i m f in
     let w = as-written d b k j o g in
-    one-call c d a b (v .1) (w .1) (sym (v .0) ∙ e ∙ w .0)
+    one-call c d a b (v .has) (w .has) (sym (v .front) ∙ e ∙ w .front)
 
 -- ---- a line's length
 
