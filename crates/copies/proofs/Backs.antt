@@ -1,7 +1,7 @@
 -- A call comes back from its line, by the writer's and the reader's promises alone.
 use Prim.Native.Nat.{ℕ, _≤_}
 use mathlib.Core.Path.{_≡_, refl, sym, ap, _∙_}
-use mathlib.Core.Bool.{Bool, true, false, false≢true}
+use mathlib.Core.Bool.{Bool, true, false}
 use mathlib.Core.List.{List, []}
 use native.Mathlib.Omega.{arith}
 use lib.Dec.{eqb}
@@ -14,7 +14,7 @@ use Rattle.journal.specs.declared.Reading.{Reading}
 use Rattle.journal.specs.declared.Reading.the-variants.{Says, Refused}
 use Rattle.journal.specs.declared.Written.{Written}
 use Rattle.journal.specs.declared.Written.the-variants.{Count, Refused as NotWritten}
-use Rattle.journal.specs.Told.{Told, aCall, refusal, count, reads}
+use Rattle.journal.specs.Told.{refusal}
 use Rattle.journal.specs.Promise.{Tells, ReadsAs, lineRefusal, itemRefusal, WritesCall}
 use Rattle.journal.proofs.Theorems.{one-reading, within-64, as-written, turned-away, written-reads-back}
 use Rattle.copies.specs.Back.{Back, BackOr, ReadsBack}

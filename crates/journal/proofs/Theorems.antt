@@ -186,7 +186,7 @@ as-written c b l n m f =
     let g = counted _ t l n m (f .written) in
     record {
       none = g .none;
-      has = f .has (within-64 l b (g .none));
+      has = f .has (omega (arith, within-64 l b (g .none)));
       front = ap (take n) (g .line) ∙ take-at t (drop (length t) l) n (sym (g .long));
       within = omega (arith, g .long, ap length (g .line), length-append t (drop (length t) l));
     }

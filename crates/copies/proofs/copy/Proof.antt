@@ -3,7 +3,6 @@ use mathlib.Core.Path.{_≡_, sym}
 use native.Mathlib.Omega.{arith}
 use lib.ListN.{length}
 use lib.Seq.{length-take-le}
-use Rattle.lists.proofs.Loops.{length-mapped}
 use Rattle.copies.proofs.Backs.{back-within}
 use Rattle.copies.proofs.copy.Statement.{statement}
 use Rattle.copies.proofs.copy.Tie as tie

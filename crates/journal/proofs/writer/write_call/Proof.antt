@@ -1,4 +1,5 @@
 use borrow.Author.Needs.{needs}
+use native.Mathlib.Omega.{arith}
 use Rattle.journal.proofs.Fit.{its-line}
 use Rattle.journal.proofs.Stores.{line-refused, item-refused, call-written}
 use Rattle.journal.proofs.writer.write_call.Statement.{statement}
@@ -10,7 +11,7 @@ returns c =
     let a = f .before .before .before .args in
     record {
       written = line-refused _ _ _ (c .if1 .taken);
-      has = its-line (a .call) (a .item .now) (f .frame-of .ensures .1) (f .before .before .shared-slice-known .given);
+      has = λ k. its-line (a .call) (a .item .now) (f .frame-of .ensures .1) (f .before .before .shared-slice-known .given) (omega (arith, k));
     }
 
 frame-of-requires : tie.Need-frame-of-requires
@@ -30,7 +31,7 @@ returns-2 c =
     record {
       written = item-refused (a .call) (a .item .now) (a .line .now) (s .before .if1 .left) _ _ _ (f .frame-of .ensures .0) (s .shape-of .ensures)
           (c .before .both .ensures) (c .if2 .taken);
-      has = its-line (a .call) (a .item .now) (f .frame-of .ensures .1) (f .before .before .shared-slice-known .given);
+      has = λ k. its-line (a .call) (a .item .now) (f .frame-of .ensures .1) (f .before .before .shared-slice-known .given) (omega (arith, k));
     }
 
 put-frame-requires : tie.Need-put-frame-requires
@@ -49,7 +50,7 @@ returns-3 c =
     record {
       written = call-written (a .call) (a .item .now) (a .line .now) (s .before .if1 .left) _ _ _ (f .frame-of .ensures .0) (s .shape-of .ensures)
           (t .before .both .ensures) _ _ (t .if2 .left) (p .put-frame .ensures);
-      has = its-line (a .call) (a .item .now) (f .frame-of .ensures .1) (f .before .before .shared-slice-known .given);
+      has = λ k. its-line (a .call) (a .item .now) (f .frame-of .ensures .1) (f .before .before .shared-slice-known .given) (omega (arith, k));
     }
 
 pub write-call-spec : {M : Type 1} → statement M
