@@ -1,4 +1,4 @@
--- What follows from the promises: no second result fits, the round trip, one call to a line, and a line's length.
+-- What follows from the promises: no second result fits, the round trip, one call to a line, of whatever call code holds, and a line's length.
 use Prim.Native.Nat.{ℕ, _+_, _<_, _≤_}
 use mathlib.Core.Path.{_≡_, refl, sym, ap, _∙_}
 use mathlib.Core.Logic.{inl, inr, ⊎-elim}
