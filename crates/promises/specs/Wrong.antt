@@ -1,4 +1,4 @@
--- The idle programs and the easy mistakes of document 01: each is the step with one thing changed, with a few calls that tell the two apart.
+-- The idle programs and the easy mistakes of document 01: each is the step with one mistake made, with a few calls that tell the two apart.
 use Prim.Native.Nat.{ℕ, zero, suc, _+_}
 use mathlib.Core.Bool.{Bool, true, false, not, _&&_, _||_}
 use mathlib.Core.List.{List, [], _∷_, _++_}
@@ -75,7 +75,7 @@ skipsTheRest = changed 17 (λ k a. tickedBy firstWoken k)
 abbrev pub oneForAll : Kernel → Call → Kernel
 oneForAll = changed 9 (λ k a. if eqb (k .hold) 1 && ltb 0 (k .pended) then oneTick (withHold k 0 0) else released k)
 
--- "One that keeps a made-up pended count": n
+-- "One that keeps a made-up pended count": n, whatever n
 abbrev pub madeUp : ℕ → Kernel → Call → Kernel
 madeUp n = changed 17 (λ k a. if ltb 0 (k .hold) then withHold k (k .hold) n else ticked k)
 
@@ -113,14 +113,14 @@ behind k t = if isReady (taskAt (k .tasks) t .place) then toTail k t else k
 abbrev pub losesTurn : Kernel → Kernel
 losesTurn k = let next = chosen k in if sameTask (next .running) (k .running) then next else behind next (k .running)
 
--- "Letting a suspended task stay in an object's list, so an item lands in its slip.": a suspended waiter stays in the order, and a send to an empty queue
--- finds it there; a kernel with such a task is not sound, so this one does not ask that
+-- "Letting a suspended task stay in an object's list, so an item lands in its slip.": a waiter that is suspended stays in the order, from which the lists are read,
+-- and a send to an empty queue finds it there as if it still waited; a kernel that lists a suspended task is not sound, so this one does not ask that
 abbrev pub staysIfWaiting : Kernel → TaskNo → Kernel
 staysIfWaiting k t =
     let x = taskAt (k .tasks) t in
     if ltb (waited (x .place) .0) 16 then withTask k t (brokenOff x) else suspended k t
 
--- the first of the list, if it is a suspended one: a list of one, or of none
+-- the first of those who wait on the queue or stand suspended in the order, if it is a suspended one: a list of one, or of none
 abbrev pub stillFirst : Kernel → ObjNo → List TaskNo
 stillFirst k o =
     let at : TaskNo → Place = λ t. taskAt (k .tasks) t .place in
@@ -129,6 +129,7 @@ stillFirst k o =
 abbrev pub foundBy : Kernel → Asked → List TaskNo
 foundBy k a = if is 13 a && isEmpty (kindAt (k .objects) (a .object)) then stillFirst k (a .object) else []
 
+-- it gets the item in its slip and is made ready, outcome 1; with none all is done as it should be, but for a suspend
 abbrev pub wokenOr : Kernel → Call → List TaskNo → Kernel
 wokenOr k c [] = changed 3 (λ k a. staysIfWaiting k (a .task)) k c
 wokenOr k c (t ∷ l) = readied k t 1
@@ -140,7 +141,7 @@ slipOr k a item s (t ∷ l) = putAt (slipOf t) item s
 abbrev pub staysListed : Stepping
 staysListed = stepOf laterRow (λ k c. wokenOr k c (foundBy k (asked c))) chosen (λ k a item s. slipOr k a item s (foundBy k a))
 
--- "Deleting a holder and leaving the next task in that slot as holder."; a kernel whose holder is gone is not sound, so this one does not ask that either
+-- "Deleting a holder and leaving the next task in that slot as holder."; a kernel whose holder is gone is not sound, so neither does this one ask that
 abbrev pub tenLifted : Kernel → Asked → ℕ → ℕ → ℕ
 tenLifted k a item store = let n = laterRow k a item store in if is 2 a && eqb n 10 then 0 else n
 

@@ -1,4 +1,5 @@
-// Steps to be timed from outside. Standard input has three letters: which pair of calls (z: the soundness test), how many tasks beside idle (a for none, p for fifteen), and how often, in hundreds of thousands (a for none).
+// Steps to be timed from outside. Standard input has three letters: which pair of calls (z: the soundness test), how many tasks
+// beside idle (a for none, p for fifteen), and how often, in hundreds of thousands (a for none).
 // With y for the pair it is each of them in turn, in thousands.
 // What is written is a digit that depends on every step, so that none can be left out.
 ghost use Prim.Native.Nat.{_≤_};
