@@ -1,4 +1,4 @@
-//! A second opinion on the kernel of document 01, written from its text alone.
+//! A second opinion on the kernel of document 01, written from that document and the readings in docs/DECISIONS.md.
 
 pub mod calls;
 pub mod check;

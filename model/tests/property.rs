@@ -4,6 +4,7 @@ mod common;
 
 use common::answers;
 use model::calls::{Answer, Call};
+use model::damage;
 use model::journal::{journal, Author};
 use model::kernel::{Stand, TaskNo};
 use model::line::{read_call, ITEM_BYTES};
@@ -20,8 +21,61 @@ fn every_kernel_on_the_way_is_sound() {
     assert_eq!(lines, 300_000);
 }
 
+/// What 200,000 lines must exercise, and how often at least.
+const EVENTS: [(&str, u64); 49] = [
+    ("create: a slot below the last one", 100),
+    ("delete: a delayed task", 100),
+    ("delete: a waiter", 100),
+    ("delete: the caller", 100),
+    ("first waiter: earliest of equals", 100),
+    ("first waiter: not the earliest", 100),
+    ("give: loan kept, another mutex still held", 100),
+    ("give: own priority comes back", 100),
+    ("give: passed to a waiter", 100),
+    ("hold: a higher line is occupied", 100),
+    ("hold: depth 255 reached", 5),
+    ("idle: calls", 100),
+    ("idle: shares its line", 100),
+    ("make: a slot below the last one", 100),
+    ("receive: a waiting sender's item moved in", 100),
+    ("receive: first wrapped to 0", 100),
+    ("receive: moved in at capacity above 8", 100),
+    ("receive: waits on an empty queue", 100),
+    ("release: a wait of over 60,000 ticks ran out", 1),
+    ("release: another task runs", 100),
+    ("release: over 60,000 pended ticks run", 1),
+    ("release: several pended ticks run", 100),
+    ("release: several tasks woken by pended ticks", 100),
+    ("remove: a queue with items", 100),
+    ("running task overtaken", 100),
+    ("send: appended past the ring's end", 100),
+    ("send: part of 512 bytes all used", 100),
+    ("send: passed to a waiting receiver", 100),
+    ("send: size 0", 100),
+    ("send: size 64", 100),
+    ("send: waits on a full queue", 100),
+    ("set priority: a holder lower, effective stays", 100),
+    ("set priority: a waiter", 100),
+    ("set priority: idle to 0", 100),
+    ("set priority: the caller", 100),
+    ("suspend: a delayed task", 100),
+    ("suspend: a holder", 100),
+    ("suspend: a waiter", 100),
+    ("suspend: the caller", 100),
+    ("take: a second mutex", 100),
+    ("take: priority lent", 100),
+    ("take: priority lent to a blocked holder", 100),
+    ("take: priority lent to a ready holder", 100),
+    ("take: priority lent to a suspended holder", 50),
+    ("tick: a line of two or more turned", 100),
+    ("tick: a waiter timed out", 100),
+    ("tick: no turn, a higher line was woken", 100),
+    ("tick: one task due", 100),
+    ("tick: several tasks due together", 100),
+];
+
 #[test]
-fn a_long_journal_meets_every_call_and_refusal() {
+fn a_long_journal_meets_every_call_refusal_and_event() {
     let mut author = Author::new(7, 200_000).with_coverage();
     while author.next_line().is_some() {}
     let coverage = author.coverage().unwrap();
@@ -33,8 +87,16 @@ fn a_long_journal_meets_every_call_and_refusal() {
         assert!(coverage.refused[row] >= 100, "refusal {row}: {}", coverage.refused[row]);
     }
     assert!(coverage.refused[16] >= 5);
-    for (name, count) in &coverage.events {
-        assert!(*count > 0, "{name}");
+    for (name, least) in EVENTS {
+        let count = coverage.events.get(name).copied().unwrap_or(0);
+        assert!(count >= least, "{name}: {count}");
+    }
+    for name in coverage.events.keys() {
+        assert!(EVENTS.iter().any(|(known, _)| known == name), "{name} is counted and not asked for");
+    }
+    for kind in damage::KINDS {
+        let count = coverage.damaged.get(kind).copied().unwrap_or(0);
+        assert!(count >= 20, "{kind}: {count}");
     }
 }
 
@@ -47,6 +109,7 @@ fn a_seed_gives_one_journal() {
 /// Each queue beside a plain deque of items: what is received is what was sent, in order.
 #[test]
 fn items_come_out_as_they_went_in() {
+    let (mut handed_over, mut taken_out, mut moved_in) = (0, 0, 0);
     for seed in 1_000..1_060 {
         let mut machine = Machine::new(false);
         let mut deques: Vec<VecDeque<Vec<u8>>> = vec![VecDeque::new(); 16];
@@ -72,14 +135,19 @@ fn items_come_out_as_they_went_in() {
                 }
                 Call::Send { object, item, .. } => match (answer, woken) {
                     (Answer::Waiting, _) => waiting_items[caller.index()] = item.to_vec(),
-                    (_, Some(receiver)) => assert_eq!(slip(receiver, item.len()), item),
+                    (_, Some(receiver)) => {
+                        handed_over += 1;
+                        assert_eq!(slip(receiver, item.len()), item);
+                    }
                     _ => deques[object as usize].push_back(item.to_vec()),
                 },
                 Call::Receive { object, .. } if answer != Answer::Waiting => {
                     let deque = &mut deques[object as usize];
                     let oldest = deque.pop_front().expect("the queue has an item");
+                    taken_out += 1;
                     assert_eq!(slip(caller, oldest.len()), oldest);
                     if let Some(sender) = woken {
+                        moved_in += 1;
                         deque.push_back(waiting_items[sender.index()].clone());
                     }
                     assert_eq!(machine.kernel.find_queue(object).unwrap().1.count as usize, deque.len());
@@ -88,4 +156,5 @@ fn items_come_out_as_they_went_in() {
             }
         }
     }
+    assert!(handed_over >= 500 && taken_out >= 5_000 && moved_in >= 500, "{handed_over}, {taken_out}, {moved_in}");
 }

@@ -4,7 +4,7 @@ mod common;
 
 use common::{object, session, task};
 use model::check::soundness;
-use model::kernel::{Kernel, Kind, Outcome, Queue, Stand};
+use model::kernel::{Kernel, Kind, Outcome, Queue, Role, Stand};
 
 /// Task 1 (priority 3, holds mutex 0) runs; task 2 (5) waits on it; task 3 (4) is ready;
 /// task 4 (2) is delayed; task 5 waits on the empty queue 1; task 6 is suspended.
@@ -29,8 +29,17 @@ fn busy() -> Kernel {
     .kernel
 }
 
-/// What is wrong, and how it is brought about.
-type Breach = (&'static str, fn(&mut Kernel));
+/// What is wrong, the sentence that it breaks, and how it is brought about.
+type Breach = (&'static str, &'static str, fn(&mut Kernel));
+
+const IDLE: &str = "idle is as above";
+const ONCE: &str = "each ready task stands once in the line";
+const RANGES: &str = "counts and places obey the ranges";
+const OUTCOME: &str = "an outcome is 0 if delayed or waiting";
+
+fn queue(capacity: u8, size: u8, first: u8, count: u8) -> Kind {
+    Kind::Queue(Queue { capacity, size, first, count })
+}
 
 #[test]
 fn a_busy_kernel_is_sound() {
@@ -40,47 +49,58 @@ fn a_busy_kernel_is_sound() {
 
 #[test]
 fn each_breach_is_found() {
-    let breaches: [Breach; 26] = [
-        ("idle suspended", |k| {
+    let breaches: [Breach; 30] = [
+        ("idle suspended", IDLE, |k| {
             k.leave_line(task(0));
             k.tasks[0].stand = Stand::Suspended;
         }),
-        ("idle raised", |k| k.set_effective(task(0), 1)),
-        ("idle holds", |k| k.objects[0].kind = Kind::Mutex { holder: Some(task(0)) }),
-        ("ready task in no line", |k| k.leave_line(task(3))),
-        ("ready task twice", |k| k.lines[4].push(task(3))),
-        ("ready task in another line", |k| k.tasks[3].effective = 6),
-        ("suspended task in a line", |k| k.lines[4].push(task(6))),
-        ("running task not at the head", |k| k.lines[5].insert(0, task(3))),
-        ("another task runs", |k| k.running = task(3)),
-        ("receiver on a filled queue", |k| {
-            k.objects[1].kind = Kind::Queue(Queue { capacity: 2, size: 1, first: 0, count: 1 })
+        ("idle raised", IDLE, |k| k.set_effective(task(0), 1)),
+        ("idle holds", "idle never waits or holds", |k| k.objects[2].kind = Kind::Mutex { holder: Some(task(0)) }),
+        ("ready task in no line", ONCE, |k| k.leave_line(task(3))),
+        ("ready task twice", ONCE, |k| k.lines[4].push(task(3))),
+        ("ready task in another line", "in the line of its effective priority", |k| k.tasks[3].effective = 6),
+        ("suspended task in a line", "nobody else stands in a line", |k| k.lines[4].push(task(6))),
+        ("running task not at the head", "the running task heads its line", |k| {
+            k.set_effective(task(3), 5);
+            k.tasks[3].own = 5;
+            k.lines[5].rotate_left(1);
         }),
-        ("taker on a free mutex", |k| {
+        ("a lower task runs", "with hold 0 no higher line is occupied", |k| k.running = task(3)),
+        ("receiver on a filled queue", "receivers wait only on an empty queue", |k| {
+            k.objects[1].kind = queue(2, 1, 0, 1)
+        }),
+        ("sender on a queue with room", "senders only on a full one", |k| {
+            k.tasks[5].stand = Stand::Waiting { object: object(1), role: Role::Sender, wake: None }
+        }),
+        ("taker on a free mutex", "a waiter fits its object", |k| {
             k.objects[0].kind = Kind::Mutex { holder: None };
-            k.set_effective(task(1), 3);
+            k.tasks[1].own = 5;
         }),
-        ("taker is the holder", |k| k.objects[0].kind = Kind::Mutex { holder: Some(task(2)) }),
-        ("waiter listed twice", |k| k.objects[0].waiters.push(task(2))),
-        ("waiter not listed", |k| k.objects[0].waiters.clear()),
-        ("another listed", |k| k.objects[0].waiters.push(task(3))),
-        ("effective below own", |k| k.tasks[6].own = 10),
-        ("loan without a mutex", |k| k.tasks[6].own = 1),
-        ("holder does not exist", |k| k.objects[2].kind = Kind::Mutex { holder: Some(task(9)) }),
-        ("wake tick is the count", |k| k.tick = 7),
-        ("first out of range", |k| k.objects[1].kind = Kind::Queue(Queue { capacity: 2, size: 1, first: 2, count: 0 })),
-        ("product out of range", |k| {
-            k.objects[1].kind = Kind::Queue(Queue { capacity: 64, size: 9, first: 0, count: 0 })
+        ("taker is the holder", "takers only on a mutex held by another", |k| {
+            k.objects[0].kind = Kind::Mutex { holder: Some(task(2)) };
+            k.tasks[1].own = 5;
         }),
-        ("outcome of a waiter", |k| k.tasks[2].outcome = Outcome::Done),
-        ("outcome of a delayed task", |k| k.tasks[4].outcome = Outcome::BrokenOff),
-        ("pended without a hold", |k| k.pended = 1),
-        ("free task not fresh", |k| k.tasks[9].own = 1),
-        ("free object not fresh", |k| k.object_mut(object(3)).waiters.push(task(2))),
+        ("waiter listed twice", "each object lists its waiters once", |k| k.objects[0].waiters.push(task(2))),
+        ("waiter not listed", "each object lists its waiters", |k| k.objects[0].waiters.clear()),
+        ("another listed", "and no one else", |k| k.objects[0].waiters.push(task(3))),
+        ("listed by a free object", "and no one else", |k| k.object_mut(object(3)).waiters.push(task(2))),
+        ("effective below own", "effective is at least own", |k| k.tasks[6].own = 10),
+        ("loan without a mutex", "and equal to it for a task that holds nothing", |k| k.tasks[6].own = 1),
+        ("holder does not exist", "holders exist", |k| k.objects[2].kind = Kind::Mutex { holder: Some(task(9)) }),
+        ("wake tick is the count", "no wake tick of a delayed or waiting task equals the tick count", |k| k.tick = 7),
+        ("priority out of range", RANGES, |k| (k.tasks[6].own, k.tasks[6].effective) = (32, 32)),
+        ("first out of range", RANGES, |k| k.objects[1].kind = queue(2, 1, 2, 0)),
+        ("count out of range", RANGES, |k| k.objects[2].kind = queue(2, 1, 0, 3)),
+        ("product out of range", RANGES, |k| k.objects[1].kind = queue(64, 9, 0, 0)),
+        ("hold out of range", RANGES, |k| k.hold = 256),
+        ("outcome of a waiter", OUTCOME, |k| k.tasks[2].outcome = Outcome::Done),
+        ("outcome of a delayed task", OUTCOME, |k| k.tasks[4].outcome = Outcome::BrokenOff),
+        ("pended without a hold", "with hold 0 nothing is pended", |k| k.pended = 1),
+        ("free task not fresh", "free slots carry the fresh values", |k| k.tasks[9].own = 1),
     ];
-    for (name, breach) in breaches {
+    for (name, sentence, breach) in breaches {
         let mut kernel = busy();
         breach(&mut kernel);
-        assert!(soundness(&kernel).is_err(), "{name}");
+        assert_eq!(soundness(&kernel), Err(sentence.to_string()), "{name}");
     }
 }

@@ -6,7 +6,7 @@ use mathlib.Core.List.{List, []}
 use Rattle.journal.specs.Line.{lineOf, HasLine}
 use Rattle.journal.specs.Told.{refusal}
 use Rattle.journal.specs.Promise.{Tells, ReadsAs}
-use Rattle.journal.proofs.Theorems.{round-trip, one-call}
+use Rattle.journal.proofs.Theorems.{one-call, written-reads-back, always-written, one-line}
 use Rattle.kernel.proofs.Kernel.fresh.Met as fresh-code
 use Rattle.kernel.proofs.Kernel.sound.Met as sound-code
 use Rattle.kernel.proofs.Kernel.step.Met as step-code
@@ -54,7 +54,15 @@ ruled =
     }
 
 journalled : Journalled
-journalled = record { read-back = round-trip; one-line = one-call; others-refused = other }
+journalled =
+    record {
+      has-line = λ c b l w m f. f .has;
+      written = always-written;
+      read-back = written-reads-back;
+      one-line = one-line;
+      one-call = one-call;
+      others-refused = other;
+    }
   where
     other : (l : List ℕ) (r : Read) → ReadsAs l r → ((c : Call) (b : List ℕ) → HasLine c b → l ≡ lineOf c b → ⊥) → Tells r (refusal 3) []
     other l r (inl f) none = absurd (none (f .call) (f .item) (f .has) (f .line))

@@ -1,5 +1,5 @@
 -- Each promise is met by an answer: what the definitions say, as values of the code's types.
-use Prim.Native.Nat.{ℕ}
+use Prim.Native.Nat.{ℕ, _≤_}
 use mathlib.Core.Path.{_≡_, refl, sym, ap, _∙_}
 use mathlib.Core.Bool.{Bool, true, false}
 use mathlib.Core.List.{List, _++_}
@@ -10,9 +10,8 @@ use Rattle.calls.specs.declared.Answer.the-variants.{Done, Made, Waiting, Refus
 use Rattle.calls.specs.Asked.{asked}
 use Rattle.calls.specs.Said.{Saying, says, said, done, made, waiting}
 use Rattle.slots.specs.Places.{isBlocked}
-use Rattle.journal.specs.declared.Written.the-variants.{Count, Refused as NotWritten}
 use Rattle.journal.specs.Steps.{readOf}
-use Rattle.journal.specs.Line.{lineOf}
+use Rattle.journal.specs.Line.{lineOf, HasLine}
 use Rattle.journal.specs.Reply.{replyOf}
 use Rattle.journal.specs.Promise.{Writes, lineRefusal, itemRefusal, ReadsAs, WritesCall, WritesAnswer}
 use Rattle.journal.proofs.Promised.{reads-as}
@@ -27,7 +26,7 @@ use Rattle.kernel.specs.Session.{Run, run, begun, closed}
 use Rattle.kernel.specs.Promises.{Ran, Steps, Answers, Closes}
 use Rattle.promises.proofs.LineForLine.{closed-stays}
 use Rattle.promises.proofs.Unique.{no-second-step, no-second-block, no-second-end}
-use Rattle.claims.specs.Types.{TaskNo, Call, Answer, Asked, Read, Written, Kernel, Step, Session, Served}
+use Rattle.claims.specs.Types.{TaskNo, Call, Answer, Asked, Read, Written, Count, NotWritten, Kernel, Step, Session, Served}
 use Rattle.claims.specs.Claims.{OneFits, Total}
 
 -- ── an answer for each saying of a step
@@ -79,10 +78,11 @@ wrote n text l = go (eqb n 0) refl
     go true e = record { written = Count (length text); line = text ++ drop (length text) l; writes-it = record { answer = rw e; line = rw e } }
     go false e = record { written = NotWritten n; line = l; writes-it = record { answer = rw e; line = rw e } }
 
-writes : (c : Call) (b l : List ℕ) → OneFits (λ (x : Written × List ℕ). WritesCall c b l (x .0) (x .1))
-writes c b l =
-    let w = wrote (lineRefusal l (itemRefusal c b)) (lineOf c b) l in
-    record { it = (w .written, w .line); fits = w .writes-it; no-second = λ x f. let e = no-second-call c b l (x .0) (w .written) (x .1) (w .line) f (w .writes-it) in λ i. (e .0 i, e .1 i) }
+writes : (c : Call) (b l : List ℕ) → (length b ≤ 64 → HasLine c b) → OneFits (λ (x : Written × List ℕ). WritesCall c b l (x .0) (x .1))
+writes c b l h =
+    let w = wrote (lineRefusal l (itemRefusal b)) (lineOf c b) l in
+    let m : WritesCall c b l (w .written) (w .line) = record { written = w .writes-it; has = h } in
+    record { it = (w .written, w .line); fits = m; no-second = λ x f. let e = no-second-call c b l (x .0) (w .written) (x .1) (w .line) f m in λ i. (e .0 i, e .1 i) }
 
 tells : (a : Answer) (t : TaskNo) (l : List ℕ) → OneFits (λ (x : Written × List ℕ). WritesAnswer a t l (x .0) (x .1))
 tells a t l =

@@ -2,7 +2,7 @@
 use Prim.Native.Nat.{ℕ, _≤_}
 use mathlib.Core.Path.{_≡_}
 use mathlib.Core.List.{List, []}
-use lib.ListN.{length, replicate}
+use lib.ListN.{length, take, replicate}
 use Rattle.calls.specs.Asked.{asked}
 use Rattle.calls.specs.Table.{called}
 use Rattle.journal.specs.Line.{lineOf, HasLine}
@@ -26,7 +26,7 @@ use Rattle.promises.specs.ByLines.{ProgramAnswers}
 use Rattle.promises.specs.Turns.{Turn, afterTurns, cameIn, afterEnd, atStart, outcome}
 use Rattle.promises.specs.Reached.{programCalls, SoFar}
 use Rattle.histories.specs.Borrowed.{PaysBack}
-use Rattle.claims.specs.Types.{TaskNo, Call, Answer, Asked, Read, Written, Kernel, Step, Session, Served}
+use Rattle.claims.specs.Types.{TaskNo, Call, Answer, Asked, Read, Says, Written, Count, Kernel, Step, Session, Served}
 
 -- one value fits, and no second
 pub record OneFits {A : Type 0} (P : A → Type 0) : Type 0 where
@@ -50,7 +50,8 @@ pub record Code : Type 2 where
 pub record Total : Type 0 where
   pub steps : (k : Kernel) (c : Call) (item store : List ℕ) → OneFits (λ (x : Step × List ℕ). Steps k c item store (x .0) (x .1))
   pub reads : (line : List ℕ) → OneFits (λ (x : Read). ReadsAs line x)
-  pub writes : (c : Call) (item line : List ℕ) → OneFits (λ (x : Written × List ℕ). WritesCall c item line (x .0) (x .1))
+  -- of each call that code holds: `has-line` below
+  pub writes : (c : Call) (item line : List ℕ) → (length item ≤ 64 → HasLine c item) → OneFits (λ (x : Written × List ℕ). WritesCall c item line (x .0) (x .1))
   pub tells : (a : Answer) (running : TaskNo) (line : List ℕ) → OneFits (λ (x : Written × List ℕ). WritesAnswer a running line (x .0) (x .1))
   pub serves : (n : Session) (block store lent : List ℕ) → OneFits (λ (x : Served × List ℕ × List ℕ). Answers n block store lent (x .0) (x .1) (x .2))
   pub closes : (n : Session) (store lent : List ℕ) → OneFits (λ (x : Served × List ℕ). Closes n store lent (x .0) (x .1))
@@ -65,10 +66,15 @@ pub record Ruled : Type 0 where
   pub calls : (k : Kernel) (c : Call) (item store : List ℕ) (r : Step) (after : List ℕ) → Steps k c item store r after → None (rows k (asked c) (length item) (length store)) → Accepted k c item store r after
   pub journal : (ts : List Turn) → afterTurns atStart ts .waits ≡ [] → (n : ℕ) → 256 ≤ n → ProgramAnswers (cameIn ts) (outcome (afterEnd (afterTurns atStart ts) n))
 
--- "Each call whose item is at most 64 bytes has one journal line; reading it gives back the call, and any other line is refused."
+-- "Each call whose item is at most 64 bytes has one journal line; reading it gives back the call, and any other line is refused." Of each call that code holds: its writer
+-- promises the line, and that it stands first in the lent one.
 pub record Journalled : Type 0 where
-  pub read-back : (c : Call) (item : List ℕ) (r : Read) → HasLine c item → ReadsAs (lineOf c item) r → Tells r (aCall (called c)) item
-  pub one-line : (c d : Call) (item other : List ℕ) → HasLine c item → HasLine d other → lineOf c item ≡ lineOf d other → (c ≡ d) × (item ≡ other)
+  pub has-line : (c : Call) (item line : List ℕ) (w : Written) (m : List ℕ) → WritesCall c item line w m → length item ≤ 64 → HasLine c item
+  pub written : (c : Call) (item line : List ℕ) (w : Written) (m : List ℕ) → length line ≡ 256 → length item ≤ 64 → WritesCall c item line w m → w ≡ Count (length (lineOf c item))
+  pub read-back : (c : Call) (item line : List ℕ) (n : ℕ) (m : List ℕ) (r : Read) → WritesCall c item line (Count n) m → ReadsAs (take n m) r
+      → (r .answer ≡ Says c) × Tells r (aCall (called c)) item
+  pub one-line : (c : Call) (item line : List ℕ) (r : Read) → ReadsAs line r → Tells r (aCall (called c)) item → line ≡ lineOf c item
+  pub one-call : (c d : Call) (item other : List ℕ) → HasLine c item → HasLine d other → lineOf c item ≡ lineOf d other → (c ≡ d) × (item ≡ other)
   pub others-refused : (line : List ℕ) (r : Read) → ReadsAs line r → ((c : Call) (item : List ℕ) → HasLine c item → line ≡ lineOf c item → ⊥) → Tells r (refusal 3) []
 
 -- 3. "From the fresh kernel, after any calls, refused ones among them": "each task in exactly one state and listed only where that state belongs; unless held, no ready task

@@ -4,7 +4,9 @@ pub use Rattle.calls.specs.declared.Call.{Call}
 pub use Rattle.calls.specs.declared.Answer.{Answer}
 pub use Rattle.calls.specs.declared.Asked.{Asked}
 pub use Rattle.journal.specs.declared.Read.{Read}
+pub use Rattle.journal.specs.declared.Reading.the-variants.{Says}
 pub use Rattle.journal.specs.declared.Written.{Written}
+pub use Rattle.journal.specs.declared.Written.the-variants.{Count, Refused as NotWritten}
 pub use Rattle.kernel.specs.declared.Kernel.{Kernel}
 pub use Rattle.kernel.specs.declared.Step.{Step}
 pub use Rattle.kernel.specs.declared.Session.{Session}

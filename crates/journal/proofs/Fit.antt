@@ -4,13 +4,16 @@ use mathlib.Core.Path.{_≡_, refl, sym, ap}
 use mathlib.Core.Bool.{Bool, true, false, false≢true}
 use mathlib.Core.List.{List, [], _∷_, _++_}
 use native.Mathlib.Omega.{arith}
-use lib.ListN.{length, take, drop}
+use lib.ListN.{length, getD, take, drop}
 use lib.Seq.{sets}
+use mir.Syntax.{w8}
+use mir.Val.{Fits}
+use Rattle.lists.specs.Choice.{if_then_else_}
 use Rattle.lists.specs.Lists.{any}
 use Rattle.fields.specs.Hex.{Bytes}
 use Rattle.fields.proofs.Stores.{sets-out}
 use Rattle.journal.specs.Types.{Call}
-use Rattle.journal.specs.Line.{Field, number, bytes, fieldsOf, isBytes, carries, AllFit, HasLine}
+use Rattle.journal.specs.Line.{Field, number, bytes, fieldsOf, isBytes, carries, itsItem, AllFit, HasLine}
 use Rattle.journal.specs.Frames.{numbersIn, frameOf}
 use Rattle.journal.proofs.Steps.{Small, ItemFits}
 
@@ -65,6 +68,23 @@ item-fits false b h g = g refl
 pub has-line : (c : Call) (b : List ℕ) → Small (numbersIn (fieldsOf c)) → ItemFits (carries c) b → HasLine c b
 unfolding carries
 has-line c b w h = record { fits = all-fit b (fieldsOf c) w (item-sent (carries c) b h); none = item-none (carries c) b h }
+
+-- a call whose numbers fit has a line with an item of no bytes
+pub numbers-fit : (c : Call) → AllFit [] (fieldsOf c) → HasLine c []
+numbers-fit c w = record { fits = w; none = λ e. refl }
+
+-- what is known of the elements of a slice of u8
+all-bytes : (b : List ℕ) → ((i : ℕ) → Fits w8 (getD b i 0)) → Bytes b
+all-bytes [] h = tt
+all-bytes (x ∷ b) h = (h 0 .fits, all-bytes b (λ i. h (suc i)))
+
+-- and then it has one with each item of at most 64 bytes
+pub its-line : (c : Call) (b : List ℕ) → HasLine c [] → ((i : ℕ) → Fits w8 (getD b i 0)) → length (itsItem c b) ≤ 64 → HasLine c (itsItem c b)
+its-line c b h w k = has-line c (itsItem c b) (fits-small [] (fieldsOf c) (h .fits)) (go (carries c) k)
+  where
+    go : (i : Bool) → length (if i then b else []) ≤ 64 → ItemFits i (if i then b else [])
+    go true k = (k, all-bytes b w)
+    go false k = refl
 
 pub line-fits : (c : Call) (b : List ℕ) → HasLine c b → Small (frameOf c .values) × ItemFits (carries c) b
 unfolding carries

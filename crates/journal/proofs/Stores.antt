@@ -8,6 +8,7 @@ use lib.Dec.{ltb}
 use lib.ListN.{length, getD, take, drop, length-append, length-take, length-drop}
 use lib.Seq.{sets-eq, getD-take, getD-drop}
 use borrow.Author.Tests.{ltb-false, eq-eqb, ne-eqb}
+use Rattle.lists.specs.Choice.{if_then_else_}
 use Rattle.calls.specs.Said.{Word, done, made, waiting, refused, Saying, said}
 use Rattle.fields.specs.Decimal.{dec}
 use Rattle.fields.specs.Texts.{texts}
@@ -16,10 +17,10 @@ use Rattle.fields.proofs.Digits.{dec-length}
 use Rattle.fields.proofs.Pairs.{hex-length}
 use Rattle.fields.proofs.Stores.{wrote-then}
 use Rattle.journal.specs.Types.{Call, Answer, TaskNo, Shape, Frame, Count, NotWritten}
-use Rattle.journal.specs.Line.{lineOf, carries}
+use Rattle.journal.specs.Line.{lineOf, carries, itsItem}
 use Rattle.journal.specs.Reply.{wordOf, reply, replyOf}
 use Rattle.journal.specs.Told.{count}
-use Rattle.journal.specs.Promise.{Writes, lineRefusal, WritesCall, WritesAnswer}
+use Rattle.journal.specs.Promise.{Writes, lineRefusal, itemRefusal, WritesAnswer}
 use Rattle.journal.specs.Frames.{shapeOf, frameOf, tabbed, sentText, shapeText, frameText}
 use Rattle.journal.proofs.Rows.{frame-two, line-frame, item-frame}
 
@@ -106,21 +107,38 @@ written text l m r h k w =
       line = w .line ∙ sets-eq text l 0 (omega arith) ∙ ap (λ (n : ℕ). text ++ drop n l) z;
     }
 
--- what the code tested is that the call carries an item that is too long
+-- what is lent beside a call that has no item leaves no trace in its line
+sent-passed : (i : Bool) (b : List ℕ) → sentText i (if i then b else []) ≡ sentText i b
+sent-passed true b = refl
+sent-passed false b = refl
+
+passed-over : (c : Call) (b : List ℕ) → lineOf c (itsItem c b) ≡ lineOf c b
+passed-over c b =
+    let n = frameOf c .number in
+    let vs = frameOf c .values in
+    let e : sentText (shapeOf n .item) (itsItem c b) ≡ sentText (shapeOf n .item) b = rw (item-frame c) (sent-passed (shapeOf n .item) b) in
+    line-frame c (itsItem c b) ∙ rw e (sym (line-frame c b))
+
+too-long : (i : Bool) (b : List ℕ) → ltb 64 (length (if i then b else [])) ≡ (i && ltb 64 (length b))
+too-long true b = refl
+too-long false b = refl
+
+-- what the code tested is that the call's item is too long
 module _ (c : Call) (b l : List ℕ) (h : length l ≡ 256) (f : Frame) (s : Shape) (t : Bool) (ef : f ≡ frameOf c) (es : s ≡ shapeOf (f .number))
     (et : t ≡ (s .item && ltb 64 (length b))) where
-  tested : (carries c && ltb 64 (length b)) ≡ t
-  tested = sym (et ∙ rw (es, ef, item-frame c))
+  tested : ltb 64 (length (itsItem c b)) ≡ t
+  tested = too-long (carries c) b ∙ sym (et ∙ rw (es, ef, item-frame c))
 
-  pub item-refused : t ≡ true → WritesCall c b l (NotWritten 6) l
+  pub item-refused : t ≡ true → Writes (lineRefusal l (itemRefusal (itsItem c b))) (lineOf c (itsItem c b)) l (NotWritten 6) l
   item-refused e = rw (eq-eqb (length l) 256 h, tested, e) record { answer = refl; line = refl }
 
-  pub call-written : (m : List ℕ) (r : ℕ) → t ≡ false → Wrote l 0 (frameText (f .number) (f .values) b) r m → WritesCall c b l (Count r) m
+  pub call-written : (m : List ℕ) (r : ℕ) → t ≡ false → Wrote l 0 (frameText (f .number) (f .values) b) r m
+      → Writes (lineRefusal l (itemRefusal (itsItem c b))) (lineOf c (itsItem c b)) l (Count r) m
   unfolding frameText
   call-written m r k w =
-      let q : frameText (f .number) (f .values) b ≡ lineOf c b = rw ef (sym (line-frame c b)) in
-      let short : carries c ≡ true → length b ≤ 64 = λ e. ltb-false 64 (length b) (rw e at (tested ∙ k)) in
-      rw (eq-eqb (length l) 256 h, tested, k) (written (lineOf c b) l m r h (line-short c b short) (rw q at w))
+      let q : frameText (f .number) (f .values) b ≡ lineOf c (itsItem c b) = rw ef (sym (line-frame c b)) ∙ sym (passed-over c b) in
+      let short : length (itsItem c b) ≤ 64 = ltb-false 64 (length (itsItem c b)) (tested ∙ k) in
+      rw (eq-eqb (length l) 256 h, tested, k) (written (lineOf c (itsItem c b)) l m r h (line-short c (itsItem c b) (λ e. short)) (rw q at w))
 
 pub reply-written : (a : Answer) (t : TaskNo) (l m : List ℕ) (r : ℕ) → length l ≡ 256 → Wrote l 0 (replyOf a t) r m → WritesAnswer a t l (Count r) m
 reply-written a t l m r h w = rw (eq-eqb (length l) 256 h) (written (replyOf a t) l m r h (reply-short a t) w)

@@ -1,4 +1,5 @@
--- A call as its number and its numbers, which is how the code holds it. Nothing here has to be believed: the promises do not speak of it.
+-- A call as its number and its numbers, which is how the code holds it. The reader's and the writers' promises do not speak of it. The
+-- session's definition does, through `readOf` of Steps, whose head says why it need not be believed.
 use Prim.Native.Nat.{ℕ, _-_}
 use mathlib.Core.Bool.{Bool, true, false}
 use mathlib.Core.List.{List, [], _∷_, _++_, map}

@@ -4,6 +4,7 @@ use mathlib.Core.Path.{_≡_}
 use mathlib.Core.Bool.{Bool, true, false}
 use mathlib.Core.List.{List, [], _∷_, _++_, map}
 use lib.ListN.{length}
+use Rattle.lists.specs.Choice.{if_then_else_}
 use Rattle.lists.specs.Lists.{any}
 use Rattle.calls.specs.Table.{Argument, aTask, anObject, aQueue, aMutex, priority, ticks, capacity, size, wait, item, called}
 use Rattle.fields.specs.Decimal.{dec}
@@ -53,6 +54,10 @@ isBytes bytes = true
 
 unfoldable pub carries : Call → Bool
 carries c = any isBytes (fieldsOf c)
+
+-- the item of the call c where the bytes b are lent beside it: what is lent beside a call that has none is passed over
+abbrev pub itsItem : Call → List ℕ → List ℕ
+itsItem c b = if carries c then b else []
 
 -- "each at most 4,294,967,295"; "0 to 64 bytes"
 abbrev pub Fits : List ℕ → Field → Type 0

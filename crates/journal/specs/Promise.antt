@@ -1,8 +1,7 @@
 -- What the reader and the writers promise.
-use Prim.Native.Nat.{ℕ}
+use Prim.Native.Nat.{ℕ, _≤_}
 use mathlib.Core.Path.{_≡_}
 use mathlib.Core.Logic.{_⊎_}
-use mathlib.Core.Bool.{_&&_}
 use mathlib.Core.List.{List, [], _++_}
 use lib.ListN.{length, drop}
 use lib.Dec.{eqb, ltb}
@@ -10,7 +9,7 @@ use Rattle.lists.specs.Choice.{if_then_else_}
 use Rattle.calls.specs.Table.{called}
 use Rattle.fields.specs.Item.{filled}
 use Rattle.journal.specs.Types.{Call, Answer, TaskNo, Read, Written}
-use Rattle.journal.specs.Line.{lineOf, carries, HasLine}
+use Rattle.journal.specs.Line.{lineOf, HasLine}
 use Rattle.journal.specs.Reply.{replyOf}
 use Rattle.journal.specs.Told.{Told, aCall, refusal, count, reads, writes}
 
@@ -47,13 +46,15 @@ pub record Writes (n : ℕ) (text l : List ℕ) (w : Written) (m : List ℕ) : T
 abbrev pub lineRefusal : List ℕ → ℕ → ℕ
 lineRefusal l n = if eqb (length l) 256 then n else 2
 
--- 6: the item's length, "for a line's writer, it is above 64"; only a send has an item
-abbrev pub itemRefusal : Call → List ℕ → ℕ
-itemRefusal c b = if carries c && ltb 64 (length b) then 6 else 0
+-- 6: the item's length, "for a line's writer, it is above 64"
+abbrev pub itemRefusal : List ℕ → ℕ
+itemRefusal b = if ltb 64 (length b) then 6 else 0
 
--- the promise of a call's writer: 2 and then 6, else the line of the call
-abbrev pub WritesCall : Call → List ℕ → List ℕ → Written → List ℕ → Type 0
-WritesCall c b l w m = Writes (lineRefusal l (itemRefusal c b)) (lineOf c b) l w m
+-- the promise of a call's writer, of the call c with its item b: 2 and then 6, else the line of the call. And, whatever line is lent, "each
+-- call whose item is at most 64 bytes has one journal line": the numbers of a call that code holds are u32, and the lent bytes u8
+pub record WritesCall (c : Call) (b l : List ℕ) (w : Written) (m : List ℕ) : Type 0 where
+  pub written : Writes (lineRefusal l (itemRefusal b)) (lineOf c b) l w m
+  pub has : length b ≤ 64 → HasLine c b
 
 -- the promise of an answer's writer: 2, else the line of the answer
 abbrev pub WritesAnswer : Answer → TaskNo → List ℕ → Written → List ℕ → Type 0

@@ -1,5 +1,7 @@
--- The reader, step by step. Nothing here has to be believed: its promise does not speak of it. A place past the line's end, or the end
--- itself, is where nothing can be read.
+-- The reader, step by step. A place past the line's end, or the end itself, is where nothing can be read. The reader's promise does not
+-- speak of it, but the definitions of the session and of the program go through `readOf`. It need not be believed: `reads-as` (proofs/Promised)
+-- and `read-is` (proofs/Theorems) say that it is the one reading that the reader's promise allows, and `call-line` and `no-call-line`
+-- (promises/proofs/LineSteps) that a line's step is what document 01 says.
 use Prim.Native.Nat.{ℕ, zero, suc, _+_}
 use mathlib.Core.Bool.{Bool, true, false, _&&_}
 use mathlib.Core.List.{List, [], _∷_}

@@ -1,6 +1,7 @@
 // The table of calls, by number: how the arguments stand in a line, and the call that they make.
 ghost use mathlib.Core.Path.{_≡_};
 ghost use mathlib.Core.List.{[], _∷_};
+ghost use Rattle.journal.specs.Line.{HasLine};
 ghost use Rattle.journal.specs.Frames.{plain, shapeOf, callOf, framed, frameOf};
 use calls::Call;
 use calls::ObjNo;
@@ -97,9 +98,9 @@ impl Frame {
     }
 }
 
-// The number and the values of a call.
+// The number and the values of a call. Its numbers are u32, so that every call has a line, at least with an item of no bytes.
 pub(crate) fn frame_of(call: Call) -> Frame
-    ensures { λ r. ⌜ r ≡ frameOf call ⌝ }
+    ensures { λ r. ⌜ (r ≡ frameOf call) × HasLine call [] ⌝ }
 {
     match call {
         Call::Create(p) => Frame::of(1, p, 0),

@@ -5,6 +5,7 @@ ghost use lib.ListN.{take, drop};
 ghost use Rattle.fields.specs.Texts.{texts};
 ghost use Rattle.fields.specs.Wrote.{Wrote};
 ghost use Rattle.calls.specs.Said.{said};
+ghost use Rattle.journal.specs.Line.{itsItem};
 ghost use Rattle.journal.specs.Reply.{wordOf, replyOf};
 ghost use Rattle.journal.specs.Frames.{tabbed, sentText, frameText};
 ghost use Rattle.journal.specs.Promise.{WritesCall, WritesAnswer};
@@ -70,12 +71,12 @@ fn put_frame(line: &mut [u8], f: Frame, item: &[u8]) -> usize
 
 // The line of a call, in the first bytes of the lent line. An item lent beside a call that carries none is passed over.
 pub fn write_call(call: Call, item: &[u8], line: &mut [u8]) -> Written
-    ensures { λ r. ⌜ WritesCall call (now (item .entry)) (now (line .entry)) r (now (line .exit)) ⌝ }
+    ensures { λ r. ⌜ WritesCall call (itsItem call (now (item .entry))) (now (line .entry)) r (now (line .exit)) ⌝ }
 {
+    let f = frame_of(call);
     if line.len() != 256 {
         return Written::Refused(2);
     }
-    let f = frame_of(call);
     if both(shape_of(f.number).item, item.len() > 64) {
         return Written::Refused(6);
     }

@@ -1,10 +1,9 @@
 -- The idle programs and the easy mistakes are caught: one claim over the whole list, computed; so none of them is the step.
-use Prim.Native.Nat.{ℕ}
+use Prim.Native.Nat.{ℕ, zero, suc}
 use mathlib.Core.Path.{_≡_, refl, ap, sym, _∙_}
 use mathlib.Core.Bool.{true, not, false≢true}
-use mathlib.Core.List.{List, [], _∷_, map, List·Memᴰ, List·Memᴰ·cases-cons, List·Memᴰ·not-nil}
+use mathlib.Core.List.{List, [], _∷_, map, List·Memᴰ, List·Memᴰ·head, List·Memᴰ·tail, List·Memᴰ·cases-cons, List·Memᴰ·not-nil}
 use mathlib.Core.Logic.{⊎-elim}
-use store.Seg.{eqb-same}
 use Rattle.lists.specs.Lists.{every, allBelow, foldl, upTo, index, any, kept}
 use Rattle.calls.specs.Asked.{asked}
 use Rattle.order.specs.Order.{ordered, without}
@@ -12,7 +11,7 @@ use Rattle.order.specs.Tidy.{count, tidy}
 use Rattle.items.specs.Bytes.{putAt}
 use Rattle.promises.specs.Types.{Call, Kernel}
 use Rattle.promises.specs.Cases.{Seen}
-use Rattle.promises.specs.Wrong.{Stepping, stepBy, turnsAllAway, alwaysDone, changesNothing, deletesHolders, Wrong, after, showsBy, ofWord, sameList, sameSeen, Verdict, found, told, idlePrograms, easyMistakes, wrongs}
+use Rattle.promises.specs.Wrong.{Stepping, stepOf, stepBy, Numbers, turnsAllAway, alwaysDone, changesNothing, madeUp, Wrong, after, showsBy, ofWord, sameNumber, sameList, sameSeen, Verdict, found, told, idlePrograms, easyMistakes, wrongs}
 use Rattle.kernel.specs.Effects.{created, deleted, suspended, resumed, yielded, delayed, queueMade, mutexMade, removed, taken, handedOn, given, effect}
 use Rattle.kernel.specs.Items.{itemAt, outlet, sent, storeSent, received, storeReceived}
 use Rattle.kernel.specs.Lines.{line, those, highest, leader, first, chosen, toTail, toHead, leaves}
@@ -24,23 +23,28 @@ use Rattle.kernel.specs.Tables.{fresh, taskAt, kindAt, holds, freeSlot, freeObj
 use Rattle.kernel.specs.Ticks.{wokenIfDue, wakes, oneTick, turned, ticked, ticks, released, held}
 use Rattle.kernel.specs.Waits.{readied, blocked, waitFor}
 
--- what is changed is changed in the step itself: with the kernel's own effect and choose the frame is the step
-pub frame : (k : Kernel) (c : Call) (i s : List ℕ) → stepBy effect chosen k c i s ≡ step k c i s
-unfolding stepBy step accepted
+-- what is changed is changed in the step itself: with the kernel's own parts the frame is the step
+pub frame : (k : Kernel) (c : Call) (i s : List ℕ) → stepOf refusal effect chosen stored k c i s ≡ step k c i s
+unfolding stepOf step accepted
 frame k c i s = refl
 
-pub caught : map found wrongs ≡ map told wrongs
-unfolding wrongs idlePrograms easyMistakes stepBy turnsAllAway alwaysDone changesNothing deletesHolders after showsBy sameList sameSeen every allBelow foldl upTo index any kept asked ordered without count tidy putAt created deleted suspended resumed yielded delayed queueMade mutexMade removed taken handedOn given effect itemAt outlet sent storeSent received storeReceived line those highest leader first chosen toTail toHead leaves moved movedIf prioritized newPriority lent ownAgain outOfRange namesNone wrongSize notForIdle notWithHold noSlot heldOrWaited inUse notHis hisAlready notSuspended mustWait noDepth noTick table laterRow refusal noHigher runsFine sound stored answered accepted step fresh taskAt kindAt holds freeSlot freeObject wokenIfDue wakes oneTick turned ticked ticks released held readied blocked waitFor
-caught = refl
+pub caught : (number : Numbers) (n : ℕ) → map found (wrongs number n) ≡ map told (wrongs number n)
+unfolding wrongs idlePrograms easyMistakes stepOf turnsAllAway alwaysDone changesNothing after showsBy sameNumber sameList sameSeen every allBelow foldl upTo index any kept asked ordered without count tidy putAt created deleted suspended resumed yielded delayed queueMade mutexMade removed taken handedOn given effect itemAt outlet sent storeSent received storeReceived line those highest leader first chosen toTail toHead leaves moved movedIf prioritized newPriority lent ownAgain outOfRange namesNone wrongSize notForIdle notWithHold noSlot heldOrWaited inUse notHis hisAlready notSuspended mustWait noDepth noTick table laterRow refusal noHigher runsFine sound stored answered accepted step fresh taskAt kindAt holds freeSlot freeObject wokenIfDue wakes oneTick turned ticked ticks released held readied blocked waitFor
+caught number n = refl
+
+same-number : (n : ℕ) → sameNumber n n ≡ true
+unfolding sameNumber
+same-number zero = refl
+same-number (suc n) = same-number n
 
 same-list : (xs : List ℕ) → sameList xs xs ≡ true
 unfolding sameList
 same-list [] = refl
-same-list (x ∷ xs) = rw (eqb-same x, same-list xs)
+same-list (x ∷ xs) = rw (same-number x, same-list xs)
 
 same-seen : (x : Seen) → sameSeen x x ≡ true
 unfolding sameSeen
-same-seen x = rw (eqb-same (ofWord (x .answer .word)), eqb-same (x .answer .number), eqb-same (x .running), same-list (x .looked))
+same-seen x = rw (same-number (ofWord (x .answer .word)), same-number (x .answer .number), same-number (x .running), same-list (x .looked))
 
 -- where all that is told of a wrong step is found, it is not the step
 not-the-step : (w : Wrong) → found w ≡ told w → w .step ≡ step → ⊥
@@ -57,5 +61,20 @@ none-of (x ∷ ws) h w m =
     let rest : map found ws ≡ map told ws = cc in
     ⊎-elim (λ e. not-the-step w (rw e front)) (λ n. none-of ws rest w n) (List·Memᴰ·cases-cons m)
 
-pub none-is-the-step : (w : Wrong) → List·Memᴰ w wrongs → w .step ≡ step → ⊥
-none-is-the-step = none-of wrongs caught
+pub none-is-the-step : (number : Numbers) (n : ℕ) (w : Wrong) → List·Memᴰ w (wrongs number n) → w .step ≡ step → ⊥
+none-is-the-step number n = none-of (wrongs number n) (caught number n)
+
+-- "One that turns every call away": whatever numbers it gives
+pub none-turns-all-away : (number : Numbers) → turnsAllAway number ≡ step → ⊥
+unfolding wrongs idlePrograms
+none-turns-all-away number = none-is-the-step number 0 _ (List·Memᴰ·head refl)
+
+past-five : {a b c d e w : Wrong} {ws : List Wrong} → List·Memᴰ w ws → List·Memᴰ w (a ∷ b ∷ c ∷ d ∷ e ∷ ws)
+past-five m = List·Memᴰ·tail (List·Memᴰ·tail (List·Memᴰ·tail (List·Memᴰ·tail (List·Memᴰ·tail m))))
+
+-- "One that keeps a made-up pended count": whatever the count
+pub none-keeps-a-count : (n : ℕ) → stepBy (madeUp n) chosen ≡ step → ⊥
+unfolding wrongs idlePrograms
+none-keeps-a-count zero = none-is-the-step (λ k c item s. 0) 0 _ (past-five (List·Memᴰ·head refl))
+none-keeps-a-count (suc zero) = none-is-the-step (λ k c item s. 0) 0 _ (past-five (List·Memᴰ·tail (List·Memᴰ·head refl)))
+none-keeps-a-count (suc (suc n)) = none-is-the-step (λ k c item s. 0) n _ (past-five (List·Memᴰ·tail (List·Memᴰ·tail (List·Memᴰ·head refl))))

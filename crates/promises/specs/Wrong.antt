@@ -1,46 +1,55 @@
--- The idle programs and the easy mistakes of document 01: each is the step with one thing changed, with a few calls that tell the two apart.
-use Prim.Native.Nat.{ℕ, _+_}
-use mathlib.Core.Bool.{Bool, true, false, not, _&&_}
+-- The idle programs and the easy mistakes of document 01: each is the step with one mistake made, with a few calls that tell the two apart.
+use Prim.Native.Nat.{ℕ, zero, suc, _+_}
+use mathlib.Core.Bool.{Bool, true, false, not, _&&_, _||_}
 use mathlib.Core.List.{List, [], _∷_, _++_}
 use lib.Dec.{eqb, ltb, leb}
 use lib.ListN.{length, getD, replicate}
 use Rattle.lists.specs.Choice.{if_then_else_}
-use Rattle.lists.specs.Lists.{index, upTo}
+use Rattle.lists.specs.Lists.{index, upTo, kept}
 use Rattle.calls.specs.Numbers.{task, object, sameTask}
 use Rattle.calls.specs.Asked.{asked}
 use Rattle.calls.specs.Said.{Word, done, made, waiting, refused, says}
-use Rattle.slots.specs.Places.{isReady, isBlocked, wakesAt, outcomeDue}
+use Rattle.order.specs.Order.{listed}
+use Rattle.items.specs.Bytes.{putAt}
+use Rattle.slots.specs.Places.{isReady, isSuspended, waitsOn, waited, wakesAt, outcomeDue}
+use Rattle.slots.specs.Tasks.{brokenOff}
 use Rattle.slots.specs.Objects.{holderOf}
-use Rattle.promises.specs.Types.{TaskNo, Asked, Call, Create, Delete, Suspend, Delay, Hold, Release, MakeQueue, MakeMutex, Send, Receive, Take, Give, Tick, Wake, Never, At, Place, Free, Ready, Delayed, Waiting, Suspended, Task, Kernel}
+use Rattle.promises.specs.Types.{TaskNo, ObjNo, Asked, Call, Create, Delete, Suspend, Delay, Hold, Release, MakeQueue, MakeMutex, Send, Receive, Take, Give, Tick, Wake, Never, At, Place, Free, Ready, Delayed, Waiting, Suspended, Task, Kernel}
 use Rattle.promises.specs.Cases.{Seen, seen}
-use Rattle.kernel.specs.Tables.{fresh, taskAt, kindAt, withTick, withHold}
-use Rattle.kernel.specs.Lines.{level, chosen, toTail}
+use Rattle.kernel.specs.Tables.{fresh, taskAt, kindAt, withTask, withTick, withHold}
+use Rattle.kernel.specs.Lines.{level, leader, chosen, toTail}
 use Rattle.kernel.specs.Waits.{later, readied}
 use Rattle.kernel.specs.Loans.{prioritized}
 use Rattle.kernel.specs.Ticks.{wokenIfDue, oneTick, turned, ticked, released}
 use Rattle.kernel.specs.Items.{slipOf}
 use Rattle.kernel.specs.Asking.{is}
-use Rattle.kernel.specs.Refusals.{laterRow, refusal}
+use Rattle.kernel.specs.Refusals.{isEmpty, laterRow, refusal}
 use Rattle.kernel.specs.Effects.{suspended, handedOn, effect}
-use Rattle.kernel.specs.Step.{Stepped, answered, stored, turnedAway, steppedBy, step}
+use Rattle.kernel.specs.Step.{Stepped, answered, stored, turnedAway, step}
 
 abbrev pub Stepping : Type 0
 Stepping = Kernel → Call → List ℕ → List ℕ → Stepped
 
--- the step with another effect and another choose; with the kernel's own it is the step
-unfoldable pub stepBy : (Kernel → Call → Kernel) → (Kernel → Kernel) → Stepping
-stepBy does choose k c item s =
-    let n = refusal k (asked c) (length item) (length s) in
+-- the step with another refusal, effect, choose and store; with the kernel's own it is the step
+unfoldable pub stepOf : (Kernel → Asked → ℕ → ℕ → ℕ) → (Kernel → Call → Kernel) → (Kernel → Kernel) → (Kernel → Asked → List ℕ → List ℕ → List ℕ) → Stepping
+stepOf refuses does choose stores k c item s =
+    let n = refuses k (asked c) (length item) (length s) in
     let next = choose (does k c) in
-    if eqb n 0 then record { kernel = next; answer = answered k (asked c) next; store = stored k (asked c) item s } else turnedAway k n s
+    if eqb n 0 then record { kernel = next; answer = answered k (asked c) next; store = stores k (asked c) item s } else turnedAway k n s
+
+abbrev pub stepBy : (Kernel → Call → Kernel) → (Kernel → Kernel) → Stepping
+stepBy does choose = stepOf refusal does choose stored
 
 -- the effect with the row of call n changed
 abbrev pub changed : ℕ → (Kernel → Asked → Kernel) → Kernel → Call → Kernel
 changed n does k c = if is n (asked c) then does k (asked c) else effect k c
 
--- "One that turns every call away"
-unfoldable pub turnsAllAway : Stepping
-turnsAllAway k c item s = turnedAway k 1 s
+-- "One that turns every call away", with whatever number each gets
+abbrev pub Numbers : Type 0
+Numbers = Kernel → Call → List ℕ → List ℕ → ℕ
+
+unfoldable pub turnsAllAway : Numbers → Stepping
+turnsAllAway number k c item s = turnedAway k (number k c item s) s
 
 -- "One that always answers done"
 unfoldable pub alwaysDone : Stepping
@@ -66,9 +75,9 @@ skipsTheRest = changed 17 (λ k a. tickedBy firstWoken k)
 abbrev pub oneForAll : Kernel → Call → Kernel
 oneForAll = changed 9 (λ k a. if eqb (k .hold) 1 && ltb 0 (k .pended) then oneTick (withHold k 0 0) else released k)
 
--- "One that keeps a made-up pended count"
-abbrev pub madeUp : Kernel → Call → Kernel
-madeUp = changed 17 (λ k a. if ltb 0 (k .hold) then withHold k (k .hold) 7 else ticked k)
+-- "One that keeps a made-up pended count": n, whatever n
+abbrev pub madeUp : ℕ → Kernel → Call → Kernel
+madeUp n = changed 17 (λ k a. if ltb 0 (k .hold) then withHold k (k .hold) n else ticked k)
 
 -- "On give, dropping the giver although it still holds another mutex."
 abbrev pub ownPriority : Kernel → ℕ
@@ -104,18 +113,40 @@ behind k t = if isReady (taskAt (k .tasks) t .place) then toTail k t else k
 abbrev pub losesTurn : Kernel → Kernel
 losesTurn k = let next = chosen k in if sameTask (next .running) (k .running) then next else behind next (k .running)
 
--- "Letting a suspended task stay in an object's list, so an item lands in its slip."
-abbrev pub staysIfBlocked : Kernel → TaskNo → Kernel
-staysIfBlocked k t = if isBlocked (taskAt (k .tasks) t .place) then k else suspended k t
+-- "Letting a suspended task stay in an object's list, so an item lands in its slip.": a waiter that is suspended stays in the order, from which the lists are read,
+-- and a send to an empty queue finds it there as if it still waited; a kernel that lists a suspended task is not sound, so this one does not ask that
+abbrev pub staysIfWaiting : Kernel → TaskNo → Kernel
+staysIfWaiting k t =
+    let x = taskAt (k .tasks) t in
+    if ltb (waited (x .place) .0) 16 then withTask k t (brokenOff x) else suspended k t
 
-abbrev pub staysListed : Kernel → Call → Kernel
-staysListed = changed 3 (λ k a. staysIfBlocked k (a .task))
+-- the first of those who wait on the queue or stand suspended in the order, if it is a suspended one: a list of one, or of none
+abbrev pub stillFirst : Kernel → ObjNo → List TaskNo
+stillFirst k o =
+    let at : TaskNo → Place = λ t. taskAt (k .tasks) t .place in
+    kept (λ t. isSuspended (at t)) (leader (k .tasks) (kept (λ t. waitsOn o (at t) || isSuspended (at t)) (listed (k .order))))
 
--- "Deleting a holder and leaving the next task in that slot as holder."; a kernel whose holder is gone is not sound, so this one does not ask that either
-unfoldable pub deletesHolders : Stepping
-deletesHolders k c item s =
-    let n = laterRow k (asked c) (length item) (length s) in
-    steppedBy (if is 2 (asked c) && eqb n 10 then 0 else n) k c item s
+abbrev pub foundBy : Kernel → Asked → List TaskNo
+foundBy k a = if is 13 a && isEmpty (kindAt (k .objects) (a .object)) then stillFirst k (a .object) else []
+
+-- it gets the item in its slip and is made ready, outcome 1; with none all is done as it should be, but for a suspend
+abbrev pub wokenOr : Kernel → Call → List TaskNo → Kernel
+wokenOr k c [] = changed 3 (λ k a. staysIfWaiting k (a .task)) k c
+wokenOr k c (t ∷ l) = readied k t 1
+
+abbrev pub slipOr : Kernel → Asked → List ℕ → List ℕ → List TaskNo → List ℕ
+slipOr k a item s [] = stored k a item s
+slipOr k a item s (t ∷ l) = putAt (slipOf t) item s
+
+abbrev pub staysListed : Stepping
+staysListed = stepOf laterRow (λ k c. wokenOr k c (foundBy k (asked c))) chosen (λ k a item s. slipOr k a item s (foundBy k a))
+
+-- "Deleting a holder and leaving the next task in that slot as holder."; a kernel whose holder is gone is not sound, so neither does this one ask that
+abbrev pub tenLifted : Kernel → Asked → ℕ → ℕ → ℕ
+tenLifted k a item store = let n = laterRow k a item store in if is 2 a && eqb n 10 then 0 else n
+
+abbrev pub deletesHolders : Stepping
+deletesHolders = stepOf tenLifted effect chosen stored
 
 -- a wrong step; a start, and calls from there; what is looked at; and what the right step and the wrong one show after the last call
 pub record Wrong : Type 0 where
@@ -152,16 +183,23 @@ ofWord made = 1
 ofWord waiting = 2
 ofWord refused = 3
 
+-- by counting down, so that it computes also where one of the two is any number above another
+unfoldable pub sameNumber : ℕ → ℕ → Bool
+sameNumber zero zero = true
+sameNumber zero (suc n) = false
+sameNumber (suc m) zero = false
+sameNumber (suc m) (suc n) = sameNumber m n
+
 unfoldable pub sameList : List ℕ → List ℕ → Bool
 sameList [] [] = true
 sameList [] (y ∷ ys) = false
 sameList (x ∷ xs) [] = false
-sameList (x ∷ xs) (y ∷ ys) = eqb x y && sameList xs ys
+sameList (x ∷ xs) (y ∷ ys) = sameNumber x y && sameList xs ys
 
 unfoldable pub sameSeen : Seen → Seen → Bool
 sameSeen x y =
-    (eqb (ofWord (x .answer .word)) (ofWord (y .answer .word)) && eqb (x .answer .number) (y .answer .number))
-    && (eqb (x .running) (y .running) && sameList (x .looked) (y .looked))
+    (sameNumber (ofWord (x .answer .word)) (ofWord (y .answer .word)) && sameNumber (x .answer .number) (y .answer .number))
+    && (sameNumber (x .running) (y .running) && sameList (x .looked) (y .looked))
 
 -- what comes of a wrong step: shown by the right one, shown by the wrong one, and whether these are two
 pub record Verdict : Type 0 where
@@ -185,17 +223,28 @@ nothing r = []
 abbrev pub outcomes : Stepped → List ℕ
 outcomes r = taskAt (r .kernel .tasks) (task 1) .outcome ∷ taskAt (r .kernel .tasks) (task 2) .outcome ∷ []
 
-unfoldable pub idlePrograms : List Wrong
-idlePrograms =
-    fails turnsAllAway (Create 3 ∷ []) nothing (seen made 1 1 []) (seen refused 1 0 [])
+-- a hold and ticks under it, after which m are pended, and not n
+abbrev pub miscounts : ℕ → List Call → ℕ → Wrong
+miscounts n ts m = fails (stepBy (madeUp n) chosen) (Hold ∷ ts) (λ r. r .kernel .pended ∷ []) (seen done 0 0 (m ∷ [])) (seen done 0 0 (n ∷ []))
+
+unfoldable pub idlePrograms : Numbers → ℕ → List Wrong
+idlePrograms number n =
+    fails (turnsAllAway number) (Create 3 ∷ []) nothing (seen made 1 1 []) (seen refused (number fresh (Create 3) item (replicate 9216 0)) 0 [])
     ∷ fails alwaysDone (Create 3 ∷ []) nothing (seen made 1 1 []) (seen done 0 1 [])
     ∷ fails changesNothing (Create 3 ∷ []) nothing (seen made 1 1 []) (seen made 1 0 [])
     -- two tasks are due at one tick
     ∷ fails (stepBy skipsTheRest chosen) (Create 3 ∷ Delay 1 ∷ Create 3 ∷ Delay 1 ∷ Tick ∷ []) outcomes (seen done 0 1 (1 ∷ 1 ∷ [])) (seen done 0 1 (1 ∷ 0 ∷ []))
     -- the tick count after two pended ticks
     ∷ fails (stepBy oneForAll chosen) (Hold ∷ Tick ∷ Tick ∷ Release ∷ []) (λ r. r .kernel .tick ∷ []) (seen done 0 0 (2 ∷ [])) (seen done 0 0 (1 ∷ []))
-    ∷ fails (stepBy madeUp chosen) (Hold ∷ Tick ∷ []) (λ r. r .kernel .pended ∷ []) (seen done 0 0 (1 ∷ [])) (seen done 0 0 (7 ∷ []))
+    -- whatever the count: none, one, or more
+    ∷ miscounts 0 (Tick ∷ []) 1
+    ∷ miscounts 1 (Tick ∷ Tick ∷ []) 2
+    ∷ miscounts (suc (suc n)) (Tick ∷ []) 1
     ∷ []
+
+-- the outcome of a suspended task; 0 of any other
+abbrev pub brokenOffNow : Task → ℕ
+brokenOffNow x = if isSuspended (x .place) then x .outcome else 0
 
 unfoldable pub easyMistakes : List Wrong
 easyMistakes =
@@ -216,8 +265,14 @@ easyMistakes =
     }
     -- task 3 overtakes 1, ahead of 2 in its line, and leaves again
     ∷ fails (stepBy effect losesTurn) (Create 3 ∷ Create 3 ∷ Create 5 ∷ Suspend (task 3) ∷ []) nothing (seen done 0 1 []) (seen done 0 2 [])
-    -- the first byte of task 1's slip, and of the queue
-    ∷ fails (stepBy staysListed chosen)
+    -- task 1's outcome, suspended as it is, and how many are listed
+    ∷ fails staysListed
+    (MakeQueue 1 1 ∷ Create 3 ∷ Receive (object 0) 10 ∷ Suspend (task 1) ∷ [])
+    (λ r. brokenOffNow (taskAt (r .kernel .tasks) (task 1)) ∷ length (listed (r .kernel .order)) ∷ [])
+    (seen done 0 0 (3 ∷ 1 ∷ []))
+    (seen done 0 0 (3 ∷ 2 ∷ []))
+    -- then the first byte of its slip, and of the queue
+    ∷ fails staysListed
     (MakeQueue 1 1 ∷ Create 3 ∷ Receive (object 0) 10 ∷ Suspend (task 1) ∷ Send (object 0) 0 ∷ [])
     (λ r. getD (r .store) (slipOf (task 1)) 0 ∷ getD (r .store) 0 0 ∷ [])
     (seen done 0 0 (0 ∷ 7 ∷ []))
@@ -230,5 +285,5 @@ easyMistakes =
     (seen made 1 1 (1 ∷ []))
     ∷ []
 
-unfoldable pub wrongs : List Wrong
-wrongs = idlePrograms ++ easyMistakes
+unfoldable pub wrongs : Numbers → ℕ → List Wrong
+wrongs number n = idlePrograms number n ++ easyMistakes

@@ -1,4 +1,6 @@
-// Steps to be timed from outside. Standard input has three letters: which pair of calls, how many tasks beside idle (a for none, p for fifteen), and how often, in hundreds of thousands (a for none).
+// Steps to be timed from outside. Standard input has three letters: which pair of calls (z: the soundness test), how many tasks
+// beside idle (a for none, p for fifteen), and how often, in hundreds of thousands (a for none).
+// With y for the pair it is each of them in turn, in thousands.
 // What is written is a digit that depends on every step, so that none can be left out.
 ghost use Prim.Native.Nat.{_≤_};
 use calls::Call;
@@ -93,6 +95,18 @@ fn tests(start: Kernel, times: u32) -> u32 {
     sum
 }
 
+// The soundness test and each pair, all from the same kernel.
+fn each(start: Kernel, m: u32, times: u32, store: &mut [u8]) -> u32 {
+    let mut sum = tests(start, times);
+    let mut pair = 97u8;
+    while pair < 109 {
+        let one = pairs(start, first(pair, m), second(pair, m), times, store);
+        sum = std::num::wrapping_add_u32(sum, one);
+        pair += 1;
+    }
+    sum
+}
+
 fn letter(b: u8) -> u32
     ensures { λ r. ⌜ r ≤ 158 ⌝ }
 {
@@ -105,13 +119,15 @@ fn main() {
     let mut store = [0u8; 9216];
     let pair = input[0];
     let m = letter(input[1]);
-    let times = letter(input[2]) * 100000;
+    let times = letter(input[2]) * 1000;
     let k = prepared(m, &mut store);
     let mut sum = 0u32;
-    if pair == 122 {
-        sum = tests(k, times);
+    if pair == 121 {
+        sum = each(k, m, times, &mut store);
+    } else if pair == 122 {
+        sum = tests(k, times * 100);
     } else {
-        sum = pairs(k, first(pair, m), second(pair, m), times, &mut store);
+        sum = pairs(k, first(pair, m), second(pair, m), times * 100, &mut store);
     }
     let digit = [48 + (sum % 10) as u8, 10];
     io::write_all(libc::STDOUT_FILENO, &digit);

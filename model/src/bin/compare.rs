@@ -57,10 +57,10 @@ fn compare(pair: &Pair, seed: u64, lines: u64, journals: u64) -> io::Result<bool
 }
 
 impl Pair {
-    /// The first line whose answers differ, counted from 0.
+    /// The first line whose answers differ, counted from 0. Programs that both end badly differ after their last answer.
     fn differ(&self, journal: &[u8]) -> io::Result<Option<usize>> {
         let (a, b) = (run(&self.a, journal)?, run(&self.b, journal)?);
-        if a == b {
+        if a == b && a.ended_well {
             return Ok(None);
         }
         let (a, b) = (split_lines(&a.answers), split_lines(&b.answers));

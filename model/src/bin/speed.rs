@@ -29,11 +29,30 @@ fn letter(b: u8) -> u32 {
     u32::from(b.saturating_sub(b'a'))
 }
 
+/// The pair so many times; z is the soundness test, twice a turn.
+fn turns(kind: u8, m: u32, times: u32, mut kernel: Kernel, store: &mut [u8]) -> u32 {
+    let mut sum = 0u32;
+    if kind == b'z' {
+        for _ in 0..times {
+            sum = sum.wrapping_add(u32::from(soundness(&kernel).is_ok()));
+            sum = sum.wrapping_add(u32::from(soundness(&kernel).is_ok()));
+        }
+    } else {
+        let (a, b) = pair(kind, m);
+        for _ in 0..times {
+            step(&mut kernel, store, &a);
+            step(&mut kernel, store, &b);
+            sum = sum.wrapping_add(u32::from(kernel.running.number()));
+        }
+    }
+    sum
+}
+
 fn main() {
     let mut input = Vec::new();
     std::io::stdin().read_to_end(&mut input).expect("three letters");
     let m = letter(input[1]);
-    let times = letter(input[2]) * 100_000;
+    let times = letter(input[2]) * 1_000;
     let mut store = vec![0; STORE_BYTES];
     let mut kernel = Kernel::fresh();
     for _ in 0..m {
@@ -41,19 +60,11 @@ fn main() {
     }
     step(&mut kernel, &mut store, &Call::MakeQueue { capacity: 4, size: 8 });
     step(&mut kernel, &mut store, &Call::MakeMutex);
-    let mut sum = 0u32;
-    if input[0] == b'z' {
-        for _ in 0..times {
-            sum = sum.wrapping_add(u32::from(soundness(&kernel).is_ok()));
-            sum = sum.wrapping_add(u32::from(soundness(&kernel).is_ok()));
-        }
+    let sum = if input[0] == b'y' {
+        let kinds = b"zabcdefghijkl";
+        kinds.iter().fold(0u32, |sum, &kind| sum.wrapping_add(turns(kind, m, times, kernel.clone(), &mut store)))
     } else {
-        let (a, b) = pair(input[0], m);
-        for _ in 0..times {
-            step(&mut kernel, &mut store, &a);
-            step(&mut kernel, &mut store, &b);
-            sum = sum.wrapping_add(u32::from(kernel.running.number()));
-        }
-    }
+        turns(input[0], m, times * 100, kernel, &mut store)
+    };
     println!("{}", sum % 10);
 }

@@ -3,6 +3,7 @@ use mathlib.Core.List.{_∷_, []}
 use mathlib.Core.Path.{sym, ap, _∙_}
 use borrow.Author.Needs.{needs}
 use Rattle.journal.specs.Frames.{framed, frameOf}
+use Rattle.journal.proofs.Fit.{numbers-fit}
 use Rattle.journal.proofs.table.frame_of.Statement.{statement}
 use Rattle.journal.proofs.table.frame_of.Tie as tie
 
@@ -136,55 +137,89 @@ of-requires-17 : tie.Need-of-requires-17
 of-requires-17 c κs = search needs
 
 returns : tie.Need-returns
-returns c = c .of .ensures ∙ ap frameOf (sym (c .before .before .call .given .1))
+returns c =
+    let k = c .before .before .call .given in
+    (c .of .ensures ∙ ap frameOf (sym (k .1)), rw (k .1) (numbers-fit _ (search needs)))
 
 returns-2 : tie.Need-returns-2
-returns-2 c = c .of2 .ensures ∙ ap (λ (n : ℕ). framed 2 (n ∷ 0 ∷ [])) (c .before .number .ensures) ∙ ap frameOf (sym (c .before .before .before .call2 .given .1))
+returns-2 c =
+    let k = c .before .before .before .call2 .given in
+    (c .of2 .ensures ∙ ap (λ (n : ℕ). framed 2 (n ∷ 0 ∷ [])) (c .before .number .ensures) ∙ ap frameOf (sym (k .1)), rw (k .1) (numbers-fit _ (search needs)))
 
 returns-3 : tie.Need-returns-3
-returns-3 c = c .of3 .ensures ∙ ap (λ (n : ℕ). framed 3 (n ∷ 0 ∷ [])) (c .before .number2 .ensures) ∙ ap frameOf (sym (c .before .before .before .call3 .given .1))
+returns-3 c =
+    let k = c .before .before .before .call3 .given in
+    (c .of3 .ensures ∙ ap (λ (n : ℕ). framed 3 (n ∷ 0 ∷ [])) (c .before .number2 .ensures) ∙ ap frameOf (sym (k .1)), rw (k .1) (numbers-fit _ (search needs)))
 
 returns-4 : tie.Need-returns-4
-returns-4 c = c .of4 .ensures ∙ ap (λ (n : ℕ). framed 4 (n ∷ 0 ∷ [])) (c .before .number3 .ensures) ∙ ap frameOf (sym (c .before .before .before .call4 .given .1))
+returns-4 c =
+    let k = c .before .before .before .call4 .given in
+    (c .of4 .ensures ∙ ap (λ (n : ℕ). framed 4 (n ∷ 0 ∷ [])) (c .before .number3 .ensures) ∙ ap frameOf (sym (k .1)), rw (k .1) (numbers-fit _ (search needs)))
 
 returns-5 : tie.Need-returns-5
-returns-5 c = c .of5 .ensures ∙ ap (λ (n : ℕ). framed 5 (n ∷ (c .before .before .before .call5 .given .0 .1 .0) ∷ [])) (c .before .number4 .ensures) ∙ ap frameOf (sym (c .before .before .before .call5 .given .1))
+returns-5 c =
+    let k = c .before .before .before .call5 .given in
+    (c .of5 .ensures ∙ ap (λ (n : ℕ). framed 5 (n ∷ (k .0 .1 .0) ∷ [])) (c .before .number4 .ensures) ∙ ap frameOf (sym (k .1)), rw (k .1) (numbers-fit _ (search needs)))
 
 returns-6 : tie.Need-returns-6
-returns-6 c = c .of6 .ensures ∙ ap frameOf (sym (c .before .before .call6 .given .1))
+returns-6 c =
+    let k = c .before .before .call6 .given in
+    (c .of6 .ensures ∙ ap frameOf (sym (k .1)), rw (k .1) (numbers-fit _ (search needs)))
 
 returns-7 : tie.Need-returns-7
-returns-7 c = c .of7 .ensures ∙ ap frameOf (sym (c .before .enum-told .given .1))
+returns-7 c =
+    let k = c .before .enum-told .given in
+    (c .of7 .ensures ∙ ap frameOf (sym (k .1)), rw (k .1) (numbers-fit _ (search needs)))
 
 returns-8 : tie.Need-returns-8
-returns-8 c = c .of8 .ensures ∙ ap frameOf (sym (c .before .enum-told2 .given .1))
+returns-8 c =
+    let k = c .before .enum-told2 .given in
+    (c .of8 .ensures ∙ ap frameOf (sym (k .1)), rw (k .1) (numbers-fit _ (search needs)))
 
 returns-9 : tie.Need-returns-9
-returns-9 c = c .of9 .ensures ∙ ap frameOf (sym (c .before .enum-told3 .given .1))
+returns-9 c =
+    let k = c .before .enum-told3 .given in
+    (c .of9 .ensures ∙ ap frameOf (sym (k .1)), rw (k .1) (numbers-fit _ (search needs)))
 
 returns-10 : tie.Need-returns-10
-returns-10 c = c .of10 .ensures ∙ ap frameOf (sym (c .before .before .call7 .given .1))
+returns-10 c =
+    let k = c .before .before .call7 .given in
+    (c .of10 .ensures ∙ ap frameOf (sym (k .1)), rw (k .1) (numbers-fit _ (search needs)))
 
 returns-11 : tie.Need-returns-11
-returns-11 c = c .of11 .ensures ∙ ap frameOf (sym (c .before .enum-told4 .given .1))
+returns-11 c =
+    let k = c .before .enum-told4 .given in
+    (c .of11 .ensures ∙ ap frameOf (sym (k .1)), rw (k .1) (numbers-fit _ (search needs)))
 
 returns-12 : tie.Need-returns-12
-returns-12 c = c .of12 .ensures ∙ ap (λ (n : ℕ). framed 12 (n ∷ 0 ∷ [])) (c .before .number5 .ensures) ∙ ap frameOf (sym (c .before .before .before .call8 .given .1))
+returns-12 c =
+    let k = c .before .before .before .call8 .given in
+    (c .of12 .ensures ∙ ap (λ (n : ℕ). framed 12 (n ∷ 0 ∷ [])) (c .before .number5 .ensures) ∙ ap frameOf (sym (k .1)), rw (k .1) (numbers-fit _ (search needs)))
 
 returns-13 : tie.Need-returns-13
-returns-13 c = c .of13 .ensures ∙ ap (λ (n : ℕ). framed 13 (n ∷ (c .before .before .before .call9 .given .0 .1 .0) ∷ [])) (c .before .number6 .ensures) ∙ ap frameOf (sym (c .before .before .before .call9 .given .1))
+returns-13 c =
+    let k = c .before .before .before .call9 .given in
+    (c .of13 .ensures ∙ ap (λ (n : ℕ). framed 13 (n ∷ (k .0 .1 .0) ∷ [])) (c .before .number6 .ensures) ∙ ap frameOf (sym (k .1)), rw (k .1) (numbers-fit _ (search needs)))
 
 returns-14 : tie.Need-returns-14
-returns-14 c = c .of14 .ensures ∙ ap (λ (n : ℕ). framed 14 (n ∷ (c .before .before .before .call10 .given .0 .1 .0) ∷ [])) (c .before .number7 .ensures) ∙ ap frameOf (sym (c .before .before .before .call10 .given .1))
+returns-14 c =
+    let k = c .before .before .before .call10 .given in
+    (c .of14 .ensures ∙ ap (λ (n : ℕ). framed 14 (n ∷ (k .0 .1 .0) ∷ [])) (c .before .number7 .ensures) ∙ ap frameOf (sym (k .1)), rw (k .1) (numbers-fit _ (search needs)))
 
 returns-15 : tie.Need-returns-15
-returns-15 c = c .of15 .ensures ∙ ap (λ (n : ℕ). framed 15 (n ∷ (c .before .before .before .call11 .given .0 .1 .0) ∷ [])) (c .before .number8 .ensures) ∙ ap frameOf (sym (c .before .before .before .call11 .given .1))
+returns-15 c =
+    let k = c .before .before .before .call11 .given in
+    (c .of15 .ensures ∙ ap (λ (n : ℕ). framed 15 (n ∷ (k .0 .1 .0) ∷ [])) (c .before .number8 .ensures) ∙ ap frameOf (sym (k .1)), rw (k .1) (numbers-fit _ (search needs)))
 
 returns-16 : tie.Need-returns-16
-returns-16 c = c .of16 .ensures ∙ ap (λ (n : ℕ). framed 16 (n ∷ 0 ∷ [])) (c .before .number9 .ensures) ∙ ap frameOf (sym (c .before .before .before .call12 .given .1))
+returns-16 c =
+    let k = c .before .before .before .call12 .given in
+    (c .of16 .ensures ∙ ap (λ (n : ℕ). framed 16 (n ∷ 0 ∷ [])) (c .before .number9 .ensures) ∙ ap frameOf (sym (k .1)), rw (k .1) (numbers-fit _ (search needs)))
 
 returns-17 : tie.Need-returns-17
-returns-17 c = c .of17 .ensures ∙ ap frameOf (sym (c .before .enum-told5 .given .1))
+returns-17 c =
+    let k = c .before .enum-told5 .given in
+    (c .of17 .ensures ∙ ap frameOf (sym (k .1)), rw (k .1) (numbers-fit _ (search needs)))
 
 pub frame-of-spec : {M : Type 1} → statement M
 frame-of-spec =

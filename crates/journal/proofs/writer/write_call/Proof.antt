@@ -1,10 +1,18 @@
 use borrow.Author.Needs.{needs}
+use native.Mathlib.Omega.{arith}
+use Rattle.journal.proofs.Fit.{its-line}
 use Rattle.journal.proofs.Stores.{line-refused, item-refused, call-written}
 use Rattle.journal.proofs.writer.write_call.Statement.{statement}
 use Rattle.journal.proofs.writer.write_call.Tie as tie
 
 returns : tie.Need-returns
-returns c = line-refused _ _ _ (c .if1 .taken)
+returns c =
+    let f = c .before in
+    let a = f .before .before .before .args in
+    record {
+      written = line-refused _ _ _ (c .if1 .taken);
+      has = λ k. its-line (a .call) (a .item .now) (f .frame-of .ensures .1) (f .before .before .shared-slice-known .given) (omega (arith, k));
+    }
 
 frame-of-requires : tie.Need-frame-of-requires
 frame-of-requires c κs = search needs
@@ -18,9 +26,13 @@ both-requires c κs = search needs
 returns-2 : tie.Need-returns-2
 returns-2 c =
     let s = c .before .before in
-    let f = s .before in
-    let a = f .before .before .before .before .args in
-    item-refused (a .call) (a .item .now) (a .line .now) (f .before .if1 .left) _ _ _ (f .frame-of .ensures) (s .shape-of .ensures) (c .before .both .ensures) (c .if2 .taken)
+    let f = s .before .before in
+    let a = f .before .before .before .args in
+    record {
+      written = item-refused (a .call) (a .item .now) (a .line .now) (s .before .if1 .left) _ _ _ (f .frame-of .ensures .0) (s .shape-of .ensures)
+          (c .before .both .ensures) (c .if2 .taken);
+      has = λ k. its-line (a .call) (a .item .now) (f .frame-of .ensures .1) (f .before .before .shared-slice-known .given) (omega (arith, k));
+    }
 
 put-frame-requires : tie.Need-put-frame-requires
 put-frame-requires c κs = search needs
@@ -33,17 +45,20 @@ returns-3 c =
     let p = c .before .before in
     let t = p .before .before in
     let s = t .before .before in
-    let f = s .before in
-    let a = f .before .before .before .before .args in
-    call-written (a .call) (a .item .now) (a .line .now) (f .before .if1 .left) _ _ _ (f .frame-of .ensures) (s .shape-of .ensures) (t .before .both .ensures)
-    _ _ (t .if2 .left) (p .put-frame .ensures)
+    let f = s .before .before in
+    let a = f .before .before .before .args in
+    record {
+      written = call-written (a .call) (a .item .now) (a .line .now) (s .before .if1 .left) _ _ _ (f .frame-of .ensures .0) (s .shape-of .ensures)
+          (t .before .both .ensures) _ _ (t .if2 .left) (p .put-frame .ensures);
+      has = λ k. its-line (a .call) (a .item .now) (f .frame-of .ensures .1) (f .before .before .shared-slice-known .given) (omega (arith, k));
+    }
 
 pub write-call-spec : {M : Type 1} → statement M
 write-call-spec =
     tie.close
     (tie.spec
-    returns
     frame-of-requires
+    returns
     shape-of-requires
     both-requires
     returns-2
