@@ -7,7 +7,7 @@ use native.Mathlib.Omega.{arith}
 use lib.Dec.{eqb, ltb}
 use borrow.Author.Tests.{eqb-true}
 use Rattle.lists.specs.Choice.{if_then_else_}
-use Rattle.lists.specs.Lists.{upTo}
+use Rattle.lists.specs.Lists.{foldl, upTo}
 use Rattle.calls.specs.Numbers.{task}
 use Rattle.order.specs.Order.{listed}
 use Rattle.slots.specs.Places.{isFree, isBlocked, isListed, waitsOn, wakesAt, outcomeDue}
@@ -17,10 +17,11 @@ use Rattle.kernel.specs.Lines.{level, first, toTail, leaves}
 use Rattle.kernel.specs.Sound.{noHigher}
 use Rattle.kernel.specs.Sentences.{Holds, Sound}
 use Rattle.kernel.specs.Waits.{later, wakeOf, readied, blocked, waitFor}
-use Rattle.kernel.specs.Ticks.{wokenIfDue, wakes, oneTick, turned, ticked, ticks, released}
+use Rattle.kernel.specs.Ticks.{wokenIfDue, wakes, byNumber, oneTick, turned, ticked, ticks, released}
 use Rattle.kernel.specs.Items.{oneLess, roomOr, outletFor, outlet, sentBy, sent, sentTo, refilledBy, received, receivedFrom}
 use Rattle.kernel.specs.Effects.{suspended, yielded, delayed, handedTo, handedOn}
 use Rattle.kernel.proofs.Within.{first-meant, first-single}
+use Rattle.kernel.proofs.KeepTicks.{due-there}
 use Rattle.histories.specs.Types.{TaskNo, ObjNo, Place, Free, Ready, Delayed, Waiting, Suspended, Ring, Kind, Unused, Queue, Mutex, Object, WaitersOf, toWaiter, toQueue, toCaller, Kernel}
 use Rattle.histories.proofs.Quiet.{Quiet, still, onward, placed-quiet}
 
@@ -36,13 +37,6 @@ waits-there o (Delayed w) e = refl
 waits-there o (Waiting q w) e = refl
 waits-there o Suspended e = refl
 
-due-there : (n : ℕ) (p : Place) → wakesAt n p ≡ true → isFree p ≡ false
-due-there n Free e = absurd (false≢true e)
-due-there n Ready e = refl
-due-there n (Delayed w) e = refl
-due-there n (Waiting q w) e = refl
-due-there n Suspended e = refl
-
 one-object : (x y : ObjNo) → x .0 ≡ y .0 → x ≡ y
 one-object x y e = λ i. record { 0 = e i }
 
@@ -57,14 +51,19 @@ module _ (t : TaskNo) (os : List Object) where
   unfolding waitFor blocked toTail
   wait-quiet j o w e n = placed-quiet t os (j .tasks) (j .running) (Waiting o (wakeOf (j .tick) w)) 0 refl e (λ p h q. n (subst (λ x. Holds os t x) (one-object p o (sym (eqb-true (o .0) (p .0) q))) h))
 
-  woken-quiet : (j : Kernel) (n : ℕ) → Quiet t os (j .tasks) (wokenIfDue j n .tasks)
+  woken-quiet : (j : Kernel) (u : TaskNo) → Quiet t os (j .tasks) (wokenIfDue j u .tasks)
   unfolding wokenIfDue
-  woken-quiet j n = go (wakesAt (j .tick) (taskAt (j .tasks) (task n) .place)) refl
+  woken-quiet j u = go (wakesAt (j .tick) (taskAt (j .tasks) u .place)) refl
     where
-      go : (b : Bool) → wakesAt (j .tick) (taskAt (j .tasks) (task n) .place) ≡ b
-          → Quiet t os (j .tasks) ((if b then readied j (task n) (outcomeDue (taskAt (j .tasks) (task n) .place)) else j) .tasks)
-      go true e = readied-quiet j (task n) _ (due-there (j .tick) (taskAt (j .tasks) (task n) .place) e)
+      go : (b : Bool) → wakesAt (j .tick) (taskAt (j .tasks) u .place) ≡ b
+          → Quiet t os (j .tasks) ((if b then readied j u (outcomeDue (taskAt (j .tasks) u .place)) else j) .tasks)
+      go true e = readied-quiet j u _ (due-there (j .tick) (taskAt (j .tasks) u .place) e)
       go false e = still
+
+  wakes-quiet : (l : List TaskNo) (j : Kernel) → Quiet t os (j .tasks) (foldl wokenIfDue j l .tasks)
+  unfolding foldl
+  wakes-quiet [] j = still
+  wakes-quiet (u ∷ l) j = onward (woken-quiet j u) (wakes-quiet l (wokenIfDue j u))
 
   loop-quiet : (f : Kernel → ℕ → Kernel) → ((j : Kernel) (n : ℕ) → Quiet t os (j .tasks) (f j n .tasks)) → (n : ℕ) (j : Kernel) → Quiet t os (j .tasks) (upTo f n j .tasks)
   unfolding upTo
@@ -73,7 +72,7 @@ module _ (t : TaskNo) (os : List Object) where
 
   tick-quiet : (j : Kernel) → Quiet t os (j .tasks) (oneTick j .tasks)
   unfolding oneTick wakes
-  tick-quiet j = loop-quiet wokenIfDue woken-quiet 16 (withTick j (later (j .tick) 1))
+  tick-quiet j = wakes-quiet (byNumber 16) (withTick j (later (j .tick) 1))
 
   pub ticked-quiet : (j : Kernel) → Quiet t os (j .tasks) (ticked j .tasks)
   unfolding ticked turned toTail

@@ -20,7 +20,7 @@ use Rattle.kernel.specs.Refusals.{outOfRange, namesNone, wrongSize, notForIdle,
 use Rattle.kernel.specs.Sound.{noHigher, runsFine, sound}
 use Rattle.kernel.specs.Step.{stored, answered, accepted, step}
 use Rattle.kernel.specs.Tables.{fresh, taskAt, kindAt, holds, freeSlot, freeObject}
-use Rattle.kernel.specs.Ticks.{wokenIfDue, wakes, oneTick, turned, ticked, ticks, released, held}
+use Rattle.kernel.specs.Ticks.{wokenIfDue, wakes, byNumber, oneTick, turned, ticked, ticks, released, held}
 use Rattle.kernel.specs.Waits.{readied, blocked, waitFor}
 
 -- what is changed is changed in the step itself: with the kernel's own parts the frame is the step
@@ -29,7 +29,7 @@ unfolding stepOf step accepted
 frame k c i s = refl
 
 pub caught : (number : Numbers) (n : ℕ) → map found (wrongs number n) ≡ map told (wrongs number n)
-unfolding wrongs idlePrograms easyMistakes stepOf turnsAllAway alwaysDone changesNothing after showsBy sameNumber sameList sameSeen every allBelow foldl upTo index any kept asked ordered without count tidy putAt created deleted suspended resumed yielded delayed queueMade mutexMade removed taken handedOn given effect itemAt outlet sent storeSent received storeReceived line those highest leader first chosen toTail toHead leaves moved movedIf prioritized newPriority lent ownAgain outOfRange namesNone wrongSize notForIdle notWithHold noSlot heldOrWaited inUse notHis hisAlready notSuspended mustWait noDepth noTick table laterRow refusal noHigher runsFine sound stored answered accepted step fresh taskAt kindAt holds freeSlot freeObject wokenIfDue wakes oneTick turned ticked ticks released held readied blocked waitFor
+unfolding wrongs idlePrograms easyMistakes stepOf turnsAllAway alwaysDone changesNothing after showsBy sameNumber sameList sameSeen every allBelow foldl upTo index any kept asked ordered without count tidy putAt created deleted suspended resumed yielded delayed queueMade mutexMade removed taken handedOn given effect itemAt outlet sent storeSent received storeReceived line those highest leader first chosen toTail toHead leaves moved movedIf prioritized newPriority lent ownAgain outOfRange namesNone wrongSize notForIdle notWithHold noSlot heldOrWaited inUse notHis hisAlready notSuspended mustWait noDepth noTick table laterRow refusal noHigher runsFine sound stored answered accepted step fresh taskAt kindAt holds freeSlot freeObject wokenIfDue wakes byNumber oneTick turned ticked ticks released held readied blocked waitFor
 caught number n = refl
 
 same-number : (n : ℕ) → sameNumber n n ≡ true

@@ -8,8 +8,7 @@ use lib.Dec.{eqb, ltb}
 use lib.ListN.{length}
 use borrow.Author.Tests.{eqb-true}
 use Rattle.lists.specs.Choice.{if_then_else_}
-use Rattle.lists.specs.Lists.{upTo}
-use Rattle.calls.specs.Numbers.{task}
+use Rattle.lists.specs.Lists.{foldl, upTo}
 use Rattle.calls.specs.Asked.{asked}
 use Rattle.order.specs.Order.{listed}
 use Rattle.slots.specs.Places.{isListed, wakesAt, outcomeDue}
@@ -19,7 +18,7 @@ use Rattle.kernel.specs.Lines.{level, first, runsIf, chosen, toTail, leaves}
 use Rattle.kernel.specs.Sound.{noHigher}
 use Rattle.kernel.specs.Waits.{later, readied, blocked, waitFor}
 use Rattle.kernel.specs.Loans.{prioritized, newPriority, lent, ownAgain}
-use Rattle.kernel.specs.Ticks.{wokenIfDue, wakes, oneTick, turned, ticked, ticks, released, held}
+use Rattle.kernel.specs.Ticks.{wokenIfDue, wakes, byNumber, oneTick, turned, ticked, ticks, released, held}
 use Rattle.kernel.specs.Items.{oneLess, outlet, sentBy, sent, sentTo, refilledBy, received, receivedFrom}
 use Rattle.kernel.specs.Effects.{created, deleted, suspended, resumed, yielded, delayed, queueMade, mutexMade, removed, takenFrom, taken, handedTo, handedOn, given, effect}
 use Rattle.kernel.specs.Refusals.{refusal}
@@ -30,22 +29,27 @@ use Rattle.promises.specs.History.{Made, after, reached}
 use Rattle.promises.specs.Depth.{deeper, isAccepted, depth}
 
 -- ── what leaves the depth as it was
-woken-hold : (k : Kernel) (n : ℕ) → wokenIfDue k n .hold ≡ k .hold
+woken-hold : (k : Kernel) (t : TaskNo) → wokenIfDue k t .hold ≡ k .hold
 unfolding wokenIfDue readied toTail
-woken-hold k n = go (wakesAt (k .tick) (taskAt (k .tasks) (task n) .place))
+woken-hold k t = go (wakesAt (k .tick) (taskAt (k .tasks) t .place))
   where
-    go : (b : Bool) → (if b then readied k (task n) (outcomeDue (taskAt (k .tasks) (task n) .place)) else k) .hold ≡ k .hold
+    go : (b : Bool) → (if b then readied k t (outcomeDue (taskAt (k .tasks) t .place)) else k) .hold ≡ k .hold
     go true = refl
     go false = refl
 
-turns-hold : (f : Kernel → ℕ → Kernel) → ((k : Kernel) (n : ℕ) → f k n .hold ≡ k .hold) → (n : ℕ) (k : Kernel) → upTo f n k .hold ≡ k .hold
-unfolding upTo
-turns-hold f h zero k = refl
-turns-hold f h (suc n) k = h (upTo f n k) n ∙ turns-hold f h n k
+wakes-hold : (l : List TaskNo) (k : Kernel) → foldl wokenIfDue k l .hold ≡ k .hold
+unfolding foldl
+wakes-hold [] k = refl
+wakes-hold (t ∷ l) k = wakes-hold l (wokenIfDue k t) ∙ woken-hold k t
 
 tick-hold : (k : Kernel) → oneTick k .hold ≡ k .hold
 unfolding oneTick wakes
-tick-hold k = turns-hold wokenIfDue woken-hold 16 (withTick k (later (k .tick) 1))
+tick-hold k = wakes-hold (byNumber 16) (withTick k (later (k .tick) 1))
+
+ticks-hold : (n : ℕ) (k : Kernel) → upTo (λ x i. oneTick x) n k .hold ≡ k .hold
+unfolding upTo
+ticks-hold zero k = refl
+ticks-hold (suc n) k = tick-hold (upTo (λ x i. oneTick x) n k) ∙ ticks-hold n k
 
 turned-hold : (k : Kernel) → turned k .hold ≡ k .hold
 unfolding turned toTail
@@ -126,7 +130,7 @@ module _ (k : Kernel) where
   released-hold = go (eqb (k .hold) 1) refl
     where
       go : (b : Bool) → eqb (k .hold) 1 ≡ b → (if b then upTo (λ x i. oneTick x) (k .pended) (withHold k 0 0) else withHold k (k .hold - 1) (k .pended)) .hold ≡ k .hold - 1
-      go true e = turns-hold (λ x i. oneTick x) (λ x i. tick-hold x) (k .pended) (withHold k 0 0) ∙ omega (arith, eqb-true (k .hold) 1 e)
+      go true e = ticks-hold (k .pended) (withHold k 0 0) ∙ omega (arith, eqb-true (k .hold) 1 e)
       go false e = refl
 
   effect-hold : (c : Call) → effect k c .hold ≡ deeper (asked c) (k .hold)

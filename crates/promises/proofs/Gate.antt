@@ -14,10 +14,10 @@ use Rattle.kernel.specs.Refusals.{outOfRange, namesNone, wrongSize, notForIdle,
 use Rattle.kernel.specs.Sound.{noHigher, runsFine, sound}
 use Rattle.kernel.specs.Step.{stored, answered, accepted, step}
 use Rattle.kernel.specs.Tables.{fresh, taskAt, kindAt, holds, freeSlot, freeObject}
-use Rattle.kernel.specs.Ticks.{wokenIfDue, wakes, oneTick, turned, ticked, ticks, released, held}
+use Rattle.kernel.specs.Ticks.{wokenIfDue, wakes, byNumber, oneTick, turned, ticked, ticks, released, held}
 use Rattle.kernel.specs.Waits.{readied, blocked, waitFor}
 use Rattle.promises.specs.Cases.{Case, run, ran, p1, p2, p3, p4, p5, p6, p7, p8, p9, p10, p11, p12, cases}
 
 pub both-sides-of-the-gate : map ran cases ≡ map (λ (c : Case). c .expected) cases
-unfolding cases p1 p2 p3 p4 p5 p6 p7 p8 p9 p10 p11 p12 run every allBelow foldl upTo index any kept asked ordered without count tidy putAt created deleted suspended resumed yielded delayed queueMade mutexMade removed taken handedOn given effect itemAt outlet sent storeSent received storeReceived line those highest leader first chosen toTail toHead leaves moved movedIf prioritized newPriority lent ownAgain outOfRange namesNone wrongSize notForIdle notWithHold noSlot heldOrWaited inUse notHis hisAlready notSuspended mustWait noDepth noTick table laterRow refusal noHigher runsFine sound stored answered accepted step fresh taskAt kindAt holds freeSlot freeObject wokenIfDue wakes oneTick turned ticked ticks released held readied blocked waitFor
+unfolding cases p1 p2 p3 p4 p5 p6 p7 p8 p9 p10 p11 p12 run every allBelow foldl upTo index any kept asked ordered without count tidy putAt created deleted suspended resumed yielded delayed queueMade mutexMade removed taken handedOn given effect itemAt outlet sent storeSent received storeReceived line those highest leader first chosen toTail toHead leaves moved movedIf prioritized newPriority lent ownAgain outOfRange namesNone wrongSize notForIdle notWithHold noSlot heldOrWaited inUse notHis hisAlready notSuspended mustWait noDepth noTick table laterRow refusal noHigher runsFine sound stored answered accepted step fresh taskAt kindAt holds freeSlot freeObject wokenIfDue wakes byNumber oneTick turned ticked ticks released held readied blocked waitFor
 both-sides-of-the-gate = refl

@@ -8,7 +8,7 @@ use lib.Dec.{eqb, ltb, leb}
 use lib.ListN.{length, set}
 use borrow.Author.Tests.{eqb-true, leb-true, leb-false}
 use Rattle.lists.specs.Choice.{if_then_else_}
-use Rattle.lists.specs.Lists.{upTo, larger}
+use Rattle.lists.specs.Lists.{foldl, upTo, larger}
 use Rattle.calls.specs.declared.TaskNo.{TaskNo}
 use Rattle.calls.specs.declared.ObjNo.{ObjNo}
 use Rattle.calls.specs.Numbers.{task, object, sameTask}
@@ -33,7 +33,7 @@ use Rattle.kernel.specs.Lines.{level, first, toTail, toHead, leaves}
 use Rattle.kernel.specs.Sound.{noHigher}
 use Rattle.kernel.specs.Waits.{later, wakeOf, readied, blocked, waitFor}
 use Rattle.kernel.specs.Loans.{moved, movedIf, prioritized, newPriority, lent, ownAgain}
-use Rattle.kernel.specs.Ticks.{wokenIfDue, wakes, oneTick, turned, ticked, ticks, released, held}
+use Rattle.kernel.specs.Ticks.{wokenIfDue, wakes, byNumber, oneTick, turned, ticked, ticks, released, held}
 use Rattle.kernel.specs.Items.{oneLess, oneMore, outlet, outletFor, sentBy, sent, refilledBy, received, sentTo, receivedFrom}
 use Rattle.kernel.specs.Effects.{created, deleted, suspended, resumed, yielded, delayed, queueMade, mutexMade, removed, takenFrom, taken, handedTo, handedOn, given}
 use Rattle.kernel.proofs.Slots.{past-tasks}
@@ -176,17 +176,22 @@ removed-too o w = object-too o Unused w
 count-too : {k j : Kernel} (h p : ℕ) → Twins k j → Twins (withHold k h p) (withHold j h p)
 count-too {k} h p w = twice (λ z. withHold z h p) w (λ m v. beside k m v (k .objects) (k .tick) h p)
 
-woken-too : {k j : Kernel} (n : ℕ) → Twins k j → Twins (wokenIfDue k n) (wokenIfDue j n)
+woken-too : {k j : Kernel} (t : TaskNo) → Twins k j → Twins (wokenIfDue k t) (wokenIfDue j t)
 unfolding wokenIfDue
-woken-too {k} n w = twice (λ z. wokenIfDue z n) w (λ o v. go o v (wakesAt (k .tick) p) refl)
+woken-too {k} t w = twice (λ z. wokenIfDue z t) w (λ o v. go o v (wakesAt (k .tick) p) refl)
   where
     p : Place
-    p = taskAt (k .tasks) (task n) .place
+    p = taskAt (k .tasks) t .place
 
     go : (o : Order) → Twins k (withOrder k o) → (b : Bool) → wakesAt (k .tick) p ≡ b
-        → Twins (if b then readied k (task n) (outcomeDue p) else k) (if b then readied (withOrder k o) (task n) (outcomeDue p) else withOrder k o)
-    go o v true e = readied-too (task n) (outcomeDue p) (slot-low (wakesAt (k .tick)) refl (k .tasks) (task n) (v .slots) e) v
+        → Twins (if b then readied k t (outcomeDue p) else k) (if b then readied (withOrder k o) t (outcomeDue p) else withOrder k o)
+    go o v true e = readied-too t (outcomeDue p) (slot-low (wakesAt (k .tick)) refl (k .tasks) t (v .slots) e) v
     go o v false e = v
+
+wakes-too : {k j : Kernel} (l : List TaskNo) → Twins k j → Twins (foldl wokenIfDue k l) (foldl wokenIfDue j l)
+unfolding foldl
+wakes-too [] w = w
+wakes-too (t ∷ l) w = wakes-too l (woken-too t w)
 
 -- what every step of a loop keeps, the loop keeps
 each-too : {k j : Kernel} (f : Kernel → ℕ → Kernel) → ((x y : Kernel) (n : ℕ) → Twins x y → Twins (f x n) (f y n)) → (n : ℕ) → Twins k j → Twins (upTo f n k) (upTo f n j)
@@ -196,7 +201,7 @@ each-too {k} {j} f g (suc n) w = g (upTo f n k) (upTo f n j) n (each-too f g n w
 
 one-tick-too : {k j : Kernel} → Twins k j → Twins (oneTick k) (oneTick j)
 unfolding oneTick wakes
-one-tick-too {k} w = twice (λ z. oneTick z) w (λ o v. each-too wokenIfDue (λ x y n. woken-too n) 16 (beside k o v (k .objects) (later (k .tick) 1) (k .hold) (k .pended)))
+one-tick-too {k} w = twice (λ z. oneTick z) w (λ o v. wakes-too (byNumber 16) (beside k o v (k .objects) (later (k .tick) 1) (k .hold) (k .pended)))
 
 turned-too : {k j : Kernel} → Twins k j → Twins (turned k) (turned j)
 unfolding turned

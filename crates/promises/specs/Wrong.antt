@@ -66,7 +66,7 @@ tickedBy wake k =
 
 -- "One that makes the first due task ready and skips the rest"
 abbrev pub firstWoken : Kernel → Kernel
-firstWoken k = wokenIfDue k (index (λ (x : Task). wakesAt (k .tick) (x .place)) (k .tasks))
+firstWoken k = wokenIfDue k (task (index (λ (x : Task). wakesAt (k .tick) (x .place)) (k .tasks)))
 
 abbrev pub skipsTheRest : Kernel → Call → Kernel
 skipsTheRest = changed 17 (λ k a. tickedBy firstWoken k)
