@@ -15,5 +15,6 @@ pub mod AnyBlocks
 pub mod Progress
 pub mod LineSteps
 pub mod LineForLine
+pub mod WholeBlocks
 pub mod EachLine
 pub mod Typing
