@@ -5,6 +5,7 @@ mod dues;
 mod endings;
 mod lines;
 mod loans;
+mod parts;
 mod queues;
 mod refusals;
 mod rings;
