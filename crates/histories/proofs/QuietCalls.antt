@@ -18,11 +18,11 @@ use Rattle.kernel.specs.Sound.{noHigher}
 use Rattle.kernel.specs.Sentences.{Holds, Sound}
 use Rattle.kernel.specs.Waits.{later, wakeOf, readied, blocked, waitFor}
 use Rattle.kernel.specs.Ticks.{wokenIfDue, wakes, byNumber, oneTick, turned, ticked, ticks, released}
-use Rattle.kernel.specs.Items.{oneLess, roomOr, outletFor, outlet, sentBy, sent, sentTo, refilledBy, received, receivedFrom}
+use Rattle.kernel.specs.Items.{oneLess, sentBy, sent, sentTo, refilledBy, received, receivedFrom}
 use Rattle.kernel.specs.Effects.{suspended, yielded, delayed, handedTo, handedOn}
-use Rattle.kernel.proofs.Within.{first-meant, first-single}
+use Rattle.kernel.proofs.Within.{first-meant, first-single, by-outlet}
 use Rattle.kernel.proofs.KeepTicks.{due-there}
-use Rattle.histories.specs.Types.{TaskNo, ObjNo, Place, Free, Ready, Delayed, Waiting, Suspended, Ring, Kind, Unused, Queue, Mutex, Object, WaitersOf, toWaiter, toQueue, toCaller, Kernel}
+use Rattle.histories.specs.Types.{TaskNo, ObjNo, Place, Free, Ready, Delayed, Waiting, Suspended, Ring, Kind, Unused, Queue, Mutex, Object, WaitersOf, Kernel}
 use Rattle.histories.proofs.Quiet.{Quiet, still, onward, placed-quiet}
 
 -- from a kernel to the next
@@ -131,20 +131,12 @@ module _ (k : Kernel) (S : Sound k) (t : TaskNo) where
     caller-waits = wait-quiet t (k .objects) k o w caller-there (λ h. let z : _≡_ {A = ℕ} 0 1 = cc in omega arith)
 
     sent-quiet : Quietly t k (sent k o q w)
-    unfolding sent outlet
-    sent-quiet = go (first k (WaitersOf o)) refl
-      where
-        room : (b : Bool) → Quietly t k (sentBy k o q w (if b then toQueue else toCaller))
-        room true = still
-        room false = caller-waits
-
-        told : (u : TaskNo) (r : List TaskNo) → first k (WaitersOf o) ≡ u ∷ r → (b : Bool) → Quietly t k (sentBy k o q w (if b then toWaiter u else roomOr q))
-        told u r e true = readied-quiet t (readied k u 1 .objects) k u 1 (first-there o u r e)
-        told u r e false = room (ltb (q .count) (q .capacity))
-
-        go : (f : List TaskNo) → first k (WaitersOf o) ≡ f → Quietly t k (sentBy k o q w (outletFor q f))
-        go [] e = room (ltb (q .count) (q .capacity))
-        go (u ∷ r) e = told u r e (eqb (q .count) 0)
+    unfolding sent
+    sent-quiet =
+        by-outlet k o q (λ x. Quietly t k (sentBy k o q w x))
+        (λ u e. readied-quiet t (readied k u 1 .objects) k u 1 (first-there o u [] e))
+        still
+        caller-waits
 
     received-quiet : Quietly t k (received k o q w)
     unfolding received

@@ -14,4 +14,3 @@ pub use Rattle.slots.specs.declared.Kind.the-variants.{Unused, Queue, Mutex}
 pub use Rattle.slots.specs.declared.Object.{Object}
 pub use Rattle.slots.specs.declared.Who.the-variants.{AllReady, WaitersOf}
 pub use Rattle.kernel.specs.declared.Kernel.{Kernel}
-pub use Rattle.kernel.specs.declared.Outlet.the-variants.{Waiter as toWaiter, Ring as toQueue, Caller as toCaller}

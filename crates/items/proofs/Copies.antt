@@ -6,12 +6,11 @@ use mathlib.Core.List.{List, [], _∷_, _++_, append-nil}
 use native.Mathlib.Numerals.{add-one}
 use native.Mathlib.Nat.{zero-add, add-zero}
 use native.Mathlib.Omega.{arith}
-use lib.Dec.{ltb, leb}
+use lib.Dec.{ltb}
 use lib.ListN.{length, getD, set, take, drop, replicate, length-take, length-drop, length-set, take-append-drop, drop-of-length-le}
-use lib.Seq.{sets, length-sets, take-suc, take-all, take-add, set-out, sets-eq, take-at}
-use borrow.Author.Tests.{ltb-true, ltb-false, leb-true, le-leb}
-use Rattle.lists.proofs.Bools.{and-left, and-right, same-test}
-use Rattle.items.specs.Bytes.{bytesAt, putAt, standsIn, carried}
+use lib.Seq.{sets, length-sets, take-nil, take-suc, take-all, take-add, take-append-le, drop-append-le, drop-drop, set-out, set-append-left, sets-eq, take-at}
+use borrow.Author.Tests.{ltb-true, ltb-false}
+use Rattle.items.specs.Bytes.{bytesAt, putAt}
 
 -- bytes set behind the others
 sets-append : (vs ws l : List ℕ) (i : ℕ) → sets l i (vs ++ ws) ≡ sets (sets l i vs) (i + length vs) ws
@@ -93,31 +92,67 @@ put-back xs vs ys at h e =
     rw (e, tail-part xs at, drop-of-length-le (drop at xs) g, append-nil)
     (sym (ap (λ (l : List ℕ). sets l at vs) (sym (take-append-drop at xs)) ∙ ap (λ n. sets (take at xs ++ drop at xs) n vs) (sym m) ∙ sets-behind vs (take at xs) (drop at xs) 0))
 
--- the bytes that a buffer of 64 holds after a fetch
-pub fetched : (xs : List ℕ) (n : ℕ) → n ≤ 64 → n ≤ length xs → take n (sets (replicate 64 0) 0 (take n xs)) ≡ take n xs
-fetched xs n h l =
-    let m : length (take n xs) ≡ n = rw length-take (omega arith) in
-    let f : 0 + length (take n xs) ≤ 64 = omega arith in
-    rw (sets-eq (take n xs) (replicate 64 0) 0 f) (take-at (take n xs) (drop (0 + length (take n xs)) (replicate 64 0)) n m)
+-- bytes set before others
+sets-before : (vs p q : List ℕ) (i : ℕ) → i + length vs ≤ length p → sets (p ++ q) i vs ≡ sets p i vs ++ q
+sets-before [] p q i h = refl
+sets-before (v ∷ vs) p q i h =
+    let l : suc i + length vs ≤ length (set p i v) = rw length-set (omega arith) in
+    ap (λ (m : List ℕ). sets m (suc i) vs) (set-append-left p q i v (omega arith)) ∙ sets-before vs (set p i v) q (suc i) l
 
--- a subtraction or a sum: the same test
-pub less-or-sum : (from n len : ℕ) → from ≤ len → leb n (len - from) ≡ leb (from + n) len
-less-or-sum from n len h =
-    same-test (leb n (len - from)) (leb (from + n) len)
-    (λ e. le-leb (from + n) len (omega (arith, leb-true n (len - from) e)))
-    (λ e. le-leb n (len - from) (omega (arith, leb-true (from + n) len e)))
+-- the bytes that a buffer of 64 holds
+held : (bs : List ℕ) (n : ℕ) → n ≤ 64 → length bs ≡ n → take n (putAt 0 bs (replicate 64 0)) ≡ bs
+unfolding putAt
+held bs n h l =
+    let f : 0 + length bs ≤ 64 = omega arith in
+    rw (sets-eq bs (replicate 64 0) 0 f) (take-at bs (drop (0 + length bs) (replicate 64 0)) n l)
 
--- what was fetched from a place and put to another was carried
-pub carry-done : (s item : List ℕ) (from to n : ℕ) → standsIn from n (length s) ≡ true → item ≡ sets (replicate 64 0) 0 (take n (take (length s - from) (drop from s)))
-    → putAt to (take n item) s ≡ carried from to n s
-unfolding carried bytesAt
-carry-done s item from to n h e =
-    let small : n ≤ 64 = leb-true n 64 (and-left (leb n 64) (leb (from + n) (length s)) h) in
-    let there : from + n ≤ length s = leb-true (from + n) (length s) (and-right (leb n 64) (leb (from + n) (length s)) h) in
-    let long : n ≤ length (drop from s) = rw length-drop (omega arith) in
-    rw (h, e, tail-part s from, fetched (drop from s) n small long)
+-- what a buffer holds that was filled from the part behind a place, and where there is none
+pub from-tail : (xs r : List ℕ) (at n : ℕ) → r ≡ sets (replicate 64 0) 0 (take n (take (length xs - at) (drop at xs))) → r ≡ putAt 0 (bytesAt at n xs) (replicate 64 0)
+unfolding bytesAt putAt
+from-tail xs r at n e = e ∙ ap (λ (l : List ℕ). sets (replicate 64 0) 0 (take n l)) (tail-part xs at)
 
--- an item that stands in the store is carried
-pub carried-is : (from to n : ℕ) (s : List ℕ) → n ≤ 64 → from + n ≤ length s → carried from to n s ≡ putAt to (bytesAt from n s) s
-unfolding carried
-carried-is from to n s h l = rw (le-leb n 64 h, le-leb (from + n) (length s) l)
+pub from-none : (xs : List ℕ) (at n : ℕ) → length xs ≤ at → replicate 64 0 ≡ putAt 0 (bytesAt at n xs) (replicate 64 0)
+unfolding bytesAt putAt
+from-none xs at n h = sym (ap (λ (l : List ℕ). sets (replicate 64 0) 0 l) (ap (take n) (drop-of-length-le xs h) ∙ take-nil n))
+
+-- the part of the store from a place up to an end, lent to a copy: an item that fits it is put into the store itself, and "All other bytes stay"; it is read as it stands in the store
+module _ (xs : List ℕ) (from end : ℕ) (up : from ≤ end) (fits : end ≤ length xs) where
+  abbrev part : List ℕ
+  part = take (end - from) (drop from xs)
+
+  abbrev behind : List ℕ
+  behind = drop (end - from) (drop from xs)
+
+  part-length : length part ≡ end - from
+  part-length = rw (length-take, length-drop) (omega arith)
+
+  three : xs ≡ take from xs ++ (part ++ behind)
+  three = rw (take-append-drop (end - from) (drop from xs), take-append-drop from xs)
+
+  pub part-put : (ys item : List ℕ) (n at to : ℕ) → from + at ≡ to → to + n ≤ end → ys ≡ putAt at (take n item) part
+      → take from xs ++ (ys ++ behind) ≡ putAt to (take n item) xs
+  unfolding putAt
+  part-put ys item n at to p h e =
+      let m : length (take from xs) + at ≡ to = rw length-take (omega arith) in
+      let l : at + length (take n item) ≤ length part = rw (part-length, length-take) (omega arith) in
+      rw e
+      (sym (ap (λ (z : List ℕ). sets z to (take n item)) three
+      ∙ ap (λ i. sets (take from xs ++ (part ++ behind)) i (take n item)) (sym m)
+      ∙ sets-behind (take n item) (take from xs) (part ++ behind) at
+      ∙ ap (λ (z : List ℕ). take from xs ++ z) (sets-before (take n item) part behind at l)))
+
+  part-bytes : (at to n : ℕ) → from + at ≡ to → to + n ≤ end → bytesAt at n part ≡ bytesAt to n xs
+  unfolding bytesAt
+  part-bytes at to n p h =
+      let l : at ≤ length part = rw part-length (omega arith) in
+      let m : n ≤ length (drop at part) = rw (length-drop, part-length) (omega arith) in
+      sym (ap (λ i. take n (drop i xs)) (sym p)
+      ∙ ap (take n) (sym (drop-drop at from xs) ∙ ap (drop at) (sym (take-append-drop (end - from) (drop from xs))) ∙ drop-append-le at part behind l)
+      ∙ take-append-le n (drop at part) behind m)
+
+  pub part-fetch : (r : List ℕ) (n at to : ℕ) → from + at ≡ to → to + n ≤ end → n ≤ 64
+      → r ≡ putAt 0 (bytesAt at n part) (replicate 64 0) → take n r ≡ bytesAt to n xs
+  unfolding bytesAt
+  part-fetch r n at to p h s e =
+      let l : length (bytesAt at n part) ≡ n = rw (length-take, length-drop, part-length) (omega arith) in
+      ap (take n) e ∙ held (bytesAt at n part) n s l ∙ part-bytes at to n p h

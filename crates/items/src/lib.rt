@@ -1,12 +1,9 @@
-// Bytes of the lent store: an item put into its place, and carried from one place to another. What is out of reach is left as it is.
+// An item's bytes put into a part of the lent store, and fetched from one. What is out of reach is left as it is.
 ghost use mathlib.Core.Path.{_≡_};
-ghost use mathlib.Core.Bool.{_&&_};
-ghost use Prim.Native.Nat.{ℕ, _+_, min};
-ghost use lib.Dec.{leb};
-ghost use lib.ListN.{length, take, replicate};
+ghost use Prim.Native.Nat.{min};
+ghost use lib.ListN.{take, replicate};
 ghost use lib.Seq.{sets};
-ghost use Rattle.lists.specs.Choice.{if_then_else_};
-ghost use Rattle.items.specs.Bytes.{bytesAt, putAt, standsIn, carried};
+ghost use Rattle.items.specs.Bytes.{bytesAt, putAt};
 
 fn least(a: usize, b: usize) -> usize
     ensures { λ r. ⌜ r ≡ min a b ⌝ }
@@ -15,7 +12,7 @@ fn least(a: usize, b: usize) -> usize
 }
 
 // The first `n` bytes of `item` over the first of `part`.
-pub fn put(part: &mut [u8], item: &[u8], n: usize)
+fn put(part: &mut [u8], item: &[u8], n: usize)
     ensures { λ r. ⌜ now (part .exit) ≡ sets (now (part .entry)) 0 (take n (now (item .entry))) ⌝ }
 {
     let e = least(n, least(part.len(), item.len()));
@@ -26,17 +23,17 @@ pub fn put(part: &mut [u8], item: &[u8], n: usize)
     }
 }
 
-// The first `n` bytes of `item` put into the store from `at` on.
-pub fn put_at(store: &mut [u8], at: usize, item: &[u8], n: usize)
-    ensures { λ r. ⌜ now (store .exit) ≡ putAt at (take n (now (item .entry))) (now (store .entry)) ⌝ }
+// The first `n` bytes of `item` put into the part from `at` on.
+pub fn put_at(part: &mut [u8], at: usize, item: &[u8], n: usize)
+    ensures { λ r. ⌜ now (part .exit) ≡ putAt at (take n (now (item .entry))) (now (part .entry)) ⌝ }
 {
-    if at <= store.len() {
-        put(&mut store[at..], item, n);
+    if at <= part.len() {
+        put(&mut part[at..], item, n);
     }
 }
 
 // The first `n` bytes of `part`, in a buffer of an item's largest size.
-pub fn fetch(part: &[u8], n: usize) -> [u8; 64]
+fn fetch(part: &[u8], n: usize) -> [u8; 64]
     ensures { λ r. ⌜ r ≡ sets (replicate 64 0) 0 (take n (now (part .entry))) ⌝ }
 {
     let mut out = [0u8; 64];
@@ -49,25 +46,13 @@ pub fn fetch(part: &[u8], n: usize) -> [u8; 64]
     out
 }
 
-// An item of `n` bytes, at most 64, stands from `from` on in a store of `len` bytes.
-fn stands(from: usize, n: usize, len: usize) -> bool
-    ensures { λ r. ⌜ r ≡ standsIn from n len ⌝ }
+// The `n` bytes of the part from `at` on, first in such a buffer; zeros behind them.
+pub fn fetch_at(part: &[u8], at: usize, n: usize) -> [u8; 64]
+    ensures { λ r. ⌜ r ≡ putAt 0 (bytesAt at n (now (part .entry))) (replicate 64 0) ⌝ }
 {
-    if 64 < n {
-        return false;
-    }
-    if len < from {
-        return false;
-    }
-    n <= len - from
-}
-
-// An item copied from one place of the store to another; nothing where it is no item, or none stands there.
-pub fn carry(store: &mut [u8], from: usize, to: usize, n: usize)
-    ensures { λ r. ⌜ now (store .exit) ≡ carried from to n (now (store .entry)) ⌝ }
-{
-    if stands(from, n, store.len()) {
-        let item = fetch(&store[from..], n);
-        put_at(store, to, &item, n);
+    if at <= part.len() {
+        fetch(&part[at..], n)
+    } else {
+        [0u8; 64]
     }
 }

@@ -10,11 +10,11 @@ use Rattle.lists.proofs.Bools.{or-off}
 use Rattle.lists.specs.Choice.{if_then_else_}
 use Rattle.calls.specs.Asked.{asked}
 use Rattle.slots.specs.Places.{isReady}
-use Rattle.kernel.specs.Types.{TaskNo, Task, Call, Create, SetPriority, MakeQueue, MakeMutex, Hold, Release, Tick, Asked, Kernel}
-use Rattle.kernel.specs.Tables.{freeSlot, freeObject}
+use Rattle.kernel.specs.Types.{TaskNo, ObjNo, Task, Ring, Kind, Queue, Call, Create, SetPriority, MakeQueue, MakeMutex, Hold, Release, Send, Tick, Asked, Kernel}
+use Rattle.kernel.specs.Tables.{kindAt, freeSlot, freeObject}
 use Rattle.kernel.specs.Asking.{makes, newNumber}
 use Rattle.kernel.specs.Sound.{sound}
-use Rattle.kernel.specs.Refusals.{seen, outOfRange, namesNone, wrongSize, notForIdle, notWithHold, noSlot, inUse, notHis, hisAlready, notSuspended, mustWait, noDepth, noTick, table, laterRow}
+use Rattle.kernel.specs.Refusals.{seen, outOfRange, namesNone, sizeDiffers, wrongSize, notForIdle, notWithHold, noSlot, inUse, notHis, hisAlready, notSuspended, mustWait, noDepth, noTick, table, laterRow}
 use Rattle.kernel.specs.Promises.{Steady}
 use Rattle.kernel.specs.Sentences.{Sound}
 use Rattle.kernel.proofs.Slots.{past-tasks}
@@ -93,6 +93,15 @@ passed k a item store e0 =
       ticks = e14 .0;
     }
 
+-- row 6 has the item's length
+pub right-size : (k : Kernel) (a : Asked) (item store : ℕ) → laterRow k a item store ≡ 0 → wrongSize (seen k a) a item ≡ false
+unfolding laterRow table
+right-size k a item store e0 =
+    let e1 = row-passed (not (eqb store 9216)) 2 (omega arith) e0 in
+    let e2 = row-passed (outOfRange a) 4 (omega arith) (e1 .1) in
+    let e3 = row-passed (namesNone (seen k a) a) 5 (omega arith) (e2 .1) in
+    row-passed (wrongSize (seen k a) a item) 6 (omega arith) (e3 .1) .0
+
 -- the same, at a call
 pub create-fits : {c : Call} {p : ℕ} → c ≡ Create p → outOfRange (asked c) ≡ false → p ≤ 31
 unfolding asked
@@ -105,6 +114,13 @@ set-fits {c} {t} {p} e h = range (asked (SetPriority t p)) (rw e at h) .low
 pub queue-fits : {c : Call} {n s : ℕ} → c ≡ MakeQueue n s → outOfRange (asked c) ≡ false → (n ≤ 64) × (s ≤ 64)
 unfolding asked
 queue-fits {c} {n} {s} e h = let r = range (asked (MakeQueue n s)) (rw e at h) in (r .few, r .small)
+
+pub send-sized : (k : Kernel) {c : Call} {o : ObjNo} {w : ℕ} (item store : ℕ) → c ≡ Send o w → laterRow k (asked c) item store ≡ 0 → sizeDiffers item (kindAt (k .objects) o) ≡ false
+unfolding asked wrongSize
+send-sized k {c} item store e h = rw e at (right-size k (asked c) item store h)
+
+pub sized : {x : Kind} {q : Ring} (n : ℕ) → x ≡ Queue q → sizeDiffers n x ≡ false → n ≡ q .size
+sized {q = q} n e h = eqb-true n (q .size) (not-false (eqb n (q .size)) (rw e at h))
 
 -- the new number, found before the calls part
 pub task-number : (k : Kernel) {c : Call} {p : ℕ} {a : Asked} {n : ℕ} → c ≡ Create p → a ≡ asked c → (makes a ≡ true → n ≡ newNumber k a) → n ≡ freeSlot (k .tasks)

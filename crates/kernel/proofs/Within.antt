@@ -13,7 +13,7 @@ use Rattle.lists.specs.Lists.{kept, head}
 use Rattle.lists.proofs.Bools.{and-left}
 use Rattle.order.specs.Order.{listed}
 use Rattle.slots.specs.Leads.{isWho}
-use Rattle.kernel.specs.Types.{TaskNo, ObjNo, Task, Ring, Unused, Queue, Object, Who, AllReady, WaitersOf, toWaiter, toQueue, toCaller, Kernel}
+use Rattle.kernel.specs.Types.{TaskNo, ObjNo, Task, Ring, Unused, Queue, Object, Who, AllReady, WaitersOf, Outlet, toWaiter, toQueue, toCaller, Kernel}
 use Rattle.kernel.specs.Tables.{taskAt, kindAt}
 use Rattle.kernel.specs.Lines.{those, level, highest, leader, first}
 use Rattle.kernel.specs.Items.{oneLess, roomOr, outletFor, outlet}
@@ -79,21 +79,30 @@ pub first-single : (k : Kernel) (w : Who) (t : TaskNo) (r : List TaskNo) → fir
 unfolding first leader
 first-single k w t r e = first-one (kept (λ v. eqb (level (k .tasks) v) (highest (k .tasks) (those (k .tasks) w (listed (k .order))))) (those (k .tasks) w (listed (k .order)))) t r e
 
-pub waiter-within : (k : Kernel) (o : ObjNo) (q : Ring) (t : TaskNo) → outlet k o q ≡ toWaiter t → t .0 < length (k .tasks)
-unfolding outlet first leader
-waiter-within k o q t e = go (first k (WaitersOf o)) refl e
+-- where a sent item goes, by cases: to the first waiter, into the queue, or to the caller's slip
+pub by-outlet : (k : Kernel) (o : ObjNo) (q : Ring) (P : Outlet → Type 0)
+    → ((t : TaskNo) → first k (WaitersOf o) ≡ t ∷ [] → P (toWaiter t)) → P toQueue → P toCaller → P (outlet k o q)
+unfolding outlet
+by-outlet k o q P waiter queue caller = go (first k (WaitersOf o)) refl
   where
-    not-room : (b : Bool) → (if b then toQueue else toCaller) ≡ toWaiter t → t .0 < length (k .tasks)
-    not-room true h = let z : _≡_ {A = ℕ} 0 1 = cc in omega arith
-    not-room false h = let z : _≡_ {A = ℕ} 0 1 = cc in omega arith
+    room : (b : Bool) → P (if b then toQueue else toCaller)
+    room true = queue
+    room false = caller
 
-    told : (u : TaskNo) (r : List TaskNo) → first k (WaitersOf o) ≡ u ∷ r → (b : Bool) → (if b then toWaiter u else roomOr q) ≡ toWaiter t → t .0 < length (k .tasks)
-    told u r e true h = let z : u ≡ t = cc in rw z at (first-within k (WaitersOf o) u (first-one (kept (λ v. eqb (level (k .tasks) v) (highest (k .tasks) (those (k .tasks) (WaitersOf o) (listed (k .order))))) (those (k .tasks) (WaitersOf o) (listed (k .order)))) u r e))
-    told u r e false h = not-room (ltb (q .count) (q .capacity)) h
+    told : (t : TaskNo) → first k (WaitersOf o) ≡ t ∷ [] → (b : Bool) → P (if b then toWaiter t else roomOr q)
+    told t e true = waiter t e
+    told t e false = room (ltb (q .count) (q .capacity))
 
-    go : (f : List TaskNo) → first k (WaitersOf o) ≡ f → outletFor q f ≡ toWaiter t → t .0 < length (k .tasks)
-    go [] e h = not-room (ltb (q .count) (q .capacity)) h
-    go (u ∷ r) e h = told u r e (eqb (q .count) 0) h
+    go : (f : List TaskNo) → first k (WaitersOf o) ≡ f → P (outletFor q f)
+    go [] e = room (ltb (q .count) (q .capacity))
+    go (t ∷ r) e = told t (first-single k (WaitersOf o) t r e) (eqb (q .count) 0)
+
+pub waiter-within : (k : Kernel) (o : ObjNo) (q : Ring) (t : TaskNo) → outlet k o q ≡ toWaiter t → t .0 < length (k .tasks)
+waiter-within k o q t =
+    by-outlet k o q (λ x. x ≡ toWaiter t → t .0 < length (k .tasks))
+    (λ u f e. let z : u ≡ t = cc in rw z at (first-within k (WaitersOf o) u f))
+    (λ e. let z : _≡_ {A = ℕ} 0 1 = cc in omega arith)
+    (λ e. let z : _≡_ {A = ℕ} 0 1 = cc in omega arith)
 
 pub less-fits : (q : Ring) → RingFits q → RingFits (oneLess q)
 less-fits q f =

@@ -4,6 +4,7 @@ mod asking;
 mod endings;
 mod lines;
 mod loans;
+mod parts;
 mod queues;
 mod refusals;
 mod rings;
@@ -40,38 +41,38 @@ pub struct Step {
 }
 
 // Where a sent item goes: to the first waiting receiver, into the queue, or to the slip of the caller, who waits.
-pub enum Outlet {
+pub(crate) enum Outlet {
     Waiter(TaskNo),
     Ring,
     Caller,
 }
 
 // What the rows of the refusal table look at: the task and the object that the call names, the caller, the hold and the pended ticks.
-pub struct Seen {
-    pub place: Place,
-    pub kind: Kind,
-    pub running: TaskNo,
-    pub hold: u8,
-    pub pended: u16,
+pub(crate) struct Seen {
+    pub(crate) place: Place,
+    pub(crate) kind: Kind,
+    pub(crate) running: TaskNo,
+    pub(crate) hold: u8,
+    pub(crate) pended: u16,
 }
 
 // A walk of the order, so far: whether it met one of the running task's line, and whether all is fine.
-pub struct Walk {
-    pub met: bool,
-    pub fine: bool,
+pub(crate) struct Walk {
+    pub(crate) met: bool,
+    pub(crate) fine: bool,
 }
 
 // What the walk finds: how often each slot's number stands in the order, whether no other number does, and whether the running task may run.
-pub struct Standings {
-    pub tallies: [u8; 16],
-    pub numbers: bool,
-    pub runs: bool,
+pub(crate) struct Standings {
+    pub(crate) tallies: [u8; 16],
+    pub(crate) numbers: bool,
+    pub(crate) runs: bool,
 }
 
 // For each slot, whether its task holds a mutex; and whether each object is fine.
-pub struct Holdings {
-    pub held: [bool; 16],
-    pub fine: bool,
+pub(crate) struct Holdings {
+    pub(crate) held: [bool; 16],
+    pub(crate) fine: bool,
 }
 
 // What goes on from block to block: the kernel, and what there is of a line whose newline has not come yet.

@@ -1,15 +1,16 @@
 // Send to a queue and receive from one: the kernel's part, and the store's.
 ghost use mathlib.Core.Path.{_≡_};
-ghost use Prim.Native.Nat.{ℕ, _+_, _<_, _≤_};
-ghost use mathlib.Core.List.{List, [], _∷_};
+ghost use Prim.Native.Nat.{_<_};
+ghost use mathlib.Core.List.{[], _∷_};
 ghost use lib.ListN.{length};
 ghost use Rattle.slots.specs.Leads.{whom};
-ghost use Rattle.kernel.specs.Types.{TaskNo, toWaiter, WaitersOf};
+ghost use Rattle.kernel.specs.Types.{TaskNo, WaitersOf};
 ghost use Rattle.kernel.specs.Lines.{first};
-ghost use Rattle.kernel.specs.Items.{outlet, sentBy, placeBy, sent, storeSent, refilledBy, storeRefilledBy, received, storeReceived};
+ghost use Rattle.kernel.specs.Items.{outlet, sent, storeSent, refilledBy, storeRefilledBy, received, storeReceived};
 ghost use Rattle.kernel.specs.Sentences.{RingFits};
 use crate::Kernel;
 use crate::Outlet;
+use crate::parts;
 use crate::rings;
 use calls::ObjNo;
 use slots::Found;
@@ -32,39 +33,26 @@ impl Kernel {
         }
     }
 
-    fn sent_by(self, o: ObjNo, q: Ring, w: u32, x: Outlet) -> Kernel
-        requires { ⌜ RingFits q ⌝ }
-        ensures { λ r. ⌜ r ≡ sentBy self o q w x ⌝ }
-    {
-        match x {
-            Outlet::Waiter(t) => self.readied(t, 1),
-            Outlet::Ring => self.with_object(o, Kind::Queue(rings::one_more(q))),
-            Outlet::Caller => self.wait_for(o, w),
-        }
-    }
-
-    // The place of the store that a sent item goes to.
-    fn place_by(self, o: ObjNo, q: Ring, x: Outlet) -> usize
-        requires { ⌜ RingFits q × (o .0 < 16) × (self .running .0 < 16) × ((t : TaskNo) → x ≡ toWaiter t → t .0 < 16) ⌝ }
-        ensures { λ r. ⌜ (r ≡ placeBy self o q x) × (r + q .size ≤ 9216) ⌝ }
-    {
-        let u = self.running;
-        match x {
-            Outlet::Waiter(t) => rings::slip_of(t),
-            Outlet::Ring => rings::item_at(q, o, q.count),
-            Outlet::Caller => rings::slip_of(u),
-        }
-    }
-
     pub(crate) fn send_to(self, o: ObjNo, q: Ring, w: u32, item: &[u8], store: &mut [u8]) -> Kernel
-        requires { ⌜ (o .0 < 16) × RingFits q × (self .running .0 < 16) ⌝ }
+        requires { ⌜ (o .0 < 16) × RingFits q × (self .running .0 < 16) × (length (now item) ≡ q .size) × (length (now store) ≡ 9216) ⌝ }
         ensures { λ r. ⌜ (r ≡ sent self o q w) × (now (store .exit) ≡ storeSent self o q (now (item .entry)) (now (store .entry))) ⌝ }
     {
-        let x = self.outlet(o, q);
+        let u = self.running;
         let n = item.len();
-        let at = self.place_by(o, q, x);
-        items::put_at(store, at, item, n);
-        self.sent_by(o, q, w, x)
+        match self.outlet(o, q) {
+            Outlet::Waiter(t) => {
+                parts::to_slip(t, item, n, store);
+                self.readied(t, 1)
+            }
+            Outlet::Ring => {
+                parts::to_ring(o, q, q.count, item, store);
+                self.with_object(o, Kind::Queue(rings::one_more(q)))
+            }
+            Outlet::Caller => {
+                parts::to_slip(u, item, n, store);
+                self.wait_for(o, w)
+            }
+        }
     }
 
     fn refilled_by(self, o: ObjNo, q: Ring, f: Found) -> Kernel
@@ -83,11 +71,12 @@ impl Kernel {
         requires { ⌜ RingFits q × (o .0 < 16) × ((t : TaskNo) → whom f ≡ t ∷ [] → t .0 < 16) × (length (now store) ≡ 9216) ⌝ }
         ensures { λ r. ⌜ now (store .exit) ≡ storeRefilledBy o q (whom f) (now (store .entry)) ⌝ }
     {
-        let n = q.size as usize;
-        let to = rings::item_at(q, o, q.count);
         match f {
             Found::NoOne => {}
-            Found::Someone(t) => items::carry(store, rings::slip_of(t), to, n),
+            Found::Someone(t) => {
+                let item = parts::of_slip(t, q.size as usize, store);
+                parts::to_ring(o, q, q.count, &item, store);
+            }
         }
     }
 
@@ -106,11 +95,10 @@ impl Kernel {
             return self.wait_for(o, w);
         }
         let u = self.running;
-        let n = q.size as usize;
         let f = self.waiter(o);
         let rest = rings::one_less(q);
-        let from = rings::item_at(q, o, 0);
-        items::carry(store, from, rings::slip_of(u), n);
+        let item = parts::of_ring(o, q, 0, store);
+        parts::to_slip(u, &item, q.size as usize, store);
         Kernel::refill(o, rest, f, store);
         self.refilled_by(o, rest, f)
     }

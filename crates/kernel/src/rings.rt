@@ -1,19 +1,10 @@
-// Places of items: a task's slip, and a queue's ring within its object's part of the store.
+// A queue's ring within its object's part of the store.
 ghost use mathlib.Core.Path.{_≡_};
-ghost use Prim.Native.Nat.{ℕ, _+_, _%_, _<_, _≤_};
-ghost use Rattle.kernel.specs.Items.{slipOf, itemAt, oneMore, oneLess, roomOr};
+ghost use Prim.Native.Nat.{_+_, _*_, _%_, _<_, _≤_};
+ghost use Rattle.kernel.specs.Items.{oneMore, oneLess, roomOr};
 ghost use Rattle.kernel.specs.Sentences.{RingFits};
 use crate::Outlet;
-use calls::ObjNo;
-use calls::TaskNo;
 use slots::Ring;
-
-pub(crate) fn slip_of(t: TaskNo) -> usize
-    requires { ⌜ t .0 < 16 ⌝ }
-    ensures { λ r. ⌜ r ≡ slipOf t ⌝ }
-{
-    8192 + 64 * t.slot()
-}
 
 pub(crate) fn one_more(q: Ring) -> Ring
     requires { ⌜ q .count < 255 ⌝ }
@@ -47,13 +38,12 @@ fn place(q: Ring, i: u8) -> usize
     ((q.first as usize) + (i as usize)) % (q.capacity as usize)
 }
 
-pub(crate) fn item_at(q: Ring, o: ObjNo, i: u8) -> usize
-    requires { ⌜ RingFits q × (o .0 < 16) ⌝ }
-    ensures { λ r. ⌜ (r ≡ itemAt o q i) × (r + q .size ≤ 8192) ⌝ }
+// How far into its object's part it begins.
+pub(crate) fn begins(q: Ring, i: u8) -> usize
+    requires { ⌜ RingFits q ⌝ }
+    ensures { λ r. ⌜ (r ≡ (q .first + i) % q .capacity * q .size) × (r + q .size ≤ 512) ⌝ }
 {
-    let p = place(q, i);
-    let s = q.size as usize;
-    512 * o.slot() + p * s
+    place(q, i) * (q.size as usize)
 }
 
 pub(crate) fn room_or(q: Ring) -> Outlet

@@ -7,7 +7,8 @@ ghost use lib.ListN.{length};
 ghost use mathlib.Core.List.{[]};
 ghost use Rattle.calls.specs.Asked.{asked};
 ghost use Rattle.kernel.specs.Types.{Create, Delete, Suspend, Resume, SetPriority, Delay, Yield, Hold, Release, MakeQueue, MakeMutex, Remove, Send, Receive, Take, Give, Tick};
-ghost use Rattle.kernel.specs.Tables.{freeSlot, freeObject};
+ghost use Rattle.kernel.specs.Tables.{kindAt, freeSlot, freeObject};
+ghost use Rattle.kernel.specs.Refusals.{sizeDiffers};
 ghost use Rattle.kernel.specs.Effects.{handedOn};
 ghost use Rattle.kernel.specs.Step.{stored};
 ghost use Rattle.kernel.specs.Promises.{Steady, Accepts};
@@ -135,7 +136,7 @@ impl Kernel {
     }
 
     pub(crate) fn send(self, o: ObjNo, w: u32, item: &[u8], store: &mut [u8]) -> Step
-        requires { ⌜ Steady self ⌝ }
+        requires { ⌜ Steady self × (sizeDiffers (length (now item)) (kindAt (self .objects) o) ≡ false) × (length (now store) ≡ 9216) ⌝ }
         ensures { λ r. ⌜ Accepts self (Send o w) r × (now (store .exit) ≡ stored self (asked (Send o w)) (now (item .entry)) (now (store .entry))) ⌝ }
     {
         let u = self.running;

@@ -1,54 +1,70 @@
 // The program: call lines on standard input, an answer line for each on standard output. What was read is answered before more is read.
 ghost use Prim.Native.Nat.{_≤_};
-ghost use lib.ListN.{length};
+ghost use mathlib.Core.Path.{_≡_};
+ghost use lib.ListN.{length, replicate};
+ghost use Rattle.kernel.specs.Promises.{Closes};
+ghost use Rattle.nahalvik.specs.Blocks.{roomFor, Whole, Brought, Came};
+use kernel::Served;
 use kernel::Session;
 use libc::STDIN_FILENO;
 use libc::STDOUT_FILENO;
 
-// The session so far, whether there may be more input, and whether all answers could be written.
+// What comes of a turn: what was served, whether there may be more input, and whether all could be read and written.
 struct Turn {
-    session: Session,
+    served: Served,
     more: bool,
-    told: bool,
+    fine: bool,
 }
 
-// Answers a block, and asks again while not all of it was taken. Nothing more is done once nobody reads the answers.
+// Writes some answers. Where that fails, it says so, with the system's reason.
+fn tell(answers: &[u8]) -> bool {
+    if io::write_all(STDOUT_FILENO, answers) {
+        return true;
+    }
+    os::fail(b"nahalvik: standard output");
+    false
+}
+
+// Answers the whole block at once, since the output has room for that, and writes the answers.
 fn answer_block(session: Session, block: &[u8], store: &mut [u8], out: &mut [u8]) -> Turn
-    requires { ⌜ 256 ≤ length (now out) ⌝ }
+    requires { ⌜ roomFor (now block) ≤ length (now out) ⌝ }
+    ensures { λ r. ⌜ Whole session (now (block .entry)) (now (store .entry)) (now (out .entry)) (r .served) (now (store .exit)) (now (out .exit)) ⌝ }
 {
-    let mut next = session;
-    let mut at = 0usize;
-    while at < block.len() {
-        let served = next.answer(&block[at..], store, out);
-        next = served.session;
-        let n = served.written;
-        if !io::write_all(STDOUT_FILENO, &out[..n]) {
-            return Turn {
-                session: next,
-                more: false,
-                told: false,
-            };
-        }
-        at += served.taken;
-    }
+    let served = session.answer(block, store, out);
+    let n = served.written;
+    let fine = tell(&out[..n]);
     Turn {
-        session: next,
-        more: true,
-        told: true,
+        served,
+        more: fine,
+        fine,
     }
 }
 
-// Reads once, and answers what came. A read that fails counts as the input's end.
+// Whether a read that brought nothing met the input's end. Where it failed instead, it says so, with the system's reason.
+fn ended(got: isize) -> bool {
+    if 0 <= got {
+        return true;
+    }
+    os::fail(b"nahalvik: standard input");
+    false
+}
+
+// Reads once, and answers what came. A line that a failed read cuts gets no answer.
 fn read_block(session: Session, block: &mut [u8], store: &mut [u8], out: &mut [u8]) -> Turn
-    requires { ⌜ 256 ≤ length (now out) ⌝ }
+    requires { ⌜ roomFor (now block) ≤ length (now out) ⌝ }
+    ensures { λ r. ⌜ Brought session (now (block .exit)) (now (store .entry)) (now (out .entry)) (r .served) (now (store .exit)) (now (out .exit)) ⌝ }
 {
     let got = libc::read(STDIN_FILENO, block);
     let n = io::count(got, block);
     if n == 0 {
         return Turn {
-            session,
+            served: Served {
+                session,
+                taken: 0,
+                written: 0,
+            },
             more: false,
-            told: true,
+            fine: ended(got),
         };
     }
     answer_block(session, &block[..n], store, out)
@@ -56,30 +72,51 @@ fn read_block(session: Session, block: &mut [u8], store: &mut [u8], out: &mut [u
 
 // A proved loop has to end, and nothing says that the input does: the turns are counted down from a number that no run uses up.
 fn read_all(block: &mut [u8], store: &mut [u8], out: &mut [u8]) -> Turn
-    requires { ⌜ 256 ≤ length (now out) ⌝ }
+    requires { ⌜ roomFor (now block) ≤ length (now out) ⌝ }
+    requires { ⌜ now store ≡ replicate 9216 0 ⌝ }
+    ensures { λ r. ⌜ Came (r .served .session) (now (store .exit)) ⌝ }
 {
     let mut turns = u64::MAX;
     let mut turn = Turn {
-        session: Session::fresh(),
+        served: Served {
+            session: Session::fresh(),
+            taken: 0,
+            written: 0,
+        },
         more: true,
-        told: true,
+        fine: true,
     };
     while lists::both(turn.more, 0 < turns) {
-        let session = turn.session;
+        let session = turn.served.session;
         turn = read_block(session, block, store, out);
         turns -= 1;
     }
     turn
 }
 
+// The input has ended: a last line without a newline is answered.
+fn end_input(session: Session, store: &[u8], out: &mut [u8]) -> Served
+    ensures { λ r. ⌜ Closes session (now (store .entry)) (now (out .entry)) r (now (out .exit)) ⌝ }
+{
+    let served = session.end(store, out);
+    let n = served.written;
+    tell(&out[..n]);
+    served
+}
+
+// The output: room for the answers to 4,096 bytes.
+fn room() -> [u8; 262400]
+    ensures { λ r. ⌜ 262400 ≡ length r ⌝ }
+{
+    [0; 262400]
+}
+
 fn main() {
-    let mut block = io::large_buffer();
+    let mut block = io::buffer();
     let mut store = [0u8; 9216];
-    let mut out = io::large_buffer();
+    let mut out = room();
     let turn = read_all(&mut block, &mut store, &mut out);
-    if turn.told {
-        let session = turn.session;
-        let n = session.end(&store, &mut out).written;
-        io::write_all(STDOUT_FILENO, &out[..n]);
+    if turn.fine {
+        end_input(turn.served.session, &store, &mut out);
     }
 }

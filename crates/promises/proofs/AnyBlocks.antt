@@ -13,7 +13,7 @@ use Rattle.kernel.specs.Session.{Run, begun, fed, noRoom, run}
 use Rattle.promises.specs.Turns.{Turn, Pause, begins, paused, handedIn, afterTurn, afterTurns, cameIn, inOne, Through}
 
 -- r, and then what q took and answered from where r stood
-abbrev past : Run → Run → Run
+abbrev pub past : Run → Run → Run
 past r q = record { taken = r .taken + q .taken; kernel = q .kernel; store = q .store; cut = q .cut; answers = r .answers ++ q .answers }
 
 same-run : (k : Kernel) (s : List ℕ) (c : Cut) {m n : ℕ} {a b : List ℕ} → m ≡ n → a ≡ b
@@ -38,13 +38,13 @@ past-all r q [] = refl
 past-all r q (b ∷ l) = ap (λ (z : Run). foldl fed z l) (past-fed r q b) ∙ past-all r (fed q b) l
 
 -- from a session under way on, or from a block that begins there
-from-here : (r : Run) (l : List ℕ) → foldl fed r l ≡ past r (foldl fed (begun (r .kernel) (r .store) (r .cut)) l)
+pub from-here : (r : Run) (l : List ℕ) → foldl fed r l ≡ past r (foldl fed (begun (r .kernel) (r .store) (r .cut)) l)
 from-here r l =
     let none : r .taken ≡ r .taken + 0 = omega arith in
     ap (λ (z : Run). foldl fed z l) (same-run (r .kernel) (r .store) (r .cut) none (sym (append-nil (r .answers))))
     ∙ past-all r (begun (r .kernel) (r .store) (r .cut)) l
 
-fold-append : {A B : Type 0} (f : B → A → B) (b : B) (xs ys : List A) → foldl f b (xs ++ ys) ≡ foldl f (foldl f b xs) ys
+pub fold-append : {A B : Type 0} (f : B → A → B) (b : B) (xs ys : List A) → foldl f b (xs ++ ys) ≡ foldl f (foldl f b xs) ys
 unfolding foldl
 fold-append f b [] ys = refl
 fold-append f b (x ∷ xs) ys = fold-append f (f b x) xs ys

@@ -19,12 +19,13 @@ use Rattle.kernel.specs.Sound.{noHigher}
 use Rattle.kernel.specs.Waits.{later, readied, blocked, waitFor}
 use Rattle.kernel.specs.Loans.{prioritized, newPriority, lent, ownAgain}
 use Rattle.kernel.specs.Ticks.{wokenIfDue, wakes, byNumber, oneTick, turned, ticked, ticks, released, held}
-use Rattle.kernel.specs.Items.{oneLess, outlet, sentBy, sent, sentTo, refilledBy, received, receivedFrom}
+use Rattle.kernel.specs.Items.{oneLess, sentBy, sent, sentTo, refilledBy, received, receivedFrom}
 use Rattle.kernel.specs.Effects.{created, deleted, suspended, resumed, yielded, delayed, queueMade, mutexMade, removed, takenFrom, taken, handedTo, handedOn, given, effect}
 use Rattle.kernel.specs.Refusals.{refusal}
 use Rattle.kernel.specs.Step.{accepted, turnedAway, step}
+use Rattle.kernel.proofs.Within.{by-outlet}
 use Rattle.kernel.proofs.Blocks.{prioritized-same}
-use Rattle.promises.specs.Types.{TaskNo, ObjNo, Call, Create, Delete, Suspend, Resume, SetPriority, Delay, Yield, Hold, Release, MakeQueue, MakeMutex, Remove, Send, Receive, Take, Give, Tick, Delayed, AllReady, WaitersOf, Nobody, By, Kind, Unused, Queue, Mutex, Outlet, toWaiter, toQueue, toCaller, Kernel}
+use Rattle.promises.specs.Types.{TaskNo, ObjNo, Call, Create, Delete, Suspend, Resume, SetPriority, Delay, Yield, Hold, Release, MakeQueue, MakeMutex, Remove, Send, Receive, Take, Give, Tick, Delayed, AllReady, WaitersOf, Nobody, By, Kind, Unused, Queue, Mutex, Kernel}
 use Rattle.promises.specs.History.{Made, after, reached}
 use Rattle.promises.specs.Depth.{deeper, isAccepted, depth}
 
@@ -87,12 +88,7 @@ module _ (k : Kernel) where
   sent-hold : (o : ObjNo) (x : Kind) (w : ℕ) → sentTo k o x w .hold ≡ k .hold
   unfolding sent readied waitFor blocked toTail
   sent-hold o Unused w = refl
-  sent-hold o (Queue q) w = go (outlet k o q)
-    where
-      go : (x : Outlet) → sentBy k o q w x .hold ≡ k .hold
-      go (toWaiter t) = refl
-      go toQueue = refl
-      go toCaller = refl
+  sent-hold o (Queue q) w = by-outlet k o q (λ x. sentBy k o q w x .hold ≡ k .hold) (λ t e. refl) refl refl
   sent-hold o (Mutex h) w = refl
 
   received-hold : (o : ObjNo) (x : Kind) (w : ℕ) → receivedFrom k o x w .hold ≡ k .hold

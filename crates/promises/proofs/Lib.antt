@@ -19,5 +19,6 @@ pub mod LineSteps
 pub mod InWords
 pub mod LineForLine
 pub mod Reaches
+pub mod WholeBlocks
 pub mod EachLine
 pub mod Typing

@@ -26,8 +26,6 @@ use Rattle.slots.specs.declared.Who.the-variants.{AllReady, WaitersOf}
 use Rattle.slots.specs.Places.{isReady, isListed, wakesAt, outcomeDue}
 use Rattle.slots.specs.Tasks.{freeTask, readyAt, placed, ranked, brokenOff}
 use Rattle.kernel.specs.declared.Kernel.{Kernel}
-use Rattle.kernel.specs.declared.Outlet.{Outlet}
-use Rattle.kernel.specs.declared.Outlet.the-variants.{Waiter as toWaiter, Ring as toQueue, Caller as toCaller}
 use Rattle.kernel.specs.Tables.{taskAt, kindAt, holds, freeSlot, freeObject, withTask, withObject, withOrder, withHold}
 use Rattle.kernel.specs.Lines.{level, first, toTail, toHead, leaves}
 use Rattle.kernel.specs.Sound.{noHigher}
@@ -37,7 +35,7 @@ use Rattle.kernel.specs.Ticks.{wokenIfDue, wakes, byNumber, oneTick, turned, ti
 use Rattle.kernel.specs.Items.{oneLess, oneMore, outlet, outletFor, sentBy, sent, refilledBy, received, sentTo, receivedFrom}
 use Rattle.kernel.specs.Effects.{created, deleted, suspended, resumed, yielded, delayed, queueMade, mutexMade, removed, takenFrom, taken, handedTo, handedOn, given}
 use Rattle.kernel.proofs.Slots.{past-tasks}
-use Rattle.kernel.proofs.Within.{waiter-within}
+use Rattle.kernel.proofs.Within.{first-within, first-single, by-outlet}
 use Rattle.promises.specs.Alike.{Alike}
 use Rattle.promises.proofs.Firsts.{same-leader, same-higher}
 use Rattle.promises.proofs.Twins.{Twins, twice, to-tail, to-head, out, moving, changed, unseen, beside}
@@ -57,8 +55,7 @@ first-same k m a AllReady = same-leader (k .tasks) (listed (k .order)) (listed m
 first-same k m a (WaitersOf o) = rw (a .lists o)
 
 first-low : (k : Kernel) (o : ObjNo) (t : TaskNo) (r : List TaskNo) → length (k .tasks) ≤ 16 → first k (WaitersOf o) ≡ t ∷ r → t .0 < 16
-unfolding outlet
-first-low k o t r h e = omega (arith, waiter-within k o (record { capacity = 0; size = 0; first = 0; count = 0 }) t (rw e))
+first-low k o t r h e = omega (arith, first-within k (WaitersOf o) t (first-single k (WaitersOf o) t r e))
 
 -- ── waits
 pub readied-too : {k j : Kernel} (t : TaskNo) (n : ℕ) → t .0 < 16 → Twins k j → Twins (readied k t n) (readied j t n)
@@ -240,12 +237,14 @@ outlet-same k m a o q = ap (outletFor q) (first-same k m a (WaitersOf o))
 
 sent-too : {k j : Kernel} (o : ObjNo) (q : Ring) (n : ℕ) → Twins k j → Twins (sent k o q n) (sent j o q n)
 unfolding sent
-sent-too {k} o q n w = twice (λ z. sent z o q n) w (λ m v. rw (← outlet-same k m (v .alike) o q) (go m v (outlet k o q) refl))
+sent-too {k} o q n w = twice (λ z. sent z o q n) w (λ m v. rw (← outlet-same k m (v .alike) o q) (go m v))
   where
-    go : (m : Order) → Twins k (withOrder k m) → (x : Outlet) → outlet k o q ≡ x → Twins (sentBy k o q n x) (sentBy (withOrder k m) o q n x)
-    go m v (toWaiter t) e = readied-too t 1 (omega (arith, waiter-within k o q t e, v .slots)) v
-    go m v toQueue e = object-too o (Queue (oneMore q)) v
-    go m v toCaller e = wait-too o n v
+    go : (m : Order) → Twins k (withOrder k m) → Twins (sentBy k o q n (outlet k o q)) (sentBy (withOrder k m) o q n (outlet k o q))
+    go m v =
+        by-outlet k o q (λ x. Twins (sentBy k o q n x) (sentBy (withOrder k m) o q n x))
+        (λ t e. readied-too t 1 (first-low k o t [] (v .slots) e) v)
+        (object-too o (Queue (oneMore q)) v)
+        (wait-too o n v)
 
 received-too : {k j : Kernel} (o : ObjNo) (q : Ring) (n : ℕ) → Twins k j → Twins (received k o q n) (received j o q n)
 unfolding received

@@ -45,7 +45,7 @@ answers-fit n r (b ∷ l) h = go (noRoom n r b) refl (answers-fit n (fed r b) l)
     go false e ih = rw e (ih (fits (eqb b 10) refl e))
 
 -- where 256 bytes are free, a byte is taken
-room : (n : ℕ) (r : Run) (b : ℕ) → length (r .answers) + 256 ≤ n → noRoom n r b ≡ false
+pub room : (n : ℕ) (r : Run) (b : ℕ) → length (r .answers) + 256 ≤ n → noRoom n r b ≡ false
 unfolding noRoom
 room n r b h = rw (le-ltb n (length (r .answers) + 256) h) (go (eqb b 10))
   where

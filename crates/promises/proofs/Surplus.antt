@@ -23,12 +23,11 @@ use Rattle.kernel.specs.Tables.{kindAt, withOrder, withRunning}
 use Rattle.kernel.specs.Lines.{first, runsIf, chosen}
 use Rattle.kernel.specs.Sound.{sound}
 use Rattle.items.specs.Bytes.{putAt}
-use Rattle.kernel.specs.declared.Outlet.{Outlet}
-use Rattle.kernel.specs.declared.Outlet.the-variants.{Waiter as toWaiter, Ring as toQueue, Caller as toCaller}
 use Rattle.kernel.specs.Items.{outlet, placeBy, storeSent, storeReceived, sentTo, receivedFrom, storeSentTo, storeReceivedFrom}
 use Rattle.kernel.specs.Refusals.{laterRow, refusal}
 use Rattle.kernel.specs.Effects.{effect}
 use Rattle.kernel.specs.Step.{stored, answered, accepted, turnedAway, step}
+use Rattle.kernel.proofs.Within.{by-outlet}
 use Rattle.promises.specs.Alike.{Alike, AlikeSteps, Ordered}
 use Rattle.promises.proofs.Twins.{Twins, two-orders, shared, twice}
 use Rattle.promises.proofs.Likewise.{first-same, outlet-same, created-too, deleted-too, suspended-too, resumed-too, new-priority-too, yielded-too, delayed-too, queue-made-too, mutex-made-too, removed-too, ticked-too, released-too, held-too, sent-to-too, received-from-too, taken-too, given-too}
@@ -68,12 +67,7 @@ chosen-too k j w = shared (λ z. Alike (chosen k) (chosen z)) k j w (λ o v. rw 
 sent-store-too : (k : Kernel) (m : Order) → Alike k (withOrder k m) → (o : ObjNo) (x : Kind) (item s : List ℕ) → storeSentTo k o x item s ≡ storeSentTo (withOrder k m) o x item s
 unfolding storeSent
 sent-store-too k m a o Unused item s = refl
-sent-store-too k m a o (Queue q) item s = rw (← outlet-same k m a o q) (ap (λ n. putAt n item s) (go (outlet k o q)))
-  where
-    go : (x : Outlet) → placeBy k o q x ≡ placeBy (withOrder k m) o q x
-    go (toWaiter t) = refl
-    go toQueue = refl
-    go toCaller = refl
+sent-store-too k m a o (Queue q) item s = rw (← outlet-same k m a o q) (ap (λ n. putAt n item s) (by-outlet k o q (λ x. placeBy k o q x ≡ placeBy (withOrder k m) o q x) (λ t e. refl) refl refl))
 sent-store-too k m a o (Mutex h) item s = refl
 
 received-store-too : (k : Kernel) (m : Order) → Alike k (withOrder k m) → (o : ObjNo) (x : Kind) (s : List ℕ) → storeReceivedFrom k o x s ≡ storeReceivedFrom (withOrder k m) o x s

@@ -7,7 +7,7 @@ use calls::ObjNo;
 use calls::TaskNo;
 use kernel::Kernel;
 
-pub fn sizes() {
+pub(crate) fn sizes() {
     words::text(b"\nlengths\n");
     let p = Parlour::fresh().does(Call::MakeQueue(65, 0));
     let p = p.does(Call::MakeQueue(64, 9));
@@ -51,7 +51,7 @@ fn many(k: Kernel, call: Call, n: u32) -> Kernel {
     k
 }
 
-pub fn full() {
+pub(crate) fn full() {
     words::text(b"\nfull tables\n");
     let k = many(Kernel::fresh(), Call::Create(1), 15);
     let p = Parlour::with(many(k, Call::MakeMutex, 16));
@@ -62,7 +62,7 @@ pub fn full() {
 }
 
 // Task 3 does not exist, and so cannot run.
-pub fn unsound() {
+pub(crate) fn unsound() {
     words::text(b"\nnot sound\n");
     let mut none = [0u8; 0];
     let mut k = Kernel::fresh();

@@ -3,7 +3,7 @@ use crate::parlour::Parlour;
 use crate::words;
 use calls::Call;
 
-pub fn depths() {
+pub(crate) fn depths() {
     words::text(b"\nholds\n");
     let p = begins(Parlour::fresh());
     let p = waits(p);

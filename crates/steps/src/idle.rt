@@ -3,7 +3,7 @@ use crate::parlour::Parlour;
 use crate::words;
 use calls::Call;
 
-pub fn alone() {
+pub(crate) fn alone() {
     words::text(b"\nidle alone\n");
     refusals(names(Parlour::fresh()));
 }

@@ -3,7 +3,7 @@ use crate::parlour::Parlour;
 use crate::words;
 use calls::Call;
 
-pub fn loans() {
+pub(crate) fn loans() {
     words::text(b"\nmutexes\n");
     let p = taken(Parlour::fresh());
     let p = kept(p);

@@ -5,13 +5,13 @@ use calls::ObjNo;
 use calls::TaskNo;
 use kernel::Kernel;
 
-pub struct Parlour {
-    pub kernel: Kernel,
-    pub store: [u8; 9216],
+pub(crate) struct Parlour {
+    pub(crate) kernel: Kernel,
+    pub(crate) store: [u8; 9216],
 }
 
 // One step, with any item and any store.
-pub fn stepped(k: Kernel, call: Call, item: &[u8], store: &mut [u8]) -> Kernel {
+pub(crate) fn stepped(k: Kernel, call: Call, item: &[u8], store: &mut [u8]) -> Kernel {
     let r = k.step(call, item, store);
     words::called(call, item.len());
     let a = r.answer;
@@ -24,12 +24,12 @@ pub fn stepped(k: Kernel, call: Call, item: &[u8], store: &mut [u8]) -> Kernel {
 
 impl Parlour {
     // With a store of zeros.
-    pub fn with(kernel: Kernel) -> Parlour {
+    pub(crate) fn with(kernel: Kernel) -> Parlour {
         let store = [0u8; 9216];
         Parlour { kernel, store }
     }
 
-    pub fn fresh() -> Parlour {
+    pub(crate) fn fresh() -> Parlour {
         Parlour::with(Kernel::fresh())
     }
 
@@ -41,58 +41,58 @@ impl Parlour {
     }
 
     // A call that is lent no item.
-    pub fn does(self, call: Call) -> Parlour {
+    pub(crate) fn does(self, call: Call) -> Parlour {
         self.lent(call, b"")
     }
 
-    pub fn creates(self, priority: u32) -> Parlour {
+    pub(crate) fn creates(self, priority: u32) -> Parlour {
         self.does(Call::Create(priority))
     }
 
-    pub fn deletes(self, t: u32) -> Parlour {
+    pub(crate) fn deletes(self, t: u32) -> Parlour {
         self.does(Call::Delete(TaskNo::of(t)))
     }
 
-    pub fn suspends(self, t: u32) -> Parlour {
+    pub(crate) fn suspends(self, t: u32) -> Parlour {
         self.does(Call::Suspend(TaskNo::of(t)))
     }
 
-    pub fn resumes(self, t: u32) -> Parlour {
+    pub(crate) fn resumes(self, t: u32) -> Parlour {
         self.does(Call::Resume(TaskNo::of(t)))
     }
 
-    pub fn sets(self, t: u32, priority: u32) -> Parlour {
+    pub(crate) fn sets(self, t: u32, priority: u32) -> Parlour {
         self.does(Call::SetPriority(TaskNo::of(t), priority))
     }
 
-    pub fn removes(self, o: u32) -> Parlour {
+    pub(crate) fn removes(self, o: u32) -> Parlour {
         self.does(Call::Remove(ObjNo::of(o)))
     }
 
-    pub fn sends(self, o: u32, item: &[u8], wait: u32) -> Parlour {
+    pub(crate) fn sends(self, o: u32, item: &[u8], wait: u32) -> Parlour {
         self.lent(Call::Send(ObjNo::of(o), wait), item)
     }
 
-    pub fn receives(self, o: u32, wait: u32) -> Parlour {
+    pub(crate) fn receives(self, o: u32, wait: u32) -> Parlour {
         self.does(Call::Receive(ObjNo::of(o), wait))
     }
 
-    pub fn takes(self, o: u32, wait: u32) -> Parlour {
+    pub(crate) fn takes(self, o: u32, wait: u32) -> Parlour {
         self.does(Call::Take(ObjNo::of(o), wait))
     }
 
-    pub fn gives(self, o: u32) -> Parlour {
+    pub(crate) fn gives(self, o: u32) -> Parlour {
         self.does(Call::Give(ObjNo::of(o)))
     }
 
     // The bytes of the store from one place up to another.
-    pub fn shows(self, words: &[u8], from: usize, to: usize) {
+    pub(crate) fn shows(self, words: &[u8], from: usize, to: usize) {
         let store = self.store;
         words::bytes(words, &store, from, to);
     }
 
     // The first bytes of task `t`'s slip.
-    pub fn slip(self, t: u32) {
+    pub(crate) fn slip(self, t: u32) {
         words::one(b"  slip of", t);
         if t < 16 {
             let from = 8192 + 64 * (t as usize);
@@ -101,7 +101,7 @@ impl Parlour {
     }
 
     // The first bytes of the queue's part.
-    pub fn queue(self, o: u32) {
+    pub(crate) fn queue(self, o: u32) {
         words::one(b"  queue", o);
         if o < 16 {
             let from = 512 * (o as usize);
@@ -109,7 +109,7 @@ impl Parlour {
         }
     }
 
-    pub fn outcome(self, t: u32) {
+    pub(crate) fn outcome(self, t: u32) {
         let k = self.kernel;
         words::outcome(k, TaskNo::of(t));
     }

@@ -3,7 +3,7 @@ use crate::parlour::Parlour;
 use crate::words;
 use calls::Call;
 
-pub fn items() {
+pub(crate) fn items() {
     words::text(b"\nqueues\n");
     let p = handed(Parlour::fresh());
     let p = wrapped(p);

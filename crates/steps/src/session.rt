@@ -3,7 +3,7 @@ use crate::parlour::Parlour;
 use crate::words;
 use calls::Call;
 
-pub fn whole() {
+pub(crate) fn whole() {
     words::text(b"a whole session\n");
     let p = Parlour::fresh().creates(3);
     let p = p.does(Call::MakeMutex);

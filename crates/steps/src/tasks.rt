@@ -3,7 +3,7 @@ use crate::parlour::Parlour;
 use crate::words;
 use calls::Call;
 
-pub fn lives() {
+pub(crate) fn lives() {
     words::text(b"\ntasks\n");
     let p = turns(Parlour::fresh());
     let p = delays(p);

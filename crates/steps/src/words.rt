@@ -4,7 +4,7 @@ use calls::Call;
 use calls::TaskNo;
 use kernel::Kernel;
 
-pub fn text(words: &[u8]) {
+pub(crate) fn text(words: &[u8]) {
     io::write_all(libc::STDOUT_FILENO, words);
 }
 
@@ -12,7 +12,7 @@ fn number(n: u32) {
     io::print_decimal(libc::STDOUT_FILENO, n as u64);
 }
 
-pub fn one(words: &[u8], n: u32) {
+pub(crate) fn one(words: &[u8], n: u32) {
     text(words);
     text(b" ");
     number(n);
@@ -31,7 +31,7 @@ fn sent(o: u32, length: usize, wait: u32) {
 }
 
 // The call and its arguments; `length` is that of the item lent with it.
-pub fn called(call: Call, length: usize) {
+pub(crate) fn called(call: Call, length: usize) {
     match call {
         Call::Create(p) => one(b"create", p),
         Call::Delete(t) => one(b"delete", t.number()),
@@ -53,7 +53,7 @@ pub fn called(call: Call, length: usize) {
     }
 }
 
-pub fn answered(a: Answer) {
+pub(crate) fn answered(a: Answer) {
     text(b": ");
     match a {
         Answer::Done => one(b"done", 0),
@@ -63,7 +63,7 @@ pub fn answered(a: Answer) {
     }
 }
 
-pub fn runs(t: u32) {
+pub(crate) fn runs(t: u32) {
     one(b", runs", t);
     text(b"\n");
 }
@@ -73,7 +73,7 @@ fn wide(b: u8) -> u64 {
 }
 
 // The bytes of the store from one place up to another, in hex.
-pub fn bytes(words: &[u8], store: &[u8], from: usize, to: usize) {
+pub(crate) fn bytes(words: &[u8], store: &[u8], from: usize, to: usize) {
     text(words);
     let mut i = from;
     while i < to {
@@ -86,7 +86,7 @@ pub fn bytes(words: &[u8], store: &[u8], from: usize, to: usize) {
 }
 
 // The outcome of the task `t`.
-pub fn outcome(k: Kernel, t: TaskNo) {
+pub(crate) fn outcome(k: Kernel, t: TaskNo) {
     let i = t.slot();
     if i < 16 {
         let x = k.tasks[i];
@@ -95,7 +95,7 @@ pub fn outcome(k: Kernel, t: TaskNo) {
     }
 }
 
-pub fn ticks(k: Kernel) {
+pub(crate) fn ticks(k: Kernel) {
     one(b"  tick count:", k.tick);
     text(b"\n");
 }

@@ -12,7 +12,7 @@ use slots::Kind;
 use slots::Place;
 use slots::Wake;
 
-pub fn waits() {
+pub(crate) fn waits() {
     say(
         b"a receiver on a queue with an item",
         put_kind(parlour(), 0, ring(4, 8, 1, 1)),
@@ -37,7 +37,7 @@ pub fn waits() {
     );
 }
 
-pub fn holders() {
+pub(crate) fn holders() {
     say(
         b"a holder that does not exist",
         put_kind(parlour(), 3, held_by(8)),
@@ -45,7 +45,7 @@ pub fn holders() {
     say(b"holder 16", put_kind(parlour(), 3, held_by(16)));
 }
 
-pub fn rings() {
+pub(crate) fn rings() {
     say(b"capacity 0", put_kind(parlour(), 4, ring(0, 0, 0, 0)));
     say(b"capacity 65", put_kind(parlour(), 4, ring(65, 0, 0, 0)));
     say(b"item size 65", put_kind(parlour(), 4, ring(1, 65, 0, 0)));

@@ -11,7 +11,7 @@ use kernel::Kernel;
 use order::Order;
 use slots::Place;
 
-pub fn listing() {
+pub(crate) fn listing() {
     say(b"a ready task listed nowhere", unlisted(parlour(), 2));
     say(b"a delayed task listed nowhere", unlisted(parlour(), 3));
     say(b"a waiting task listed nowhere", unlisted(parlour(), 4));
@@ -41,7 +41,7 @@ fn crowd() -> Kernel {
     k
 }
 
-pub fn many() {
+pub(crate) fn many() {
     let k = crowd();
     say(b"sixteen listed", k);
     let o = k.order;
@@ -52,7 +52,7 @@ pub fn many() {
     );
 }
 
-pub fn running() {
+pub(crate) fn running() {
     let k = put_task(parlour(), 2, task(Place::Ready, 5, 5, 0));
     let o = k.order;
     say(

@@ -10,7 +10,7 @@ use crate::waiting;
 use slots::Place;
 use slots::Wake;
 
-pub fn idle() {
+pub(crate) fn idle() {
     say(
         b"idle suspended",
         unlisted(put_task(parlour(), 0, task(Place::Suspended, 0, 0, 0)), 0),
@@ -22,7 +22,7 @@ pub fn idle() {
     say(b"idle holds a mutex", put_kind(parlour(), 3, held_by(0)));
 }
 
-pub fn priorities() {
+pub(crate) fn priorities() {
     say(
         b"effective below own",
         put_task(parlour(), 1, task(Place::Ready, 6, 5, 0)),
@@ -37,7 +37,7 @@ pub fn priorities() {
     );
 }
 
-pub fn values() {
+pub(crate) fn values() {
     let mut k = parlour();
     k.tick = 10;
     say(b"a delay's wake tick is the tick count", k);

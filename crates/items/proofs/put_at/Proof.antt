@@ -23,11 +23,11 @@ same-length : tie.Need-same-length
 same-length c = search needs
 
 returns : tie.Need-returns
-returns c = put-back (c .before .before .before .before .before .before .before .args .store .now) (take (c .before .before .before .before .before .before .before .args .n) (c .before .before .before .before .before .before .before .args .item .now)) (c .before .before .put .last .0) (c .before .before .before .before .before .before .before .args .at) (search needs) (c .before .before .put .ensures)
+returns c = put-back (c .before .before .before .before .before .before .before .args .part .now) (take (c .before .before .before .before .before .before .before .args .n) (c .before .before .before .before .before .before .before .args .item .now)) (c .before .before .put .last .0) (c .before .before .before .before .before .before .before .args .at) (search needs) (c .before .before .put .ensures)
 
 returns-2 : tie.Need-returns-2
 unfolding putAt
-returns-2 c = sym (sets-past (take (c .before .before .before .args .n) (c .before .before .before .args .item .now)) (c .before .before .before .args .store .now) (c .before .before .before .args .at) (omega arith))
+returns-2 c = sym (sets-past (take (c .before .before .before .args .n) (c .before .before .before .args .item .now)) (c .before .before .before .args .part .now) (c .before .before .before .args .at) (omega arith))
 
 pub put-at-spec : {M : Type 1} → statement M
 put-at-spec =

@@ -1,56 +1,39 @@
 use borrow.Author.Needs.{needs}
-use Rattle.lists.proofs.Bools.{and-right}
-use Rattle.lists.proofs.Loops.{turn}
-use borrow.Author.Tests.{ltb-true}
-use lib.Dec.{ltb}
+use Rattle.nahalvik.proofs.Taking.{turns-left, fresh-came, more-came}
+use Rattle.nahalvik.specs.Blocks.{Came}
 use lib.ListN.{length}
-use mathlib.Core.Path.{_≡_, refl, sym, _∙_}
+use mathlib.Core.Path.{_≡_, refl}
 use native.Mathlib.Omega.{arith}
 use Rattle.nahalvik.proofs.read_all.Statement.{statement}
 use Rattle.nahalvik.proofs.read_all.Tie as tie
 
 abbrev Inv-loop : tie.InvT-loop
-Inv-loop block₀ store₀ out₀ turns₀ turn₀ block store out turns turn = (length block ≡ length block₀) × (length store ≡ length store₀) × (length out ≡ length out₀)
+Inv-loop block₀ store₀ out₀ turns₀ turn₀ block store out turns turn =
+    ((length block ≡ length block₀) × (length store ≡ length store₀) × (length out ≡ length out₀)) × Came (turn .served .session) store
 
 abbrev μ-loop : tie.MeasureT-loop
 μ-loop block₀ store₀ out₀ turns₀ turn₀ block store out turns turn = turns
 
-fresh-requires : tie.Need-fresh-requires Inv-loop μ-loop
-fresh-requires c κs = search needs
-
 loop-holds : tie.Need-loop-holds Inv-loop μ-loop
-loop-holds c = (refl, refl, refl)
-
-both-requires : tie.Need-both-requires Inv-loop μ-loop
-both-requires c κs = search needs
-
-read-block-requires : tie.Need-read-block-requires Inv-loop μ-loop
-read-block-requires c κs = search needs
+loop-holds c = ((refl, refl, refl), fresh-came _ _ (c .fresh .ensures) (c .before .before .before .before .pre .1))
 
 sub-turns : tie.Need-sub-turns Inv-loop μ-loop
 sub-turns c =
-    let h = ltb-true 0 (c .before .before .before .before .before .before .before .before .before .before .before .before .before .loop .turns) (and-right (c .before .before .before .before .before .before .before .before .before .before .before .before .before .loop .turn .more) (ltb 0 (c .before .before .before .before .before .before .before .before .before .before .before .before .before .loop .turns)) (sym (c .before .before .before .before .before .before .before .before .before .before .before .before .both .ensures) ∙ c .before .before .before .before .before .before .before .before .before .before .before .if1 .taken)) in
-    omega (arith, h)
+    let t = c .before .before .before .before .before .before .before .before .before .before .before in
+    let l = t .before .before .loop in
+    omega (arith, turns-left (l .turn .more) (l .turns) (t .before .both .ensures) (t .if1 .taken))
 
 loop-less : tie.Need-loop-less Inv-loop μ-loop
 loop-less c =
-    let h = ltb-true 0 (c .before .before .before .before .before .before .before .before .before .before .before .before .before .loop .turns) (and-right (c .before .before .before .before .before .before .before .before .before .before .before .before .before .loop .turn .more) (ltb 0 (c .before .before .before .before .before .before .before .before .before .before .before .before .before .loop .turns)) (sym (c .before .before .before .before .before .before .before .before .before .before .before .before .both .ensures) ∙ c .before .before .before .before .before .before .before .before .before .before .before .if1 .taken)) in
-    omega (arith, h)
+    let t = c .before .before .before .before .before .before .before .before .before .before .before in
+    let l = t .before .before .loop in
+    omega (arith, turns-left (l .turn .more) (l .turns) (t .before .both .ensures) (t .if1 .taken))
 
 loop-again : tie.Need-loop-again Inv-loop μ-loop
-loop-again c = search needs
-
-same-length : tie.Need-same-length Inv-loop μ-loop
-same-length c = search needs
-
-same-length-2 : tie.Need-same-length-2 Inv-loop μ-loop
-same-length-2 c = search needs
-
-same-length-3 : tie.Need-same-length-3 Inv-loop μ-loop
-same-length-3 c = search needs
-
-returns : tie.Need-returns Inv-loop μ-loop
-returns c = search needs
+loop-again c =
+    let b = c .before .before .before .before .before .before in
+    let l = b .before .before .before .before .before .before .before .loop in
+    ((search needs, search needs, search needs), more-came _ _ _ _ (b .read-block .result .served) _ _ (l .inv .1) (b .read-block .ensures))
 
 pub read-all-spec : {M : Type 1} → statement M
 read-all-spec =
@@ -58,14 +41,14 @@ read-all-spec =
     (tie.spec
     Inv-loop
     μ-loop
-    fresh-requires
+    (λ c κs. search needs)
     loop-holds
-    both-requires
-    read-block-requires
+    (λ c κs. search needs)
+    (λ c κs. search needs)
     sub-turns
     loop-less
     loop-again
-    same-length
-    same-length-2
-    same-length-3
-    returns)
+    (λ c. search needs)
+    (λ c. search needs)
+    (λ c. search needs)
+    (λ c. c .before .before .loop .inv .1))

@@ -1,5 +1,4 @@
 use borrow.Author.Needs.{needs}
-use Rattle.items.proofs.Copies.{carried-is}
 use Rattle.kernel.proofs.Within.{less-fits}
 use Rattle.kernel.specs.Items.{received, storeReceived}
 use borrow.Author.Tests.{eq-eqb, ne-eqb}
@@ -15,31 +14,35 @@ returns : tie.Need-returns
 unfolding received storeReceived
 returns c = rw (eq-eqb _ _ (c .before .if1 .taken)) (c .wait-for .ensures, refl)
 
-cast-n : tie.Need-cast-n
-cast-n c = search needs
-
 waiter-requires : tie.Need-waiter-requires
 waiter-requires c κs = search needs
 
 one-less-requires : tie.Need-one-less-requires
 one-less-requires c κs = search needs
 
-item-at-requires : tie.Need-item-at-requires
-item-at-requires c κs = search needs
+of-ring-requires : tie.Need-of-ring-requires
+of-ring-requires c κs = search needs
 
-slip-of-requires : tie.Need-slip-of-requires
-slip-of-requires c κs = search needs
+slice-aggregate-to-slip : tie.Need-slice-aggregate-to-slip
+slice-aggregate-to-slip c = search needs
 
-carry-requires : tie.Need-carry-requires
-carry-requires c κs = search needs
+cast-to-slip : tie.Need-cast-to-slip
+cast-to-slip c = search needs
+
+to-slip-requires : tie.Need-to-slip-requires
+to-slip-requires c κs = search needs
 
 refill-requires : tie.Need-refill-requires
-refill-requires c κs = (rw (c .before .before .before .before .before .before .before .one-less .ensures) (less-fits (c .before .before .before .before .before .before .before .before .before .before .before .before .before .before .args .q) (c .before .before .before .before .before .before .before .before .before .before .before .before .before .before .pre .1)), c .before .before .before .before .before .before .before .before .before .before .before .before .before .before .pre .0, c .before .before .before .before .before .before .before .before .waiter .ensures .1, search needs)
+refill-requires c κs =
+    let s = c .before .before .before .before .before .before .before .before .before .before .before .before .before .before .before in
+    let less = c .before .before .before .before .before .before .before .before .before .one-less .ensures in
+    (rw less (less-fits (s .args .q) (s .pre .1)), s .pre .0, c .before .before .before .before .before .before .before .before .before .before .waiter .ensures .1, search needs)
 
 refilled-by-requires : tie.Need-refilled-by-requires
 refilled-by-requires c κs =
-    let f = less-fits (c .before .before .before .before .before .before .before .before .before .before .before .before .before .before .before .before .before .args .q) (c .before .before .before .before .before .before .before .before .before .before .before .before .before .before .before .before .before .pre .1) in
-    rw (c .before .before .before .before .before .before .before .before .before .before .one-less .ensures) (omega arith)
+    let s = c .before .before .before .before .before .before .before .before .before .before .before .before .before .before .before .before .before .before in
+    let f = less-fits (s .args .q) (s .pre .1) in
+    rw (c .before .before .before .before .before .before .before .before .before .before .before .before .one-less .ensures) (omega arith)
 
 same-length : tie.Need-same-length
 same-length c = search needs
@@ -47,7 +50,12 @@ same-length c = search needs
 returns-2 : tie.Need-returns-2
 unfolding received storeReceived
 returns-2 c =
-    rw (ne-eqb _ _ (c .before .before .before .before .before .before .before .before .before .before .before .before .before .before .before .if1 .left)) (c .refilled-by .ensures ∙ rw (c .before .before .before .before .before .before .before .before .before .before .before .one-less .ensures, c .before .before .before .before .before .before .before .before .before .before .before .before .waiter .ensures .0), c .before .before .before .refill .ensures ∙ rw (c .before .before .before .before .before .before .before .carry .ensures, carried-is (c .before .before .before .before .before .before .before .before .before .before .item-at .result) (c .before .before .before .before .before .before .before .before .slip-of .result) (c .before .before .before .before .before .before .before .before .before .before .before .before .before .before .before .before .before .before .args .q .size) (c .before .before .before .before .before .before .before .before .before .before .before .before .before .before .before .before .before .before .args .store .now) (c .before .before .before .before .before .before .before .before .before .before .before .before .before .before .before .before .before .before .pre .1 .small) (omega (arith, c .before .before .before .before .before .before .before .before .before .before .item-at .ensures .1, c .before .before .before .before .before .before .before .before .before .before .before .before .before .before .before .before .before .before .pre .3)), c .before .before .before .before .before .before .before .before .slip-of .ensures, c .before .before .before .before .before .before .before .before .before .before .item-at .ensures .0, c .before .before .before .before .before .before .before .before .before .before .before .one-less .ensures, c .before .before .before .before .before .before .before .before .before .before .before .before .waiter .ensures .0))
+    let less = c .before .before .before .before .before .before .before .before .before .before .before .before .before .one-less .ensures in
+    let who = c .before .before .before .before .before .before .before .before .before .before .before .before .before .before .waiter .ensures .0 in
+    let some = c .before .before .before .before .before .before .before .before .before .before .before .before .before .before .before .before .if1 .left in
+    let oldest = c .before .before .before .before .before .before .before .before .before .before .before .of-ring .ensures in
+    let slip = c .before .before .before .before .before .before .before .to-slip .ensures in
+    rw (ne-eqb _ _ some) (c .refilled-by .ensures ∙ rw (less, who), c .before .before .before .refill .ensures ∙ rw (slip, oldest, less, who))
 
 pub receive-from-spec : {M : Type 1} → statement M
 receive-from-spec =
@@ -55,12 +63,12 @@ receive-from-spec =
     (tie.spec
     wait-for-requires
     returns
-    cast-n
     waiter-requires
     one-less-requires
-    item-at-requires
-    slip-of-requires
-    carry-requires
+    of-ring-requires
+    slice-aggregate-to-slip
+    cast-to-slip
+    to-slip-requires
     refill-requires
     refilled-by-requires
     same-length

@@ -1,6 +1,7 @@
 use borrow.Author.Needs.{needs}
 use Rattle.calls.specs.Asked.{asked}
 use Rattle.kernel.proofs.Ends.{ends}
+use Rattle.kernel.proofs.Passes.{sized}
 use Rattle.kernel.proofs.Within.{queue-within}
 use Rattle.kernel.specs.Effects.{effect}
 use Rattle.kernel.specs.Step.{stored, answered}
@@ -26,11 +27,11 @@ enum-known-q c = search needs
 
 send-to-requires : tie.Need-send-to-requires
 send-to-requires c κs =
-    let a = c .before .before .before .before .before .before .before .before .args .self in
-    let lo : length (a .objects) ≡ 16 = search length-mapped in
+    let s = c .before .before .before .before .before .before .before .before in
+    let lo : length (s .args .self .objects) ≡ 16 = search length-mapped in
     let e = sym (c .before .before .before .before .kind .ensures) ∙ c .before .before .q .given .1 in
-    let w = queue-within (a .objects) (c .before .before .before .before .before .before .before .before .args .o) _ e in
-    (omega arith, c .before .before .before .before .before .before .before .before .pre .fit (c .before .before .before .before .before .before .before .before .args .o) _ e, c .before .before .before .before .before .before .before .before .pre .runs)
+    let w = queue-within (s .args .self .objects) (s .args .o) _ e in
+    (omega arith, s .pre .0 .fit (s .args .o) _ e, s .pre .0 .runs, sized _ e (s .pre .1), search needs)
 
 ended-requires-2 : tie.Need-ended-requires-2
 ended-requires-2 c κs = search needs

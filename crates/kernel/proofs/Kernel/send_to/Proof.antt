@@ -12,32 +12,89 @@ use Rattle.kernel.proofs.Kernel.send_to.Tie as tie
 outlet-requires : tie.Need-outlet-requires
 outlet-requires c κs = search needs
 
-place-by-requires : tie.Need-place-by-requires
-place-by-requires c κs =
-    let a = c .before .before .before .args .self in
-    let lt : length (a .tasks) ≡ 16 = search length-mapped in
-    (c .before .before .before .pre .1, c .before .before .before .pre .0, c .before .before .before .pre .2, λ t e. let v = waiter-within a (c .before .before .before .args .o) (c .before .before .before .args .q) t (sym (c .outlet .ensures) ∙ e) in omega arith)
+enum-known-t : tie.Need-enum-known-t
+enum-known-t c = search needs
 
-put-at-requires : tie.Need-put-at-requires
-put-at-requires c κs = search needs
+to-slip-requires : tie.Need-to-slip-requires
+to-slip-requires c κs =
+    let s = c .before .before .before .before .before .before .before .before in
+    let lt : length (s .args .self .tasks) ≡ 16 = search length-mapped in
+    let v = waiter-within (s .args .self) (s .args .o) (s .args .q) _ (sym (c .before .before .before .before .outlet .ensures) ∙ c .before .before .t .given .1) in
+    (omega arith, omega arith, search needs)
 
-sent-by-requires : tie.Need-sent-by-requires
-sent-by-requires c κs = search needs
+readied-requires : tie.Need-readied-requires
+readied-requires c κs = search needs
+
+enum-told : tie.Need-enum-told
+enum-told c = search needs
+
+to-ring-requires : tie.Need-to-ring-requires
+to-ring-requires c κs = search needs
+
+one-more-requires : tie.Need-one-more-requires
+one-more-requires c κs = search needs
+
+with-object-requires : tie.Need-with-object-requires
+with-object-requires c κs = search needs
+
+enum-told-2 : tie.Need-enum-told-2
+enum-told-2 c = search needs
+
+to-slip-requires-2 : tie.Need-to-slip-requires-2
+to-slip-requires-2 c κs = search needs
+
+wait-for-requires : tie.Need-wait-for-requires
+wait-for-requires c κs = search needs
 
 same-length : tie.Need-same-length
 same-length c = search needs
 
 returns : tie.Need-returns
 unfolding sent storeSent
-returns c = (c .sent-by .ensures ∙ rw (c .before .before .before .before .before .before .outlet .ensures), c .before .before .before .put-at .ensures ∙ rw (c .before .before .before .before .before .place-by .ensures .0, c .before .before .before .before .before .before .outlet .ensures, take-length))
+returns c =
+    let x = c .before .before .before .before .before .before .before .before .outlet .ensures in
+    let told = c .before .before .before .before .before .before .t .given .1 in
+    rw (← x, told) (c .readied .ensures, c .before .before .before .to-slip .ensures ∙ rw take-length)
+
+same-length-2 : tie.Need-same-length-2
+same-length-2 c = search needs
+
+returns-2 : tie.Need-returns-2
+unfolding sent storeSent
+returns-2 c =
+    let x = c .before .before .before .before .before .before .before .before .outlet .ensures in
+    let told = c .before .before .before .before .before .before .enum-told .given .1 in
+    let size = c .before .before .before .before .before .before .before .before .before .before .before .before .pre .3 in
+    rw (← x, told) (c .with-object .ensures ∙ rw (c .before .one-more .ensures), c .before .before .before .before .to-ring .ensures ∙ rw (← size, take-length))
+
+same-length-3 : tie.Need-same-length-3
+same-length-3 c = search needs
+
+returns-3 : tie.Need-returns-3
+unfolding sent storeSent
+returns-3 c =
+    let x = c .before .before .before .before .before .before .before .outlet .ensures in
+    let told = c .before .before .before .before .before .enum-told2 .given .1 in
+    rw (← x, told) (c .wait-for .ensures, c .before .before .before .to-slip2 .ensures ∙ rw take-length)
 
 pub send-to-spec : {M : Type 1} → statement M
 send-to-spec =
     tie.close
     (tie.spec
     outlet-requires
-    place-by-requires
-    put-at-requires
-    sent-by-requires
+    enum-known-t
+    to-slip-requires
+    readied-requires
+    enum-told
+    to-ring-requires
+    one-more-requires
+    with-object-requires
+    enum-told-2
+    to-slip-requires-2
+    wait-for-requires
     same-length
-    returns)
+    returns
+    same-length-2
+    returns-2
+    same-length-3
+    returns-3)

@@ -1,12 +1,12 @@
 use borrow.Author.Needs.{needs}
 use Rattle.calls.specs.Asked.{asked}
-use Rattle.kernel.proofs.Passes.{passed, create-fits, set-fits, queue-fits, task-number, queue-number, mutex-number, hold-fits, release-fits, tick-fits, sound-steady}
+use Rattle.kernel.proofs.Passes.{passed, create-fits, set-fits, queue-fits, send-sized, task-number, queue-number, mutex-number, hold-fits, release-fits, tick-fits, sound-steady}
 use Rattle.kernel.specs.Step.{stored}
 use lib.ListN.{length}
+use mathlib.Core.Logic.{⊎-elim}
+use mathlib.Core.Path.{refl, sym, _∙_}
 use native.Mathlib.Omega.{arith}
 use mathlib.Core.Bool.{false≢true}
-use mathlib.Core.Path.{refl, sym, _∙_}
-use mathlib.Core.Logic.{⊎-elim}
 use Rattle.kernel.proofs.Kernel.served.Statement.{statement}
 use Rattle.kernel.proofs.Kernel.served.Tie as tie
 
@@ -107,7 +107,11 @@ enum-known-call-9 : tie.Need-enum-known-call-9
 enum-known-call-9 c = search needs
 
 send-requires : tie.Need-send-requires
-send-requires c κs = sound-steady (c .before .before .before .before .before .before .before .before .before .args .self) (c .before .before .before .before .before .before .before .before .before .pre .0)
+send-requires c κs =
+    let s = c .before .before .before .before .before .before .before .before .before in
+    let i = length (s .args .item .now) in
+    let n = length (s .args .store .now) in
+    (sound-steady (s .args .self) (s .pre .0), send-sized (s .args .self) i n (c .before .before .call9 .given .1) (s .pre .1), passed (s .args .self) (asked (s .args .call)) i n (s .pre .1) .whole)
 
 enum-known-call-10 : tie.Need-enum-known-call-10
 enum-known-call-10 c = search needs
