@@ -67,7 +67,7 @@ word-length made = omega arith
 word-length waiting = omega arith
 word-length refused = omega arith
 
-pub reply-within : (s : Saying) (t : TaskNo) → length (reply s t) ≤ 256
+pub reply-within : (s : Saying) (t : TaskNo) → length (reply s t) ≤ 64
 unfolding reply
 reply-within s t =
     let w = wordOf (s .word) in
@@ -83,7 +83,7 @@ reply-within s t =
       dec-length (t .0),
     )
 
-pub reply-short : (a : Answer) (t : TaskNo) → length (replyOf a t) ≤ 256
+pub reply-short : (a : Answer) (t : TaskNo) → length (replyOf a t) ≤ 64
 reply-short a t = reply-within (said a) t
 
 -- ---- the texts, put together from what was stored in turn

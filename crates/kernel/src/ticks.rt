@@ -67,7 +67,8 @@ impl Kernel {
             if left <= d {
                 return k.with_tick(std::num::wrapping_add_u32(k.tick, left));
             }
-            k = k.with_tick(std::num::wrapping_add_u32(k.tick, d)).one_tick();
+            k = k.with_tick(std::num::wrapping_add_u32(k.tick, d))
+                .one_tick();
             left = left - d - 1;
         }
         k

@@ -19,7 +19,7 @@ use Rattle.kernel.specs.Tables.{fresh}
 use Rattle.kernel.specs.Session.{Run, noLine, lineStep, readCut, stepRead, told, answeredBy, fed, begun, closed, newSession}
 use Rattle.kernel.specs.Step.{Stepped, turnedAway}
 use Rattle.promises.specs.Program.{inFront, linesOf, stepOfLine, Answered, answering, program, answersTo}
-use Rattle.promises.specs.Turns.{Turn, Pause, afterTurns, cameIn, afterEnd, opened, atStart, outcome}
+use Rattle.promises.specs.Turns.{Turn, Pause, afterTurns, cameIn, afterEnd, opened, atStart, outcome, inOne}
 use Rattle.promises.proofs.AnyBlocks.{all-as-in-one}
 use Rattle.promises.proofs.LineSteps.{cut-line}
 
@@ -207,6 +207,11 @@ closed-stays n k s c = go (isEmpty c) (ltb n 256)
 none-held : Holds noByte []
 unfolding noByte
 none-held = record { size = refl; len = refl; bytes = λ g. refl }
+
+-- fed byte by byte, and then ended
+pub ended-after : (k : Kernel) (s input : List ℕ) (n : ℕ) → 256 ≤ n → outcome (afterEnd (inOne (opened k s noByte) input []) n) ≡ answering k s (linesOf input)
+unfolding afterEnd index
+ended-after k s input n h = lines-fed n h input (begun k s noByte) [] none-held refl
 
 -- before the end, too, kernel and store are those of the lines
 pub fed-so-far : (k : Kernel) (s input : List ℕ)

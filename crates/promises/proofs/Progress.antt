@@ -53,17 +53,6 @@ room n r b h = rw (le-ltb n (length (r .answers) + 256) h) (go (eqb b 10))
     go true = refl
     go false = refl
 
--- with room for an answer to each byte the whole block is taken
-pub all-taken : (n : ℕ) (r : Run) (l : List ℕ) → length (r .answers) + 256 * suc (length l) ≤ n → run n r l ≡ foldl fed r l
-unfolding run foldl
-all-taken n r [] h = refl
-all-taken n r (b ∷ l) h =
-    rw (room n r b (omega arith)) (all-taken n (fed r b) l (omega (arith, grown (eqb b 10) refl)))
-  where
-    grown : (t : Bool) → eqb b 10 ≡ t → length (fed r b .answers) ≤ length (r .answers) + 256
-    grown true e = omega (arith, rw e at (fed-answers r b))
-    grown false e = omega (arith, rw e at (fed-answers r b))
-
 -- ---- at least one byte
 
 pub one-taken : (n : ℕ) (k : Kernel) (s : List ℕ) (c : Cut) (b : ℕ) (l : List ℕ) → 256 ≤ n → 0 < run n (begun k s c) (b ∷ l) .taken

@@ -64,10 +64,10 @@ loop-again c =
     let l = c .before .before .before .before in
     let due = ap (λ n. wakesAt n (taskAt (l .loop .self .tasks) (task (l .loop .i)) .place)) (l .loop .inv .1) ∙ sym (c .before .wakes-at .ensures) in (
       next (l .loop .inv .0) (
-        ⊎-elim
-        (λ w. w .6 ∙ due-turn (l .loop .self) (l .loop .i) (due ∙ w .0 .taken) (w .2 .ensures ∙ rw (w .1 .ensures)) (w .5 .ensures ∙ rw (w .4 .ensures)))
-        (λ w. w .1 ∙ not-turn (l .loop .self) (l .loop .i) (due ∙ w .0 .left))
-        (c .if1 .came)),
+          ⊎-elim
+          (λ w. w .6 ∙ due-turn (l .loop .self) (l .loop .i) (due ∙ w .0 .taken) (w .2 .ensures ∙ rw (w .1 .ensures)) (w .5 .ensures ∙ rw (w .4 .ensures)))
+          (λ w. w .1 ∙ not-turn (l .loop .self) (l .loop .i) (due ∙ w .0 .left))
+          (c .if1 .came)),
       ⊎-elim (λ w. ap (λ (k : Kernel). k .tick) (w .6) ∙ l .loop .inv .1) (λ w. ap (λ (k : Kernel). k .tick) (w .1) ∙ l .loop .inv .1) (c .if1 .came),
       omega arith,
     )
