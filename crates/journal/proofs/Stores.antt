@@ -141,4 +141,4 @@ module _ (c : Call) (b l : List ℕ) (h : length l ≡ 256) (f : Frame) (s : Sha
       rw (eq-eqb (length l) 256 h, tested, k) (written (lineOf c (itsItem c b)) l m r h (line-short c (itsItem c b) (λ e. short)) (rw q at w))
 
 pub reply-written : (a : Answer) (t : TaskNo) (l m : List ℕ) (r : ℕ) → length l ≡ 256 → Wrote l 0 (replyOf a t) r m → WritesAnswer a t l (Count r) m
-reply-written a t l m r h w = rw (eq-eqb (length l) 256 h) (written (replyOf a t) l m r h (reply-short a t) w)
+reply-written a t l m r h w = rw (eq-eqb (length l) 256 h) (written (replyOf a t) l m r h (omega (arith, reply-short a t)) w)
