@@ -19,12 +19,13 @@ use Rattle.journal.proofs.write_answer.Met as teller-code
 use Rattle.promises.specs.Program.{Answered}
 use Rattle.promises.specs.ByLines.{ProgramAnswers}
 use Rattle.promises.specs.Turns.{cameIn}
+use Rattle.promises.proofs.Gate.{both-sides-of-the-gate}
 use Rattle.promises.proofs.Exact.{decided, turned-away-exactly}
 use Rattle.promises.proofs.InWords.{program-answers}
 use Rattle.promises.proofs.LineForLine.{session-is-the-program}
 use Rattle.promises.proofs.Histories.{after-any-calls}
 use Rattle.promises.proofs.Reaches.{session-so-far, program-placed, session-placed}
-use Rattle.histories.proofs.PaidBack.{paid-back, program-pays-back}
+use Rattle.histories.proofs.PaidBack.{paid-back, program-pays-back, session-pays-back}
 use Rattle.claims.specs.Types.{Call, Read}
 use Rattle.claims.specs.Claims.{Code, Refused, Ruled, Journalled, Kept, Claims}
 use Rattle.claims.proofs.Fitting.{total}
@@ -51,6 +52,7 @@ ruled =
     record {
       calls = λ k c item s r after f none. turned-away-exactly k c item s r after f .else none;
       journal = λ ts all n room. subst (λ (r : Answered). ProgramAnswers (cameIn ts) r) (sym (session-is-the-program ts all n room)) (program-answers (cameIn ts));
+      gate = both-sides-of-the-gate;
     }
 
 journalled : Journalled
@@ -77,6 +79,7 @@ kept =
       lines-borrowed = program-pays-back;
       session-so-far = session-so-far;
       session-placed = session-placed;
+      session-borrowed = session-pays-back;
     }
 
 pub claims : Claims

@@ -1,7 +1,7 @@
 -- What all of it is worth: the three demands, sentence by sentence, in their words. Each field cites the definitions that a reader has to believe; that all of it is true: proofs/Claimed.
 use Prim.Native.Nat.{ℕ, _≤_}
 use mathlib.Core.Path.{_≡_}
-use mathlib.Core.List.{List, []}
+use mathlib.Core.List.{List, [], map}
 use lib.ListN.{length, take, replicate}
 use Rattle.calls.specs.Asked.{asked}
 use Rattle.calls.specs.Table.{called}
@@ -21,7 +21,8 @@ use Rattle.journal.proofs.write_call.Statement as writer-code
 use Rattle.journal.proofs.write_answer.Statement as teller-code
 use Rattle.promises.specs.TurnedAway.{rows, None, Accepted, Exactly, Decided}
 use Rattle.promises.specs.History.{Made, reached, Placed}
-use Rattle.promises.specs.Program.{answering}
+use Rattle.promises.specs.Cases.{Case, ran, cases}
+use Rattle.promises.specs.Program.{linesOf, answering}
 use Rattle.promises.specs.ByLines.{ProgramAnswers}
 use Rattle.promises.specs.Turns.{Turn, afterTurns, cameIn, afterEnd, atStart, outcome}
 use Rattle.promises.specs.Reached.{programCalls, SoFar}
@@ -61,10 +62,11 @@ pub record Refused : Type 0 where
   pub exactly : (k : Kernel) (c : Call) (item store : List ℕ) (r : Step) (after : List ℕ) → Steps k c item store r after → Exactly k c item store r after
   pub decided : (k : Kernel) (a : Asked) (item store : ℕ) → Decided (rows k a item store)
 
--- 2. "Each call does what the rules say": one that no row turns away; and a journal's lines, one after the other, in any blocks.
+-- 2. "Each call does what the rules say": one that no row turns away; a journal's lines, one after the other, in any blocks; and P1 to P12.
 pub record Ruled : Type 0 where
   pub calls : (k : Kernel) (c : Call) (item store : List ℕ) (r : Step) (after : List ℕ) → Steps k c item store r after → None (rows k (asked c) (length item) (length store)) → Accepted k c item store r after
   pub journal : (ts : List Turn) → afterTurns atStart ts .waits ≡ [] → (n : ℕ) → 256 ≤ n → ProgramAnswers (cameIn ts) (outcome (afterEnd (afterTurns atStart ts) n))
+  pub gate : map ran cases ≡ map (λ (c : Case). c .expected) cases
 
 -- "Each call whose item is at most 64 bytes has one journal line; reading it gives back the call, and any other line is refused." Of each call that code holds: its writer
 -- promises the line, and that it stands first in the lent one.
@@ -86,6 +88,7 @@ pub record Kept : Type 0 where
   pub lines-borrowed : (ls : List (List ℕ)) (t : TaskNo) → PaysBack (programCalls ls) (answering fresh (replicate 9216 0) ls .kernel) t
   pub session-so-far : (ts : List Turn) → SoFar ts
   pub session-placed : (ts : List Turn) → Placed (afterTurns atStart ts .kernel)
+  pub session-borrowed : (ts : List Turn) (t : TaskNo) → PaysBack (programCalls (linesOf (session-so-far ts .taken))) (afterTurns atStart ts .kernel) t
 
 pub record Claims : Type 2 where
   pub code : Code
