@@ -1,6 +1,6 @@
 -- Each promise is met by an answer: what the definitions say, as values of the code's types.
 use Prim.Native.Nat.{ℕ, _≤_}
-use mathlib.Core.Path.{_≡_, refl, sym, ap, _∙_}
+use mathlib.Core.Path.{_≡_, refl, sym}
 use mathlib.Core.Bool.{Bool, true, false}
 use mathlib.Core.List.{List, _++_}
 use lib.Dec.{eqb}
@@ -21,7 +21,7 @@ use Rattle.kernel.specs.Lines.{chosen}
 use Rattle.kernel.specs.Asking.{makes, newNumber}
 use Rattle.kernel.specs.Refusals.{refusal}
 use Rattle.kernel.specs.Effects.{effect}
-use Rattle.kernel.specs.Step.{Stepped, answered, accepted, turnedAway, step}
+use Rattle.kernel.specs.Step.{answered, accepted, turnedAway, step}
 use Rattle.kernel.specs.Session.{Run, run, begun, closed}
 use Rattle.kernel.specs.Promises.{Ran, Steps, Answers, Closes}
 use Rattle.promises.proofs.LineForLine.{closed-stays}

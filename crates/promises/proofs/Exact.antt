@@ -2,7 +2,7 @@
 use Prim.Native.Nat.{ℕ}
 use mathlib.Core.Path.{_≡_, refl, sym, ap, subst, _∙_}
 use mathlib.Core.Bool.{Bool, true, false, not, _&&_, false≢true}
-use mathlib.Core.Logic.{inl, inr, ⊎-elim}
+use mathlib.Core.Logic.{inl, inr}
 use mathlib.Core.List.{List, [], _∷_}
 use native.Mathlib.Omega.{arith}
 use lib.Dec.{eqb}
@@ -10,7 +10,7 @@ use lib.ListN.{length}
 use borrow.Author.Tests.{eqb-true, eqb-false, eq-eqb, ne-eqb}
 use Rattle.lists.specs.Choice.{if_then_else_}
 use Rattle.calls.specs.Asked.{asked}
-use Rattle.calls.specs.Said.{Word, done, made, waiting, refused, Saying, says, said}
+use Rattle.calls.specs.Said.{done, made, waiting, refused, Saying, says, said}
 use Rattle.slots.specs.Places.{isBlocked}
 use Rattle.kernel.specs.declared.Step.{Step}
 use Rattle.kernel.specs.Tables.{taskAt}
@@ -19,10 +19,10 @@ use Rattle.kernel.specs.Sound.{sound}
 use Rattle.kernel.specs.Asking.{makes, newNumber}
 use Rattle.kernel.specs.Refusals.{Row, row, firstRow, table, laterRow, refusal}
 use Rattle.kernel.specs.Effects.{effect}
-use Rattle.kernel.specs.Step.{Stepped, answered, accepted, turnedAway, steppedBy, step}
+use Rattle.kernel.specs.Step.{answered, accepted, turnedAway, step}
 use Rattle.kernel.specs.Promises.{Is, Steps}
 use Rattle.promises.specs.Types.{Asked, Call, Kernel}
-use Rattle.promises.specs.TurnedAway.{rows, First, here, below, None, end, off, Refusal, Accepted, Exactly, Some, Decided}
+use Rattle.promises.specs.TurnedAway.{rows, First, here, below, None, end, off, Refusal, Exactly, Decided}
 
 -- ── the first row that applies, as a number and as a proposition
 first-is : {n : ℕ} {rs : List Row} → First n rs → firstRow rs ≡ n

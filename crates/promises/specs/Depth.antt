@@ -9,7 +9,7 @@ use Rattle.calls.specs.Asked.{asked}
 use Rattle.kernel.specs.Asking.{is}
 use Rattle.kernel.specs.Refusals.{refusal}
 use Rattle.kernel.specs.Step.{step}
-use Rattle.promises.specs.Types.{Asked, Call, Kernel}
+use Rattle.promises.specs.Types.{Asked, Kernel}
 use Rattle.promises.specs.History.{Made}
 
 -- "hold, release: depth up, down"; no other call changes it

@@ -11,10 +11,11 @@ use Rattle.journal.specs.Steps.{readOf}
 use Rattle.kernel.specs.declared.Kernel.{Kernel}
 use Rattle.kernel.specs.Tables.{fresh}
 use Rattle.promises.specs.History.{Made}
-use Rattle.promises.specs.Program.{linesOf, stepOfLine, program}
-use Rattle.promises.specs.Turns.{Turn, Pause, afterTurns, cameIn, atStart}
+use Rattle.promises.specs.Program.{stepOfLine, program}
+use Rattle.promises.specs.Turns.{Turn, afterTurns, cameIn, atStart}
 
--- the call that a line says, as it is made: with its item and the store s; none where the line is no call's line
+-- the call that a line says, as it is made: with its item and the store s; none where the line is no call's line. (`readOf` is the one reading that the
+-- reader's promise allows: `reads-as`, `read-is` in journal/proofs.)
 abbrev pub saidCall : List ℕ → Reading → List ℕ → List Made
 saidCall s (Says c) item = record { call = c; item = item; store = s } ∷ []
 saidCall s (Refused n) item = []
