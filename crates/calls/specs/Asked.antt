@@ -1,29 +1,32 @@
--- A row of the table with each argument in a field of its own. What a call does not have stands at a value that no rule turns away.
+-- A call behind the door: a row of the table with each argument in a field of its own, and slots for numbers. What a call does not have stands at a value that no rule turns away.
 use Prim.Native.Nat.{ℕ}
 use mathlib.Core.List.{List, [], _∷_}
-use Rattle.calls.specs.Types.{TaskNo, ObjNo, Call, Names, Nothing, ATask, AnObject, AQueue, AMutex, Asked}
-use Rattle.calls.specs.Numbers.{task, object}
+use Rattle.numbers.specs.declared.TaskSlot.{TaskSlot}
+use Rattle.numbers.specs.declared.ObjSlot.{ObjSlot}
+use Rattle.numbers.specs.Numbers.{task, object}
+use Rattle.calls.specs.Types.{Call, Names, Nothing, ATask, AnObject, AQueue, AMutex, Asked}
+use Rattle.calls.specs.Door.{taskSlot, objSlot}
 use Rattle.calls.specs.Table.{Argument, aTask, anObject, aQueue, aMutex, priority, ticks, capacity, size, wait, item, called}
 
-abbrev pub asks : ℕ → Names → TaskNo → ObjNo → ℕ → ℕ → ℕ → ℕ → ℕ → Asked
+abbrev pub asks : ℕ → Names → TaskSlot → ObjSlot → ℕ → ℕ → ℕ → ℕ → ℕ → Asked
 asks n m t o p d c s w = record { number = n; names = m; task = t; object = o; priority = p; ticks = d; capacity = c; size = s; wait = w }
 
 -- a call that names nothing, one that names a task, one that names an object
 abbrev pub nothing : ℕ → ℕ → ℕ → ℕ → ℕ → Asked
 nothing n p d c s = asks n Nothing (task 0) (object 0) p d c s 0
 
-abbrev pub onTask : ℕ → TaskNo → ℕ → Asked
+abbrev pub onTask : ℕ → TaskSlot → ℕ → Asked
 onTask n t p = asks n ATask t (object 0) p 0 1 0 0
 
-abbrev pub onObject : ℕ → Names → ObjNo → ℕ → Asked
+abbrev pub onObject : ℕ → Names → ObjSlot → ℕ → Asked
 onObject n m o w = asks n m (task 0) o 0 0 1 0 w
 
 -- an argument put into its field
 abbrev pub put : Asked → Argument → Asked
-put a (aTask t) = asks (a .number) ATask t (a .object) (a .priority) (a .ticks) (a .capacity) (a .size) (a .wait)
-put a (anObject o) = asks (a .number) AnObject (a .task) o (a .priority) (a .ticks) (a .capacity) (a .size) (a .wait)
-put a (aQueue o) = asks (a .number) AQueue (a .task) o (a .priority) (a .ticks) (a .capacity) (a .size) (a .wait)
-put a (aMutex o) = asks (a .number) AMutex (a .task) o (a .priority) (a .ticks) (a .capacity) (a .size) (a .wait)
+put a (aTask t) = asks (a .number) ATask (taskSlot t) (a .object) (a .priority) (a .ticks) (a .capacity) (a .size) (a .wait)
+put a (anObject o) = asks (a .number) AnObject (a .task) (objSlot o) (a .priority) (a .ticks) (a .capacity) (a .size) (a .wait)
+put a (aQueue o) = asks (a .number) AQueue (a .task) (objSlot o) (a .priority) (a .ticks) (a .capacity) (a .size) (a .wait)
+put a (aMutex o) = asks (a .number) AMutex (a .task) (objSlot o) (a .priority) (a .ticks) (a .capacity) (a .size) (a .wait)
 put a (priority p) = asks (a .number) (a .names) (a .task) (a .object) p (a .ticks) (a .capacity) (a .size) (a .wait)
 put a (ticks n) = asks (a .number) (a .names) (a .task) (a .object) (a .priority) n (a .capacity) (a .size) (a .wait)
 put a (capacity c) = asks (a .number) (a .names) (a .task) (a .object) (a .priority) (a .ticks) c (a .size) (a .wait)

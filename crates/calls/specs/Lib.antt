@@ -1,5 +1,6 @@
 pub mod Types
 pub mod Numbers
+pub mod Door
 pub mod Table
 pub mod Asked
 pub mod Said

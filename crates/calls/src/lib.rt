@@ -1,6 +1,10 @@
 // What is asked of the kernel, and what it answers: two kinds of number, the 17 calls, the four answers.
-mod numbers;
+mod door;
+mod named;
 mod table;
+
+use numbers::ObjSlot;
+use numbers::TaskSlot;
 
 // A task number and an object number are two types, so that neither can stand for the other.
 pub struct TaskNo(pub u32);
@@ -44,12 +48,12 @@ pub enum Names {
     Mutex,
 }
 
-// A call's number and arguments, each in its own field; an argument that the call does not have stands at a value that is never turned away.
+// A call behind the door: its number and arguments, each in its own field, and slots where the caller wrote numbers. An argument that the call does not have stands at a value that is never turned away.
 pub struct Asked {
     pub number: u32,
     pub names: Names,
-    pub task: TaskNo,
-    pub object: ObjNo,
+    pub task: TaskSlot,
+    pub object: ObjSlot,
     pub priority: u32,
     pub ticks: u32,
     pub capacity: u32,

@@ -1,11 +1,14 @@
-// A call's number and arguments in one row.
+// A call behind the door, in one row.
 ghost use mathlib.Core.Path.{_≡_};
+ghost use Rattle.calls.specs.Door.{taskSlot, objSlot};
 ghost use Rattle.calls.specs.Asked.{asked, nothing, onTask, onObject};
 use crate::Asked;
 use crate::Call;
 use crate::Names;
 use crate::ObjNo;
 use crate::TaskNo;
+use numbers::ObjSlot;
+use numbers::TaskSlot;
 
 impl Asked {
     // A call that names nothing.
@@ -15,8 +18,8 @@ impl Asked {
         Asked {
             number,
             names: Names::Nothing,
-            task: TaskNo(0),
-            object: ObjNo(0),
+            task: TaskSlot(0),
+            object: ObjSlot(0),
             priority,
             ticks,
             capacity,
@@ -25,14 +28,14 @@ impl Asked {
         }
     }
 
-    pub fn on_task(number: u32, task: TaskNo, priority: u32) -> Asked
-        ensures { λ r. ⌜ r ≡ onTask number task priority ⌝ }
+    pub fn on_task(number: u32, t: TaskNo, priority: u32) -> Asked
+        ensures { λ r. ⌜ r ≡ onTask number (taskSlot t) priority ⌝ }
     {
         Asked {
             number,
             names: Names::Task,
-            task,
-            object: ObjNo(0),
+            task: t.slot(),
+            object: ObjSlot(0),
             priority,
             ticks: 0,
             capacity: 1,
@@ -41,14 +44,14 @@ impl Asked {
         }
     }
 
-    pub fn on_object(number: u32, names: Names, object: ObjNo, wait: u32) -> Asked
-        ensures { λ r. ⌜ r ≡ onObject number names object wait ⌝ }
+    pub fn on_object(number: u32, names: Names, o: ObjNo, wait: u32) -> Asked
+        ensures { λ r. ⌜ r ≡ onObject number names (objSlot o) wait ⌝ }
     {
         Asked {
             number,
             names,
-            task: TaskNo(0),
-            object,
+            task: TaskSlot(0),
+            object: o.slot(),
             priority: 0,
             ticks: 0,
             capacity: 1,

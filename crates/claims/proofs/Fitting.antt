@@ -18,7 +18,7 @@ use Rattle.journal.proofs.Promised.{reads-as}
 use Rattle.journal.proofs.Theorems.{read-is, no-second-call, no-second-answer}
 use Rattle.kernel.specs.Tables.{taskAt}
 use Rattle.kernel.specs.Lines.{chosen}
-use Rattle.kernel.specs.Asking.{makes, newNumber}
+use Rattle.kernel.specs.Asking.{makes, newSlot}
 use Rattle.kernel.specs.Refusals.{refusal}
 use Rattle.kernel.specs.Effects.{effect}
 use Rattle.kernel.specs.Step.{answered, accepted, turnedAway, step}
@@ -38,8 +38,8 @@ accepted-answer : (k : Kernel) (a : Asked) (next : Kernel) → Answered (answere
 unfolding answered
 accepted-answer k a next = go (makes a) (isBlocked (taskAt (next .tasks) (k .running) .place))
   where
-    go : (b c : Bool) → Answered (if b then says made (newNumber k a) else if c then says waiting 0 else says done 0)
-    go true c = record { answer = Made (newNumber k a); says-it = refl }
+    go : (b c : Bool) → Answered (if b then says made (newSlot k a) else if c then says waiting 0 else says done 0)
+    go true c = record { answer = Made (newSlot k a); says-it = refl }
     go false true = record { answer = Waiting; says-it = refl }
     go false false = record { answer = Done; says-it = refl }
 

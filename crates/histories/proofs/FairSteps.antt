@@ -15,7 +15,7 @@ use Rattle.kernel.specs.Tables.{taskAt}
 use Rattle.kernel.specs.Lines.{first, runsIf, chosen, toTail}
 use Rattle.kernel.specs.Sound.{sound}
 use Rattle.kernel.specs.Sentences.{Sound}
-use Rattle.kernel.specs.Asking.{is, makes, newNumber}
+use Rattle.kernel.specs.Asking.{is, makes, newSlot}
 use Rattle.kernel.specs.Refusals.{namesNone, laterRow, refusal}
 use Rattle.kernel.specs.Ticks.{held}
 use Rattle.kernel.specs.Effects.{resumed, yielded, queueMade, mutexMade, removed, effect}
@@ -80,7 +80,7 @@ answered-accepts : (k : Kernel) (c : Call) (j : Kernel) → isRefusal (answered 
 unfolding answered
 answered-accepts k c j = go (makes (asked c)) (isBlocked (taskAt (j .tasks) (k .running) .place))
   where
-    go : (x z : Bool) → isRefusal ((if x then says made (newNumber k (asked c)) else if z then says waiting 0 else says done 0) .word) ≡ false
+    go : (x z : Bool) → isRefusal ((if x then says made (newSlot k (asked c)) else if z then says waiting 0 else says done 0) .word) ≡ false
     go true z = refl
     go false true = refl
     go false false = refl

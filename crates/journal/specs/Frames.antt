@@ -6,7 +6,7 @@ use mathlib.Core.List.{List, [], _∷_, _++_, map}
 use lib.ListN.{length, getD, take, drop}
 use lib.Seq.{sets}
 use Rattle.lists.specs.Lists.{any, index}
-use Rattle.calls.specs.Numbers.{task, object}
+use Rattle.calls.specs.Numbers.{taskOf, objectOf}
 use Rattle.calls.specs.Table.{called}
 use Rattle.fields.specs.Decimal.{dec}
 use Rattle.fields.specs.Hex.{hex}
@@ -18,21 +18,21 @@ use Rattle.journal.specs.Line.{Field, number, bytes, isBytes, fieldsOf}
 abbrev pub calls : ℕ → ℕ → List Call
 calls a b =
     Create a
-    ∷ Delete (task a)
-    ∷ Suspend (task a)
-    ∷ Resume (task a)
-    ∷ SetPriority (task a) b
+    ∷ Delete (taskOf a)
+    ∷ Suspend (taskOf a)
+    ∷ Resume (taskOf a)
+    ∷ SetPriority (taskOf a) b
     ∷ Delay a
     ∷ Yield
     ∷ Hold
     ∷ Release
     ∷ MakeQueue a b
     ∷ MakeMutex
-    ∷ Remove (object a)
-    ∷ Send (object a) b
-    ∷ Receive (object a) b
-    ∷ Take (object a) b
-    ∷ Give (object a)
+    ∷ Remove (objectOf a)
+    ∷ Send (objectOf a) b
+    ∷ Receive (objectOf a) b
+    ∷ Take (objectOf a) b
+    ∷ Give (objectOf a)
     ∷ Tick
     ∷ []
 

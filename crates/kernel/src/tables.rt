@@ -1,7 +1,7 @@
 // The fresh kernel, the slots of the two tables, and a kernel with one part changed.
 ghost use mathlib.Core.Path.{_≡_};
 ghost use Rattle.kernel.specs.Tables.{fresh, taskAt, kindAt, holds, freeSlot, freeObject, withTask, withObject, withOrder, withTick, withHold};
-ghost use Rattle.kernel.specs.Asking.{newNumber};
+ghost use Rattle.kernel.specs.Asking.{newSlot};
 use crate::Kernel;
 use crate::asking;
 use calls::Asked;
@@ -146,7 +146,7 @@ impl Kernel {
 
     // The number that a create or make gives; 16 where no slot is free.
     pub(crate) fn new_number(self, a: Asked) -> u32
-        ensures { λ r. ⌜ r ≡ newNumber self a ⌝ }
+        ensures { λ r. ⌜ r ≡ newSlot self a ⌝ }
     {
         if asking::is(a, 1) {
             self.free_slot()

@@ -16,7 +16,7 @@ use Rattle.kernel.specs.declared.Step.{Step}
 use Rattle.kernel.specs.Tables.{taskAt}
 use Rattle.kernel.specs.Lines.{chosen}
 use Rattle.kernel.specs.Sound.{sound}
-use Rattle.kernel.specs.Asking.{makes, newNumber}
+use Rattle.kernel.specs.Asking.{makes, newSlot}
 use Rattle.kernel.specs.Refusals.{Row, row, firstRow, table, laterRow, refusal}
 use Rattle.kernel.specs.Effects.{effect}
 use Rattle.kernel.specs.Step.{answered, accepted, turnedAway, step}
@@ -83,7 +83,7 @@ pub not-refused : (k : Kernel) (a : Asked) (next : Kernel) (n : ℕ) → answere
 unfolding answered
 not-refused k a next n = go (makes a) (isBlocked (taskAt (next .tasks) (k .running) .place))
   where
-    go : (b c : Bool) → (if b then says made (newNumber k a) else if c then says waiting 0 else says done 0) ≡ says refused n → ⊥
+    go : (b c : Bool) → (if b then says made (newSlot k a) else if c then says waiting 0 else says done 0) ≡ says refused n → ⊥
     go true c e = let w : made ≡ refused = ap (λ (x : Saying). x .word) e in let z : _≡_ {A = ℕ} 0 1 = cc in omega arith
     go false true e = let w : waiting ≡ refused = ap (λ (x : Saying). x .word) e in let z : _≡_ {A = ℕ} 0 1 = cc in omega arith
     go false false e = let w : done ≡ refused = ap (λ (x : Saying). x .word) e in let z : _≡_ {A = ℕ} 0 1 = cc in omega arith

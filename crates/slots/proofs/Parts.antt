@@ -3,32 +3,32 @@ use Prim.Native.Nat.{ℕ}
 use mathlib.Core.Path.{_≡_}
 use mathlib.Core.Bool.{Bool, true}
 use Rattle.lists.proofs.Bools.{and-left, and-right, and-intro}
-use Rattle.calls.specs.declared.TaskNo.{TaskNo}
+use Rattle.numbers.specs.declared.TaskSlot.{TaskSlot}
 use Rattle.slots.specs.Types.{Place, Task, Kind}
-use Rattle.slots.specs.Fine.{standsFine, ordersFine, waitsFine, prioritiesFine, holderIn, notDue, ringInRange, outcomeFine, freshIfFree, taskFine, kindFine}
+use Rattle.slots.specs.Fine.{standsFine, ordersFine, waitsOnFine, prioritiesFine, holderIn, notDue, ringInRange, outcomeFine, freshIfFree, taskFine, kindFine}
 
-pub record TaskParts (tick : ℕ) (t : TaskNo) (n : ℕ) (o : Kind) (holds : Bool) (x : Task) : Type 0 where
+pub record TaskParts (tick : ℕ) (t : TaskSlot) (n : ℕ) (o : Kind) (holds : Bool) (x : Task) : Type 0 where
   pub stands : standsFine n (x .place) ≡ true
   pub orders : ordersFine n (x .place) ≡ true
-  pub waits : waitsFine t o (x .place) ≡ true
+  pub waits : waitsOnFine t o (x .place) ≡ true
   pub priorities : prioritiesFine holds x ≡ true
   pub due : notDue tick (x .place) ≡ true
   pub outcome : outcomeFine x ≡ true
   pub free : freshIfFree x ≡ true
 
-module _ (tick : ℕ) (t : TaskNo) (n : ℕ) (o : Kind) (holds : Bool) (x : Task) where
+module _ (tick : ℕ) (t : TaskSlot) (n : ℕ) (o : Kind) (holds : Bool) (x : Task) where
   pub task-parts : taskFine tick t n o holds x ≡ true → TaskParts tick t n o holds x
   unfolding taskFine
   task-parts e =
       let e₁ = and-right (standsFine n (x .place)) _ e in
       let e₂ = and-right (ordersFine n (x .place)) _ e₁ in
-      let e₃ = and-right (waitsFine t o (x .place)) _ e₂ in
+      let e₃ = and-right (waitsOnFine t o (x .place)) _ e₂ in
       let e₄ = and-right (prioritiesFine holds x) _ e₃ in
       let e₅ = and-right (notDue tick (x .place)) _ e₄ in
       record {
         stands = and-left (standsFine n (x .place)) _ e;
         orders = and-left (ordersFine n (x .place)) _ e₁;
-        waits = and-left (waitsFine t o (x .place)) _ e₂;
+        waits = and-left (waitsOnFine t o (x .place)) _ e₂;
         priorities = and-left (prioritiesFine holds x) _ e₃;
         due = and-left (notDue tick (x .place)) _ e₄;
         outcome = and-left (outcomeFine x) _ e₅;

@@ -1,11 +1,13 @@
 -- The sentences of soundness that speak of one slot, in document 01's order.
 use Prim.Native.Nat.{ℕ, _*_}
 use mathlib.Core.Bool.{Bool, true, false, not, _&&_, _||_}
+use mathlib.Core.List.{List}
 use lib.Dec.{eqb, ltb, leb}
-use Rattle.calls.specs.declared.TaskNo.{TaskNo}
-use Rattle.slots.specs.Types.{Wake, Never, At, Place, Free, Ready, Delayed, Waiting, Suspended, Task, Ring, Nobody, By, Kind, Unused, Queue, Mutex}
+use Rattle.numbers.specs.declared.TaskSlot.{TaskSlot}
+use Rattle.slots.specs.Types.{Wake, Never, At, Place, Free, Ready, Delayed, Waiting, Suspended, Task, Ring, Nobody, By, Kind, Unused, Queue, Mutex, Object}
 use Rattle.slots.specs.Places.{isFree, isReady, isBlocked, wakesAt}
-use Rattle.slots.specs.Objects.{isBy, isTaken}
+use Rattle.slots.specs.Tasks.{taskAt}
+use Rattle.slots.specs.Objects.{kindAt, isBy, isTaken}
 
 -- idle is "always there, always ready, priority 0"
 abbrev pub idleFine : Task → Bool
@@ -20,23 +22,38 @@ standsFine n (Waiting o w) = eqb n 1
 standsFine n Suspended = true
 
 -- "receivers wait only on an empty queue, senders only on a full one, takers only on a mutex held by another"
-abbrev pub mayWait : TaskNo → Kind → Bool
+abbrev pub mayWait : TaskSlot → Kind → Bool
 mayWait t Unused = false
 mayWait t (Queue q) = eqb (q .count) 0 || eqb (q .count) (q .capacity)
 mayWait t (Mutex h) = isTaken h && not (isBy t h)
 
-abbrev pub waitsFine : TaskNo → Kind → Place → Bool
-waitsFine t x Free = true
-waitsFine t x Ready = true
-waitsFine t x (Delayed w) = true
-waitsFine t x (Waiting o w) = mayWait t x
-waitsFine t x Suspended = true
+abbrev pub waitsFine : TaskSlot → List Object → Place → Bool
+waitsFine t os Free = true
+waitsFine t os Ready = true
+waitsFine t os (Delayed w) = true
+waitsFine t os (Waiting o w) = mayWait t (kindAt os o)
+waitsFine t os Suspended = true
+
+-- the same as the code tests it: x is the kind of the object that it waits on
+abbrev pub waitsOnFine : TaskSlot → Kind → Place → Bool
+waitsOnFine t x Free = true
+waitsOnFine t x Ready = true
+waitsOnFine t x (Delayed w) = true
+waitsOnFine t x (Waiting o w) = mayWait t x
+waitsOnFine t x Suspended = true
 
 -- "effective is at least own, and equal to it for a task that holds nothing"; "Priorities 0 to 31"
 abbrev pub prioritiesFine : Bool → Task → Bool
 prioritiesFine holds x = leb (x .own) (x .effective) && (leb (x .effective) 31 && (holds || eqb (x .own) (x .effective)))
 
--- "holders exist": p is where the holder stands
+-- "holders exist"
+abbrev pub holderThere : List Task → Kind → Bool
+holderThere ts Unused = true
+holderThere ts (Queue q) = true
+holderThere ts (Mutex Nobody) = true
+holderThere ts (Mutex (By t)) = not (isFree (taskAt ts t .place))
+
+-- the same as the code tests it: p is where the holder stands
 abbrev pub holderIn : Place → Kind → Bool
 holderIn p Unused = true
 holderIn p (Queue q) = true
@@ -87,11 +104,11 @@ ordersFine n (Waiting o w) = true
 ordersFine n Suspended = eqb n 0
 
 -- all that is asked of the task t, x: it stands n times in the order, waits on an object of the kind o if it waits, and holds a mutex or not
-unfoldable pub taskFine : ℕ → TaskNo → ℕ → Kind → Bool → Task → Bool
+unfoldable pub taskFine : ℕ → TaskSlot → ℕ → Kind → Bool → Task → Bool
 taskFine tick t n o holds x =
     standsFine n (x .place)
     && (ordersFine n (x .place)
-    && (waitsFine t o (x .place)
+    && (waitsOnFine t o (x .place)
     && (prioritiesFine holds x
     && (notDue tick (x .place)
     && (outcomeFine x

@@ -1,15 +1,20 @@
 -- "16 object slots, each free, a queue or a mutex."
 use mathlib.Core.Bool.{Bool, true, false}
 use mathlib.Core.List.{List}
-use lib.ListN.{set, replicate}
+use lib.ListN.{getD, set, replicate}
 use Rattle.lists.specs.Lists.{foldl}
-use Rattle.calls.specs.declared.TaskNo.{TaskNo}
-use Rattle.calls.specs.Numbers.{task, sameTask}
+use Rattle.numbers.specs.declared.TaskSlot.{TaskSlot}
+use Rattle.numbers.specs.declared.ObjSlot.{ObjSlot}
+use Rattle.numbers.specs.Numbers.{task, sameTask}
 use Rattle.slots.specs.Types.{Holder, Nobody, By, Kind, Unused, Queue, Mutex, Object}
 
 -- a free slot
 abbrev pub unused : Object
 unused = record { kind = Unused }
+
+-- "16 object slots, 0 to 15": a number past them names a free slot
+unfoldable pub kindAt : List Object → ObjSlot → Kind
+kindAt os o = getD os (o .0) unused .kind
 
 abbrev pub isUnused : Kind → Bool
 isUnused Unused = true
@@ -26,7 +31,7 @@ isMutex Unused = false
 isMutex (Queue q) = false
 isMutex (Mutex h) = true
 
-abbrev pub isBy : TaskNo → Holder → Bool
+abbrev pub isBy : TaskSlot → Holder → Bool
 isBy t Nobody = false
 isBy t (By u) = sameTask u t
 
@@ -35,7 +40,7 @@ isTaken Nobody = false
 isTaken (By u) = true
 
 -- a mutex that t holds; a mutex that someone holds
-abbrev pub heldBy : TaskNo → Kind → Bool
+abbrev pub heldBy : TaskSlot → Kind → Bool
 heldBy t Unused = false
 heldBy t (Queue q) = false
 heldBy t (Mutex h) = isBy t h
@@ -46,11 +51,11 @@ isHeld (Queue q) = false
 isHeld (Mutex h) = isTaken h
 
 -- the task that holds it; a number past the table where nobody does
-abbrev pub byWhom : Holder → TaskNo
+abbrev pub byWhom : Holder → TaskSlot
 byWhom Nobody = task 16
 byWhom (By t) = t
 
-abbrev pub holderOf : Kind → TaskNo
+abbrev pub holderOf : Kind → TaskSlot
 holderOf Unused = task 16
 holderOf (Queue q) = task 16
 holderOf (Mutex h) = byWhom h

@@ -3,7 +3,7 @@ ghost use mathlib.Core.Path.{_≡_};
 ghost use Rattle.slots.specs.Places.{isFree, isReady, isSuspended, isBlocked, isListed, waitsOn, waited, isAt, wakesAt, outcomeDue, ahead, wakeAway, away};
 use crate::Place;
 use crate::Wake;
-use calls::ObjNo;
+use numbers::ObjSlot;
 
 // How many ticks come before the one that makes the count `w`, from `now` on. A smaller `w` is not past: the count wraps before it comes.
 fn ahead(now: u32, w: u32) -> u32
@@ -89,7 +89,7 @@ impl Place {
         lists::either(self.is_ready(), self.is_blocked())
     }
 
-    pub fn waits_on(self, o: ObjNo) -> bool
+    pub fn waits_on(self, o: ObjSlot) -> bool
         ensures { λ r. ⌜ r ≡ waitsOn o self ⌝ }
     {
         match self {
@@ -102,15 +102,15 @@ impl Place {
     }
 
     // The object that it waits on; a number past the table where it waits on none.
-    pub fn waited(self) -> ObjNo
+    pub fn waited(self) -> ObjSlot
         ensures { λ r. ⌜ r ≡ waited self ⌝ }
     {
         match self {
-            Place::Free => ObjNo::of(16),
-            Place::Ready => ObjNo::of(16),
-            Place::Delayed(_) => ObjNo::of(16),
+            Place::Free => ObjSlot::of(16),
+            Place::Ready => ObjSlot::of(16),
+            Place::Delayed(_) => ObjSlot::of(16),
             Place::Waiting(o, _) => o,
-            Place::Suspended => ObjNo::of(16),
+            Place::Suspended => ObjSlot::of(16),
         }
     }
 

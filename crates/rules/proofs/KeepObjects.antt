@@ -1,0 +1,168 @@
+-- Calls 10 to 12 and 15 keep soundness: make queue, make mutex, remove, take. What they share with send, receive and give.
+use Prim.Native.Nat.{ℕ, _*_, _<_, _≤_}
+use mathlib.Core.Path.{_≡_, refl, sym, ap, _∙_, subst}
+use mathlib.Core.Bool.{Bool, true, false, false≢true}
+use mathlib.Core.List.{List, [], _∷_}
+use native.Mathlib.Omega.{arith}
+use lib.Dec.{eqb, ltb, leb}
+use lib.ListN.{length}
+use borrow.Author.Tests.{eqb-false, eq-eqb, ltb-true, ltb-false, leb-false}
+use Rattle.lists.specs.Lists.{isNone}
+use Rattle.lists.proofs.Bools.{on, or-off}
+use Rattle.numbers.specs.Numbers.{object, idle}
+use Rattle.calls.specs.Asked.{nothing, onObject}
+use Rattle.order.specs.Order.{listed}
+use Rattle.order.specs.Tidy.{count}
+use Rattle.slots.specs.Objects.{unused, isUnused, isMutex, isHeld, kindAt}
+use Rattle.rules.specs.Types.{TaskSlot, ObjSlot, Wake, Never, At, Waiting, Ring, Nobody, By, Kind, Unused, Queue, Mutex, Object, WaitersOf, State, AnObject}
+use Rattle.slots.specs.Tasks.{taskAt}
+use Rattle.rules.specs.Tables.{freeObject, withObject}
+use Rattle.rules.specs.Lines.{those, first}
+use Rattle.rules.specs.Sentences.{MayWait, receiver, sender, taker, RingFits, Sound}
+use Rattle.rules.specs.Asking.{waits}
+use Rattle.rules.specs.Refusals.{outOfRange, namesNone, noSlot, heldOrWaited, inUse}
+use Rattle.rules.specs.Waits.{later, wakeOf}
+use Rattle.rules.specs.Effects.{queueMade, mutexMade, removed, effect}
+use Rattle.rules.proofs.Slots.{past-objects}
+use Rattle.rules.proofs.Leads.{leader-none}
+use Rattle.rules.proofs.Passes.{Passed}
+use Rattle.rules.proofs.Listings.{list-once}
+use Rattle.rules.proofs.Nearly.{Owing, settled, Nearly, Runs}
+use Rattle.rules.proofs.Objected.{object-nearly}
+use Rattle.rules.proofs.Chosen.{sound-nearly, sound-runs}
+use Rattle.rules.proofs.Keeps.{Keeps, index-most, index-passes}
+use Rattle.rules.proofs.KeepTasks.{later-ahead}
+
+-- ── what nobody waits on or holds
+pub no-wait : {t : TaskSlot} {x : Kind} → MayWait t x → x ≡ Unused → ⊥
+no-wait (receiver e) q = let z : _≡_ {A = ℕ} 0 1 = cc in omega arith
+no-wait (sender e) q = let z : _≡_ {A = ℕ} 0 1 = cc in omega arith
+no-wait (taker n) q = let z : _≡_ {A = ℕ} 0 1 = cc in omega arith
+
+pub no-wait-free : {t : TaskSlot} {x : Kind} → MayWait t x → x ≡ Mutex Nobody → ⊥
+no-wait-free (receiver e) q = let z : _≡_ {A = ℕ} 0 1 = cc in omega arith
+no-wait-free (sender e) q = let z : _≡_ {A = ℕ} 0 1 = cc in omega arith
+no-wait-free (taker n) q = let z : _≡_ {A = ℕ} 0 1 = cc in omega arith
+
+is-unused : (x : Kind) → isUnused x ≡ true → x ≡ Unused
+is-unused Unused e = refl
+is-unused (Queue q) e = absurd (false≢true e)
+is-unused (Mutex h) e = absurd (false≢true e)
+
+pub not-by : {x : Kind} {t : TaskSlot} → isMutex x ≡ false → x ≡ Mutex (By t) → ⊥
+not-by a e = false≢true (sym a ∙ ap isMutex e)
+
+pub object-low : (os : List Object) (o : ObjSlot) → length os ≡ 16 → isUnused (kindAt os o) ≡ false → o .0 < 16
+object-low os o l e = go (ltb (o .0) 16) refl
+  where
+    go : (b : Bool) → ltb (o .0) 16 ≡ b → o .0 < 16
+    go true q = ltb-true (o .0) 16 q
+    go false q = let past : length os ≤ o .0 = omega (arith, ltb-false (o .0) 16 q) in absurd (false≢true (sym e ∙ ap isUnused (past-objects os o past)))
+
+pub object-runs : (k : State) (o : ObjSlot) (y : Kind) → Runs k → Runs (withObject k o y)
+object-runs k o y R = record { runs = R .runs; heads = R .heads }
+
+-- nobody waits on an object that lists nobody
+none-there : (l : List TaskSlot) (n : ℕ) → isNone l ≡ true → count n l ≡ 1 → ⊥
+unfolding count
+none-there [] n e c = omega arith
+none-there (t ∷ l) n e c = false≢true e
+
+pub nobody-waits : {w : Owing} (k : State) → Nearly w k → (o : ObjSlot) → isNone (those (k .tasks) (WaitersOf o) (listed (k .order))) ≡ true → (t : TaskSlot) (v : Wake) → taskAt (k .tasks) t .place ≡ Waiting o v → ⊥
+nobody-waits k N o e t v q = none-there (those (k .tasks) (WaitersOf o) (listed (k .order))) (t .0) e (list-once k (N .listing) o t ∙ rw (q, eq-eqb (o .0) (o .0) refl))
+
+pub first-none : {w : Owing} (k : State) → Nearly w k → (o : ObjSlot) → first k (WaitersOf o) ≡ [] → (t : TaskSlot) (v : Wake) → taskAt (k .tasks) t .place ≡ Waiting o v → ⊥
+unfolding first
+first-none k N o e t v q = nobody-waits k N o (sym (leader-none (k .tasks) (those (k .tasks) (WaitersOf o) (listed (k .order)))) ∙ ap isNone e) t v q
+
+-- ── the caller waits: its wake tick is ahead
+pub wake-ahead : (tick w : ℕ) (o : ObjSlot) → tick ≤ 4294967295 → 0 < w → settled tick .due idle (Waiting o (wakeOf tick w)) ≡ true
+wake-ahead tick w o h s = go (leb 4294967295 w) refl
+  where
+    go : (b : Bool) → leb 4294967295 w ≡ b → settled tick .due idle (Waiting o (if b then Never else At (later tick w))) ≡ true
+    go true e = refl
+    go false e = later-ahead tick w h s (omega (arith, leb-false 4294967295 w e))
+
+module _ (k : State) (S : Sound k) (store : ℕ) where
+  N : Nearly (settled (k .tick)) k
+  N = sound-nearly k S
+
+  R : Runs k
+  R = sound-runs k S
+
+  -- an object that was free becomes one that nobody holds
+  new-object : (o : ObjSlot) (y : Kind) → o .0 < 16 → kindAt (k .objects) o ≡ Unused → ((q : Ring) → y ≡ Queue q → RingFits q) → ((t : TaskSlot) → y ≡ Mutex (By t) → ⊥) → Keeps (withObject k o y)
+  new-object o y low e Q H =
+      record {
+        nearly = object-nearly k N o y low (λ t v p. absurd (no-wait (S .waits t o v p) e)) Q (λ t q. absurd (H t q)) (λ t h a n. absurd (let z : _≡_ {A = ℕ} 0 1 = cc in omega arith));
+        runs = λ h. object-runs k o y R;
+      }
+
+  free-low : eqb (freeObject (k .objects)) 16 ≡ false → freeObject (k .objects) < 16
+  unfolding freeObject
+  free-low e = omega (arith, index-most (λ (x : Object). isUnused (x .kind)) unused (k .objects), eqb-false (freeObject (k .objects)) 16 e, S .object-slots)
+
+  free-kind : freeObject (k .objects) < 16 → kindAt (k .objects) (object (freeObject (k .objects))) ≡ Unused
+  unfolding freeObject kindAt
+  free-kind h = is-unused _ (index-passes (λ (x : Object). isUnused (x .kind)) unused (k .objects) (omega (arith, S .object-slots)))
+
+  -- 10: make queue
+  module _ (c z : ℕ) (P : Passed k (nothing 10 0 0 c z) store) where
+    abbrev ring : Ring
+    ring = record { capacity = c; size = z; first = 0; count = 0 }
+
+    fits : RingFits ring
+    unfolding outOfRange
+    fits =
+        let a = or-off (ltb c 1) _ (P .in-range) in
+        let b = or-off (ltb 64 c) _ (a .1) in
+        let d = or-off (ltb 64 z) _ (b .1) in
+        record {
+          some = ltb-false c 1 (a .0);
+          few = ltb-false 64 c (b .0);
+          small = ltb-false 64 z (d .0);
+          whole = ltb-false 512 (c * z) (d .1);
+          starts = omega (arith, ltb-false c 1 (a .0));
+          counts = omega arith;
+        }
+
+    has-room : freeObject (k .objects) < 16
+    unfolding noSlot
+    has-room = free-low (P .slot)
+
+    pub queue-keeps : Keeps (effect k (nothing 10 0 0 c z))
+    unfolding effect queueMade
+    queue-keeps = new-object (object (freeObject (k .objects))) (Queue ring) has-room (free-kind has-room) (λ q e. let y : ring ≡ q = cc in subst RingFits y fits) (λ t. not-by refl)
+
+  -- 11: make mutex
+  module _ (P : Passed k (nothing 11 0 0 1 0) store) where
+    room-for-mutex : freeObject (k .objects) < 16
+    unfolding noSlot
+    room-for-mutex = free-low (P .slot)
+
+    pub mutex-keeps : Keeps (effect k (nothing 11 0 0 1 0))
+    unfolding effect mutexMade
+    mutex-keeps = new-object (object (freeObject (k .objects))) (Mutex Nobody) room-for-mutex (free-kind room-for-mutex) (λ q e. absurd (let z : _≡_ {A = ℕ} 0 1 = cc in omega arith)) (λ t e. let z : _≡_ {A = ℕ} 0 1 = cc in omega arith)
+
+  -- 12: remove
+  module _ (o : ObjSlot) (P : Passed k (onObject 12 AnObject o 0) store) where
+    named : isUnused (kindAt (k .objects) o) ≡ false
+    unfolding namesNone
+    named = P .named
+
+    unheld : isHeld (kindAt (k .objects) o) ≡ false
+    unfolding inUse heldOrWaited
+    unheld = or-off (isHeld (kindAt (k .objects) o)) _ (P .unused) .0
+
+    unwaited : isNone (those (k .tasks) (WaitersOf o) (listed (k .order))) ≡ true
+    unfolding inUse heldOrWaited
+    unwaited = on _ (or-off (isHeld (kindAt (k .objects) o)) _ (P .unused) .1)
+
+    pub remove-keeps : Keeps (effect k (onObject 12 AnObject o 0))
+    unfolding effect removed
+    remove-keeps =
+        record {
+          nearly = object-nearly k N o Unused (object-low (k .objects) o (S .object-slots) named) (λ t v p. absurd (nobody-waits k N o unwaited t v p)) (λ q e. absurd (let z : _≡_ {A = ℕ} 0 1 = cc in omega arith))
+              (λ t e. absurd (let z : _≡_ {A = ℕ} 0 1 = cc in omega arith)) (λ t h a n. absurd (false≢true (sym unheld ∙ ap isHeld h)));
+          runs = λ h. object-runs k o Unused R;
+        }

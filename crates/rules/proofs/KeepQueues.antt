@@ -1,0 +1,190 @@
+-- Send and receive keep soundness.
+use Prim.Native.Nat.{ℕ, _<_}
+use mathlib.Core.Path.{_≡_, refl, sym, ap, subst}
+use mathlib.Core.Bool.{Bool, true, false, not, false≢true}
+use mathlib.Core.List.{List, [], _∷_}
+use native.Mathlib.Omega.{arith}
+use lib.Dec.{eqb, ltb}
+use borrow.Author.Tests.{eqb-true, eqb-false, eq-eqb, ne-eqb, ltb-true, ltb-false}
+use Rattle.lists.proofs.Bools.{on, not-off}
+use Rattle.calls.specs.Asked.{onObject}
+use Rattle.slots.specs.Places.{waitsOn}
+use Rattle.slots.specs.Objects.{isUnused, isQueue, isMutex, kindAt}
+use Rattle.rules.specs.Types.{TaskSlot, ObjSlot, Wake, Place, Free, Ready, Delayed, Waiting, Suspended, Ring, Kind, Unused, Queue, Mutex, WaitersOf, toWaiter, toQueue, toCaller, Send, State, AQueue}
+use Rattle.slots.specs.Tasks.{taskAt}
+use Rattle.rules.specs.Tables.{withObject}
+use Rattle.rules.specs.Lines.{first, toTail}
+use Rattle.rules.specs.Sentences.{MayWait, receiver, sender, taker, RingFits, Sound}
+use Rattle.rules.specs.Refusals.{namesNone}
+use Rattle.rules.specs.Waits.{wakeOf, readied, blocked, waitFor}
+use Rattle.rules.specs.Items.{oneMore, oneLess, roomOr, outletFor, outlet, sentBy, sent, sentTo, refilledBy, received, receivedFrom}
+use Rattle.rules.specs.Effects.{effect}
+use Rattle.rules.proofs.Passes.{Passed}
+use Rattle.rules.proofs.Within.{less-fits, first-meant, first-within, first-single}
+use Rattle.rules.proofs.Nearly.{settled, Nearly, Runs}
+use Rattle.rules.proofs.Objected.{object-nearly}
+use Rattle.rules.proofs.Chosen.{sound-nearly, sound-runs}
+use Rattle.rules.proofs.Blocks.{readied-nearly, readied-runs, blocked-nearly}
+use Rattle.rules.proofs.Keeps.{Keeps, wait-busy, wait-free, must-wait, some-wait, ready-low, apart}
+use Rattle.rules.proofs.KeepObjects.{not-by, object-low, object-runs, first-none, wake-ahead}
+
+-- who waits on a queue finds it empty or full
+empty-or-full : {t : TaskSlot} {x : Kind} → MayWait t x → (q : Ring) → x ≡ Queue q → (0 < q .count) → q .count ≡ q .capacity
+empty-or-full (receiver {q = r} e) q p h = let z : r ≡ q = cc in absurd (omega (arith, e, ap (λ (y : Ring). y .count) z))
+empty-or-full (sender {q = r} e) q p h = let z : r ≡ q = cc in subst (λ (y : Ring). y .count ≡ y .capacity) z e
+empty-or-full (taker n) q p h = absurd (let z : _≡_ {A = ℕ} 0 1 = cc in omega arith)
+
+waiting-as : (o : ObjSlot) (p : Place) → waitsOn o p ≡ true → (A : Type 0) → ((v : Wake) → p ≡ Waiting o v → A) → A
+waiting-as o Free e A f = absurd (false≢true e)
+waiting-as o Ready e A f = absurd (false≢true e)
+waiting-as o (Delayed w) e A f = absurd (false≢true e)
+waiting-as o (Waiting q w) e A f = f w (λ i. Waiting (record { 0 = eqb-true (q .0) (o .0) e i }) w)
+waiting-as o Suspended e A f = absurd (false≢true e)
+
+module _ (k : State) (S : Sound k) (o : ObjSlot) (q : Ring) (kind : kindAt (k .objects) o ≡ Queue q) where
+  N : Nearly (settled (k .tick)) k
+  N = sound-nearly k S
+
+  R : Runs k
+  R = sound-runs k S
+
+  low : o .0 < 16
+  low = object-low (k .objects) o (S .object-slots) (ap isUnused kind)
+
+  caller-low : k .running .0 < 16
+  caller-low = ready-low (k .tasks) (k .running) (S .task-slots) (S .runs)
+
+  ring : RingFits q
+  ring = S .queue-range o q kind
+
+  -- the ring changes, and no one's waiting is upset
+  ring-keeps : (r : Ring) → RingFits r → ((t : TaskSlot) (v : Wake) → taskAt (k .tasks) t .place ≡ Waiting o v → MayWait t (Queue r)) → Nearly (settled (k .tick)) (withObject k o (Queue r))
+  ring-keeps r f W =
+      object-nearly k N o (Queue r) low W (λ p e. let z : r ≡ p = cc in subst RingFits z f) (λ t e. absurd (let z : _≡_ {A = ℕ} 0 1 = cc in omega arith))
+      (λ t h a n. absurd (not-by (ap isMutex kind) h))
+
+  -- the caller waits
+  caller-waits : (w : ℕ) → 0 < w → (k .running .0 ≡ 0 → ⊥) → (0 < k .hold → ⊥) → MayWait (k .running) (Queue q) → Keeps (waitFor k o w)
+  unfolding waitFor blocked toTail
+  caller-waits w s busy no-hold m =
+      record {
+        nearly = blocked-nearly k N caller-low busy (Waiting o (wakeOf (k .tick) w)) refl
+            (λ p v e. let z : o ≡ p = cc in subst (λ x. MayWait (k .running) (kindAt (k .objects) x)) z (subst (λ (x : Kind). MayWait (k .running) x) (sym kind) m)) (wake-ahead (k .tick) w o (S .tick-range) s);
+        runs = λ h. absurd (no-hold h);
+      }
+
+  -- a waiter is made ready
+  module _ (t : TaskSlot) (e : first k (WaitersOf o) ≡ t ∷ []) where
+    waiter-low : t .0 < 16
+    waiter-low = omega (arith, first-within k (WaitersOf o) t e, S .task-slots)
+
+    waits-here : waitsOn o (taskAt (k .tasks) t .place) ≡ true
+    waits-here = first-meant k (WaitersOf o) t e
+
+    not-caller : k .running .0 ≡ t .0 → ⊥
+    not-caller z = apart (k .tasks) t (k .running) (waitsOn o) waits-here (ap (waitsOn o) (S .runs)) (sym z)
+
+    waiter-keeps : Keeps (readied k t 1)
+    unfolding readied toTail
+    waiter-keeps = record { nearly = readied-nearly k N t waiter-low 1 (omega arith) refl; runs = λ h. readied-runs k N t waiter-low 1 (omega arith) refl R not-caller }
+
+    full-then : 0 < q .count → q .count ≡ q .capacity
+    full-then h = waiting-as o (taskAt (k .tasks) t .place) waits-here _ (λ v p. empty-or-full (S .waits t o v p) q kind h)
+
+    refilled-keeps : 0 < q .count → Keeps (readied (withObject k o (Queue (oneMore (oneLess q)))) t 1)
+    unfolding readied toTail
+    refilled-keeps h =
+        let full = full-then h in
+        let less = less-fits q ring in
+        let M = ring-keeps (oneMore (oneLess q)) (record { some = ring .some; few = ring .few; small = ring .small; whole = ring .whole; starts = less .starts; counts = omega arith }) (λ u v p. sender (omega arith)) in
+        record {
+          nearly = readied-nearly (withObject k o (Queue (oneMore (oneLess q)))) M t waiter-low 1 (omega arith) refl;
+          runs = λ z. readied-runs (withObject k o (Queue (oneMore (oneLess q)))) M t waiter-low 1 (omega arith) refl (object-runs k o (Queue (oneMore (oneLess q))) R) not-caller;
+        }
+
+  -- 13: send
+  module _ (w : ℕ) (wait : q .count ≡ q .capacity → 0 < w) (busy : 0 < w → k .running .0 ≡ 0 → ⊥) (no-hold : 0 < w → 0 < k .hold → ⊥) where
+    -- into the queue, where nobody waits; or the caller waits
+    room-keeps : (q .count < q .capacity → (t : TaskSlot) (v : Wake) → taskAt (k .tasks) t .place ≡ Waiting o v → ⊥) → Keeps (sentBy k o q w (roomOr q))
+    room-keeps none = go (ltb (q .count) (q .capacity)) refl
+      where
+        go : (b : Bool) → ltb (q .count) (q .capacity) ≡ b → Keeps (sentBy k o q w (if b then toQueue else toCaller))
+        go true e =
+            let l : q .count < q .capacity = ltb-true (q .count) (q .capacity) e in
+            record {
+              nearly = ring-keeps (oneMore q) (record { some = ring .some; few = ring .few; small = ring .small; whole = ring .whole; starts = ring .starts; counts = omega arith }) (λ t v p. absurd (none l t v p));
+              runs = λ h. object-runs k o (Queue (oneMore q)) R;
+            }
+        go false e =
+            let full : q .count ≡ q .capacity = omega (arith, ltb-false (q .count) (q .capacity) e, ring .counts) in
+            caller-waits w (wait full) (busy (wait full)) (no-hold (wait full)) (sender full)
+
+    sent-keeps : Keeps (sent k o q w)
+    unfolding sent outlet
+    sent-keeps = go (first k (WaitersOf o)) refl
+      where
+        told : (t : TaskSlot) → first k (WaitersOf o) ≡ t ∷ [] → (b : Bool) → eqb (q .count) 0 ≡ b → Keeps (sentBy k o q w (if b then toWaiter t else roomOr q))
+        told t e true z = waiter-keeps t e
+        told t e false z = room-keeps (λ l u v p. let full = full-then t e (omega (arith, eqb-false (q .count) 0 z)) in omega arith)
+
+        go : (f : List TaskSlot) → first k (WaitersOf o) ≡ f → Keeps (sentBy k o q w (outletFor q f))
+        go [] e = room-keeps (λ l t v p. first-none k N o e t v p)
+        go (t ∷ r) e = told t (first-single k (WaitersOf o) t r e) (eqb (q .count) 0) refl
+
+  -- 14: receive
+  module _ (w : ℕ) (wait : q .count ≡ 0 → 0 < w) (busy : 0 < w → k .running .0 ≡ 0 → ⊥) (no-hold : 0 < w → 0 < k .hold → ⊥) where
+    received-keeps : Keeps (received k o q w)
+    unfolding received
+    received-keeps = go (eqb (q .count) 0) refl
+      where
+        refill : 0 < q .count → (f : List TaskSlot) → first k (WaitersOf o) ≡ f → Keeps (refilledBy k o (oneLess q) f)
+        refill h [] e =
+            record {
+              nearly = ring-keeps (oneLess q) (less-fits q ring) (λ t v p. absurd (first-none k N o e t v p));
+              runs = λ z. object-runs k o (Queue (oneLess q)) R;
+            }
+        refill h (t ∷ r) e = refilled-keeps t (first-single k (WaitersOf o) t r e) h
+
+        go : (b : Bool) → eqb (q .count) 0 ≡ b → Keeps (if b then waitFor k o w else refilledBy k o (oneLess q) (first k (WaitersOf o)))
+        go true e = let z : q .count ≡ 0 = eqb-true (q .count) 0 e in caller-waits w (wait z) (busy (wait z)) (no-hold (wait z)) (receiver z)
+        go false e = refill (omega (arith, eqb-false (q .count) 0 e)) (first k (WaitersOf o)) refl
+
+-- ── the rows of the table, at the two calls
+module _ (k : State) (S : Sound k) (store : ℕ) (o : ObjSlot) (w : ℕ) where
+  -- a wait other than 0
+  waiting : 0 < w → not (eqb w 0) ≡ true
+  waiting s = not-off (eqb w 0) (ne-eqb w 0 (λ e. omega arith))
+
+  module _ (P : Passed k (onObject 13 AQueue o w) store) where
+    sends-queue : isQueue (kindAt (k .objects) o) ≡ true
+    unfolding namesNone
+    sends-queue = on (isQueue (kindAt (k .objects) o)) (P .named)
+
+    send-waits : (q : Ring) → kindAt (k .objects) o ≡ Queue q → q .count ≡ q .capacity → 0 < w
+    send-waits q e full = some-wait (onObject 13 AQueue o w) (must-wait k (onObject 13 AQueue o w) (P .may-wait) (rw (e, eq-eqb (q .count) (q .capacity) full)))
+
+    pub send-keeps : Keeps (effect k (onObject 13 AQueue o w))
+    unfolding effect
+    send-keeps = go (kindAt (k .objects) o) refl sends-queue
+      where
+        go : (x : Kind) → kindAt (k .objects) o ≡ x → isQueue x ≡ true → Keeps (sentTo k o x w)
+        go Unused e m = absurd (false≢true m)
+        go (Queue q) e m = sent-keeps k S o q e w (send-waits q e) (λ s. wait-busy k (onObject 13 AQueue o w) (P .idle) (waiting s)) (λ s. wait-free k (onObject 13 AQueue o w) (P .held) (waiting s))
+        go (Mutex h) e m = absurd (false≢true m)
+
+  module _ (P : Passed k (onObject 14 AQueue o w) store) where
+    receives-queue : isQueue (kindAt (k .objects) o) ≡ true
+    unfolding namesNone
+    receives-queue = on (isQueue (kindAt (k .objects) o)) (P .named)
+
+    receive-waits : (q : Ring) → kindAt (k .objects) o ≡ Queue q → q .count ≡ 0 → 0 < w
+    receive-waits q e none = some-wait (onObject 14 AQueue o w) (must-wait k (onObject 14 AQueue o w) (P .may-wait) (rw (e, eq-eqb (q .count) 0 none)))
+
+    pub receive-keeps : Keeps (effect k (onObject 14 AQueue o w))
+    unfolding effect
+    receive-keeps = go (kindAt (k .objects) o) refl receives-queue
+      where
+        go : (x : Kind) → kindAt (k .objects) o ≡ x → isQueue x ≡ true → Keeps (receivedFrom k o x w)
+        go Unused e m = absurd (false≢true m)
+        go (Queue q) e m = received-keeps k S o q e w (receive-waits q e) (λ s. wait-busy k (onObject 14 AQueue o w) (P .idle) (waiting s)) (λ s. wait-free k (onObject 14 AQueue o w) (P .held) (waiting s))
+        go (Mutex h) e m = absurd (false≢true m)

@@ -1,0 +1,290 @@
+-- Calls 1 to 7 keep soundness: create, delete, suspend, resume, set priority, delay, yield.
+use Prim.Native.Nat.{ℕ, _+_, _<_, _≤_}
+use mathlib.Core.Path.{_≡_, refl, sym, ap, _∙_}
+use mathlib.Core.Bool.{Bool, true, false, not, _&&_, false≢true}
+use native.Mathlib.Omega.{arith}
+use lib.Dec.{eqb, ltb, leb}
+use borrow.Author.Tests.{ne-eqb, leb-false, eqb-true, eqb-false, eq-eqb, ltb-false, lt-ltb, le-leb}
+use Rattle.lists.specs.Lists.{larger}
+use Rattle.lists.proofs.Bools.{and-intro, on, not-off, or-off}
+use Rattle.numbers.specs.Numbers.{task, idle, isIdle}
+use Rattle.calls.specs.Asked.{nothing, onTask}
+use Rattle.order.proofs.Lines.{one-number}
+use Rattle.slots.specs.Places.{isFree, isSuspended, isBlocked, isListed}
+use Rattle.slots.specs.Tasks.{freeTask, readyAt, brokenOff, taskAt}
+use Rattle.rules.specs.Types.{TaskSlot, ObjSlot, Free, Ready, Delayed, Suspended, Task, State}
+use Rattle.rules.specs.Tables.{holds, freeSlot, withTask}
+use Rattle.rules.specs.Lines.{level, toTail, leaves}
+use Rattle.rules.specs.Sentences.{Holds, Sound}
+use Rattle.rules.specs.Refusals.{outOfRange, namesNone, notForIdle, notWithHold, noSlot, inUse, notSuspended}
+use Rattle.rules.specs.Waits.{later, readied, blocked}
+use Rattle.rules.specs.Loans.{prioritized, movedIf, newPriority}
+use Rattle.rules.specs.Effects.{created, deleted, suspended, resumed, yielded, delayed, effect}
+use Rattle.rules.proofs.Says.{none-holds, not-held}
+use Rattle.rules.proofs.Passes.{Passed, range}
+use Rattle.rules.proofs.Nearly.{settled, TaskFine, Nearly, Runs}
+use Rattle.rules.proofs.Slotted.{tail-nearly, tail-listed, leave-nearly, leave-listed, moved-nearly}
+use Rattle.rules.proofs.Chosen.{sound-nearly, sound-runs}
+use Rattle.rules.proofs.Heads.{runs-tail, runs-leave}
+use Rattle.rules.proofs.Blocks.{prioritized-same, readied-nearly, readied-runs, blocked-nearly, prioritized-nearly, prioritized-runs}
+use Rattle.rules.proofs.Keeps.{Keeps, exists-low, not-free, ready-low, apart, index-most, index-passes}
+
+-- a wake tick that many ticks ahead is none of now
+pub later-ahead : (tick n : ℕ) → tick ≤ 4294967295 → 0 < n → n ≤ 4294967294 → (leb (later tick n) 4294967295 && not (eqb (later tick n) tick)) ≡ true
+later-ahead tick n h s l =
+    and-intro (leb (later tick n) 4294967295) _ (le-leb (later tick n) 4294967295 (omega arith)) (not-off (eqb (later tick n) tick) (ne-eqb (later tick n) tick (λ e. omega arith)))
+
+module _ (k : State) (S : Sound k) (store : ℕ) where
+  N : Nearly (settled (k .tick)) k
+  N = sound-nearly k S
+
+  R : Runs k
+  R = sound-runs k S
+
+  -- 1: create
+  module _ (p : ℕ) (P : Passed k (nothing 1 p 0 1 0) store) where
+    t : TaskSlot
+    t = task (freeSlot (k .tasks))
+
+    small : p ≤ 31
+    small = range (nothing 1 p 0 1 0) (P .in-range) .low
+
+    has-slot : t .0 < 16
+    unfolding noSlot freeSlot t
+    has-slot =
+        let most = index-most (λ (x : Task). isFree (x .place)) freeTask (k .tasks) in
+        let d = eqb-false (freeSlot (k .tasks)) 16 (P .slot) in
+        omega (arith, d, S .task-slots)
+
+    is-free : isFree (taskAt (k .tasks) t .place) ≡ true
+    unfolding t freeSlot taskAt has-slot
+    is-free = index-passes (λ (x : Task). isFree (x .place)) freeTask (k .tasks) (omega (arith, has-slot, S .task-slots))
+
+    not-ready : (u : TaskSlot) → taskAt (k .tasks) u .place ≡ Ready → u .0 ≡ t .0 → ⊥
+    not-ready u e q = apart (k .tasks) t u isFree is-free (ap isFree e) (sym q)
+
+    fine : TaskFine (settled (k .tick)) (k .objects) t (readyAt p)
+    fine =
+        record {
+          waits = λ o v e. absurd (let z : _≡_ {A = ℕ} 0 1 = cc in omega arith);
+          at-least = omega arith;
+          range = small;
+          equal = λ e n. refl;
+          due = refl;
+          outcome = refl;
+          free = λ e. absurd (let z : _≡_ {A = ℕ} 0 1 = cc in omega arith);
+        }
+
+    not-idle : t .0 ≡ 0 → (Ready ≡ Ready) × (p ≡ 0) × (p ≡ 0)
+    not-idle e = absurd (not-ready idle (S .idle-ready) (sym e))
+
+    no-hold : (o : ObjSlot) → Holds (k .objects) t o → Ready ≡ Free → ⊥
+    no-hold o h e = let z : _≡_ {A = ℕ} 0 1 = cc in omega arith
+
+    pub create-keeps : Keeps (effect k (nothing 1 p 0 1 0))
+    unfolding effect created t toTail
+    create-keeps =
+        record {
+          nearly = tail-nearly k N t (readyAt p) has-slot fine no-hold not-idle refl;
+          runs = λ h. runs-tail k R t (readyAt p) (created k p) refl refl (not-ready (k .running) (S .runs)) (tail-listed k N t (readyAt p) has-slot fine no-hold not-idle refl);
+        }
+
+  -- 2: delete
+  module _ (t : TaskSlot) (P : Passed k (onTask 2 t 0) store) where
+    there : isFree (taskAt (k .tasks) t .place) ≡ false
+    unfolding namesNone
+    there = P .named
+
+    busy : t .0 ≡ 0 → ⊥
+    unfolding notForIdle
+    busy = eqb-false (t .0) 0 (or-off (isIdle t) _ (P .idle) .0)
+
+    free-hands : (o : ObjSlot) → Holds (k .objects) t o → ⊥
+    unfolding inUse
+    free-hands = not-held (k .objects) t (or-off (holds (k .objects) t) _ (P .unused) .0)
+
+    other : 0 < k .hold → k .running .0 ≡ t .0 → ⊥
+    unfolding notWithHold
+    other h e = eqb-false (t .0) (k .running .0) (rw (lt-ltb 0 (k .hold) h) at (P .held)) (sym e)
+
+    gone : TaskFine (settled (k .tick)) (k .objects) t freeTask
+    gone =
+        record {
+          waits = λ o v e. absurd (let z : _≡_ {A = ℕ} 0 1 = cc in omega arith);
+          at-least = omega arith;
+          range = omega arith;
+          equal = λ e n. refl;
+          due = refl;
+          outcome = refl;
+          free = λ e. refl;
+        }
+
+    pub delete-keeps : Keeps (effect k (onTask 2 t 0))
+    unfolding effect deleted leaves
+    delete-keeps =
+        let low = exists-low (k .tasks) t (S .task-slots) there in
+        record {
+          nearly = leave-nearly k N t freeTask low gone (λ o h e. free-hands o h) (λ e. absurd (busy e)) refl;
+          runs = λ h. runs-leave k R t freeTask (deleted k t) refl refl (other h) (leave-listed k N t freeTask low gone (λ o q e. free-hands o q) (λ e. absurd (busy e)) refl);
+        }
+
+  -- 3: suspend
+  module _ (t : TaskSlot) (P : Passed k (onTask 3 t 0) store) where
+    found : isFree (taskAt (k .tasks) t .place) ≡ false
+    unfolding namesNone
+    found = P .named
+
+    not-idle-one : t .0 ≡ 0 → ⊥
+    unfolding notForIdle
+    not-idle-one = eqb-false (t .0) 0 (or-off (isIdle t) _ (P .idle) .0)
+
+    not-caller : 0 < k .hold → k .running .0 ≡ t .0 → ⊥
+    unfolding notWithHold
+    not-caller h e = eqb-false (t .0) (k .running .0) (rw (lt-ltb 0 (k .hold) h) at (P .held)) (sym e)
+
+    abbrev stopped : Task
+    stopped = brokenOff (taskAt (k .tasks) t)
+
+    outcome-few : (b : Bool) → (if b then 3 else taskAt (k .tasks) t .outcome) ≤ 3
+    outcome-few true = omega arith
+    outcome-few false = S .outcome-range t
+
+    stopped-fine : TaskFine (settled (k .tick)) (k .objects) t stopped
+    stopped-fine =
+        record {
+          waits = λ o v e. absurd (let z : _≡_ {A = ℕ} 0 1 = cc in omega arith);
+          at-least = N .tasks t .at-least;
+          range = N .tasks t .range;
+          equal = N .tasks t .equal;
+          due = refl;
+          outcome = and-intro (leb (stopped .outcome) 3) true (le-leb (stopped .outcome) 3 (outcome-few (isBlocked (taskAt (k .tasks) t .place)))) refl;
+          free = λ e. absurd (let z : _≡_ {A = ℕ} 0 1 = cc in omega arith);
+        }
+
+    suspended-not-free : Suspended ≡ Free → ⊥
+    suspended-not-free e = let z : _≡_ {A = ℕ} 0 1 = cc in omega arith
+
+    pub suspend-keeps : Keeps (effect k (onTask 3 t 0))
+    unfolding effect suspended leaves
+    suspend-keeps = go (isListed (taskAt (k .tasks) t .place))
+      where
+        go : (b : Bool) → Keeps (if b then leaves (withTask k t stopped) t else k)
+        go true =
+            let low = exists-low (k .tasks) t (S .task-slots) found in
+            record {
+              nearly = leave-nearly k N t stopped low stopped-fine (λ o h e. suspended-not-free e) (λ e. absurd (not-idle-one e)) refl;
+              runs = λ h. runs-leave k R t stopped (leaves (withTask k t stopped) t) refl refl (not-caller h) (leave-listed k N t stopped low stopped-fine (λ o q e. suspended-not-free e) (λ e. absurd (not-idle-one e)) refl);
+            }
+        go false = record { nearly = N; runs = λ h. R }
+
+  -- 4: resume
+  module _ (t : TaskSlot) (P : Passed k (onTask 4 t 0) store) where
+    known : isFree (taskAt (k .tasks) t .place) ≡ false
+    unfolding namesNone
+    known = P .named
+
+    was-suspended : isSuspended (taskAt (k .tasks) t .place) ≡ true
+    unfolding notSuspended
+    was-suspended = on (isSuspended (taskAt (k .tasks) t .place)) (P .suspended)
+
+    pub resume-keeps : Keeps (effect k (onTask 4 t 0))
+    unfolding effect resumed readied toTail
+    resume-keeps =
+        let low = exists-low (k .tasks) t (S .task-slots) known in
+        record {
+          nearly = readied-nearly k N t low (taskAt (k .tasks) t .outcome) (S .outcome-range t) refl;
+          runs = λ h. readied-runs k N t low (taskAt (k .tasks) t .outcome) (S .outcome-range t) refl R (λ e. apart (k .tasks) t (k .running) isSuspended was-suspended (ap isSuspended (S .runs)) (sym e));
+        }
+
+  -- 5: set priority
+  module _ (t : TaskSlot) (p : ℕ) (P : Passed k (onTask 5 t p) store) where
+    exists : isFree (taskAt (k .tasks) t .place) ≡ false
+    unfolding namesNone
+    exists = P .named
+
+    in-range : p ≤ 31
+    in-range = range (onTask 5 t p) (P .in-range) .low
+
+    idle-to-0 : t .0 ≡ 0 → p ≡ 0
+    unfolding notForIdle
+    idle-to-0 e = eqb-true p 0 (on (eqb p 0) (rw (eq-eqb (t .0) 0 e) at (or-off (isIdle t && not (eqb p 0)) _ (P .idle) .0)))
+
+    larger-least : (a b : ℕ) → (b ≤ larger a b) × (larger a b ≤ a + b)
+    larger-least a b = go (ltb a b) refl
+      where
+        go : (c : Bool) → ltb a b ≡ c → (b ≤ (if c then b else a)) × ((if c then b else a) ≤ a + b)
+        go true e = (omega arith, omega arith)
+        go false e = (omega (arith, ltb-false a b e), omega arith)
+
+    larger-most : (a b n : ℕ) → a ≤ n → b ≤ n → larger a b ≤ n
+    larger-most a b n h l = go (ltb a b)
+      where
+        go : (c : Bool) → (if c then b else a) ≤ n
+        go true = l
+        go false = h
+
+    abbrev eff : Bool → ℕ
+    eff h = if h then larger (level (k .tasks) t) p else p
+
+    given : (b : Bool) → holds (k .objects) t ≡ b → (p ≤ eff b) × (eff b ≤ 31) × (((o : ObjSlot) → Holds (k .objects) t o → ⊥) → p ≡ eff b) × (t .0 ≡ 0 → eff b ≡ 0)
+    given true e = (
+      larger-least (level (k .tasks) t) p .0,
+      larger-most (level (k .tasks) t) p 31 (S .priority-range t) in-range,
+      (λ n. absurd (false≢true (sym (none-holds (k .objects) t n) ∙ e))),
+      (λ z. absurd (false≢true (sym (none-holds (k .objects) t (λ o. rw (one-number t idle z) (S .idle-holds o))) ∙ e))),
+    )
+    given false e = (omega arith, in-range, (λ n. refl), idle-to-0)
+
+    pub priority-keeps : Keeps (effect k (onTask 5 t p))
+    unfolding effect newPriority prioritized movedIf
+    priority-keeps =
+        let g = given (holds (k .objects) t) refl in
+        let low = exists-low (k .tasks) t (S .task-slots) exists in
+        record {
+          nearly = rw (prioritized-same k t p (eff (holds (k .objects) t)) .tick) (prioritized-nearly k N t low p (eff (holds (k .objects) t)) (g .0) (g .1) (λ e n. g .2 n) (not-free (k .tasks) t exists) (λ z. (idle-to-0 z, g .3 z)));
+          runs = λ h. prioritized-runs k N t low p (eff (holds (k .objects) t)) (g .0) (g .1) (λ e n. g .2 n) (not-free (k .tasks) t exists) (λ z. (idle-to-0 z, g .3 z)) R;
+        }
+
+  -- 7: yield
+  hold-free : Passed k (nothing 7 0 0 1 0) store → 0 < k .hold → ⊥
+  unfolding notWithHold
+  hold-free P h = false≢true (sym (rw (lt-ltb 0 (k .hold) h) at (P .held)))
+
+  caller-low : k .running .0 < 16
+  caller-low = ready-low (k .tasks) (k .running) (S .task-slots) (S .runs)
+
+  yields : (0 < k .hold → ⊥) → Keeps (yielded k)
+  unfolding yielded toTail
+  yields h = record { nearly = moved-nearly k N (k .running) caller-low (rw (S .runs)); runs = λ q. absurd (h q) }
+
+  pub yield-keeps : Passed k (nothing 7 0 0 1 0) store → Keeps (effect k (nothing 7 0 0 1 0))
+  unfolding effect
+  yield-keeps P = yields (hold-free P)
+
+  -- 6: delay
+  module _ (n : ℕ) (P : Passed k (nothing 6 0 n 1 0) store) where
+    no-hold-now : 0 < k .hold → ⊥
+    unfolding notWithHold
+    no-hold-now h = false≢true (sym (rw (lt-ltb 0 (k .hold) h) at (P .held)))
+
+    not-idle-now : k .running .0 ≡ 0 → ⊥
+    unfolding notForIdle
+    not-idle-now = eqb-false (k .running .0) 0 (P .idle)
+
+    few : n ≤ 4294967294
+    unfolding outOfRange
+    few = omega (arith, leb-false 4294967295 n (or-off (leb 4294967295 n) _ (P .in-range) .0))
+
+    pub delay-keeps : Keeps (effect k (nothing 6 0 n 1 0))
+    unfolding effect delayed blocked toTail
+    delay-keeps = go (eqb n 0) refl
+      where
+        go : (b : Bool) → eqb n 0 ≡ b → Keeps (if b then yielded k else blocked k (Delayed (later (k .tick) n)))
+        go true e = yields no-hold-now
+        go false e =
+            let some : 0 < n = omega (arith, eqb-false n 0 e) in
+            let a = later-ahead (k .tick) n (S .tick-range) some few in
+            record {
+              nearly = blocked-nearly k N caller-low not-idle-now (Delayed (later (k .tick) n)) refl (λ o v q. absurd (let z : _≡_ {A = ℕ} 0 1 = cc in omega arith)) a;
+              runs = λ h. absurd (no-hold-now h);
+            }

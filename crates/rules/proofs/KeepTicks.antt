@@ -1,0 +1,337 @@
+-- Hold, release and tick keep soundness.
+use Prim.Native.Nat.{ℕ, zero, suc, _+_, _-_, _<_, _≤_}
+use mathlib.Core.Path.{_≡_, refl, sym, ap, _∙_, subst}
+use mathlib.Core.Bool.{Bool, true, false, _||_, false≢true}
+use mathlib.Core.List.{List, [], _∷_, _++_}
+use native.Mathlib.Omega.{arith}
+use lib.Dec.{eqb, ltb}
+use lib.ListN.{length}
+use borrow.Author.Tests.{eqb-true, eqb-false, ltb-true, ltb-false, lt-ltb}
+use Rattle.lists.specs.Lists.{foldl, upTo}
+use Rattle.lists.proofs.Bools.{and-left, and-intro, not-off, or-off}
+use Rattle.numbers.specs.Numbers.{task, sameTask, byNumber}
+use Rattle.calls.specs.Asked.{asked, nothing}
+use Rattle.order.specs.Order.{listed}
+use Rattle.order.proofs.Lines.{one-number}
+use Rattle.slots.specs.Places.{isFree, wakesAt, outcomeDue}
+use Rattle.slots.specs.Tasks.{placed, taskAt}
+use Rattle.slots.specs.Fine.{wakesInRange, notDue}
+use Rattle.rules.specs.Types.{TaskSlot, Place, Free, Ready, Delayed, Waiting, Suspended, Task, Hold, State}
+use Rattle.rules.specs.Tables.{withTick, withHold}
+use Rattle.rules.specs.Lines.{level, toTail}
+use Rattle.rules.specs.Sound.{noHigher}
+use Rattle.rules.specs.Sentences.{Sound}
+use Rattle.rules.specs.Refusals.{noDepth, noTick}
+use Rattle.rules.specs.Waits.{later, readied}
+use Rattle.rules.specs.Ticks.{wokenIfDue, wakes, oneTick, turned, ticked, ticks, released, held}
+use Rattle.rules.specs.Effects.{effect}
+use Rattle.rules.proofs.Slots.{past-tasks}
+use Rattle.rules.proofs.Passes.{Passed}
+use Rattle.rules.proofs.Nearly.{Owing, settled, Counted, Nearly, Runs}
+use Rattle.rules.proofs.Slotted.{at-same, at-other, moved-nearly}
+use Rattle.rules.proofs.Chosen.{sound-nearly, sound-runs}
+use Rattle.rules.proofs.Blocks.{Same, readied-nearly}
+use Rattle.rules.proofs.Keeps.{Keeps, exists-low, ready-low}
+
+-- ── the counts changed, and what is open told anew
+recount : {w : Owing} (k : State) (h p : ℕ) → Nearly w k → Counted (withHold k h p) → Nearly w (withHold k h p)
+recount k h p N C =
+    record {
+      task-slots = N .task-slots;
+      object-slots = N .object-slots;
+      order-places = N .order-places;
+      listing = record { once = N .listing .once; room = N .listing .room; zeros = N .listing .zeros };
+      idle-ready = N .idle-ready;
+      idle-own = N .idle-own;
+      idle-effective = N .idle-effective;
+      tasks = N .tasks;
+      idle-holds = N .idle-holds;
+      holders = N .holders;
+      queues = N .queues;
+      counts = C;
+    }
+
+same-runs : (k : State) (h p : ℕ) → Runs k → Runs (withHold k h p)
+same-runs k h p R = record { runs = R .runs; heads = R .heads }
+
+pub reopen : {w : Owing} (v : Owing) (k : State) → Nearly w k → ((t : TaskSlot) → v .due t (taskAt (k .tasks) t .place) ≡ true) → ((t : TaskSlot) → v .owes t ≡ false → w .owes t ≡ false) → Nearly v k
+reopen v k N D O =
+    record {
+      task-slots = N .task-slots;
+      object-slots = N .object-slots;
+      order-places = N .order-places;
+      listing = N .listing;
+      idle-ready = N .idle-ready;
+      idle-own = N .idle-own;
+      idle-effective = N .idle-effective;
+      tasks = λ t. record {
+        waits = N .tasks t .waits;
+        at-least = N .tasks t .at-least;
+        range = N .tasks t .range;
+        equal = λ e n. N .tasks t .equal (O t e) n;
+        due = D t;
+        outcome = N .tasks t .outcome;
+        free = N .tasks t .free;
+      };
+      idle-holds = N .idle-holds;
+      holders = N .holders;
+      queues = N .queues;
+      counts = N .counts;
+    }
+
+-- the tick count told otherwise
+pub at-tick : (j : State) {n : ℕ} → j .tick ≡ n → Nearly (settled n) j → Nearly (settled (j .tick)) j
+at-tick j e N = subst (λ (m : ℕ). Nearly (settled m) j) (sym e) N
+
+-- ── the wakes: of those that were asked nobody is due any more
+abbrev waking : ℕ → (TaskSlot → Bool) → Owing
+waking tick asked = record { due = λ t p. if asked t then notDue tick p else wakesInRange p; owes = λ t. false }
+
+record Woken (tick : ℕ) (asked : TaskSlot → Bool) (j : State) : Type 0 where
+  nearly : Nearly (waking tick asked) j
+  ticks : j .tick ≡ tick
+
+readied-ticks : (j : State) (t : TaskSlot) (n : ℕ) → Same (readied j t n) j
+unfolding readied toTail
+readied-ticks j t n = record { tick = refl; hold = refl; running = refl; objects = refl }
+
+pub readied-at : (j : State) (t : TaskSlot) (n : ℕ) → t .0 < length (j .tasks) → taskAt (readied j t n .tasks) t ≡ placed (taskAt (j .tasks) t) Ready n
+unfolding readied toTail
+readied-at j t n h = at-same (j .tasks) t (placed (taskAt (j .tasks) t) Ready n) h
+
+-- who is due exists
+pub due-there : (n : ℕ) (p : Place) → wakesAt n p ≡ true → isFree p ≡ false
+due-there n Free e = absurd (false≢true e)
+due-there n Ready e = refl
+due-there n (Delayed w) e = refl
+due-there n (Waiting q w) e = refl
+due-there n Suspended e = refl
+
+-- who is due is delayed or waits, and its outcome is 1 or 2
+due-outcome : (p : Place) → outcomeDue p ≤ 3
+due-outcome Free = omega arith
+due-outcome Ready = omega arith
+due-outcome (Delayed w) = omega arith
+due-outcome (Waiting o w) = omega arith
+due-outcome Suspended = omega arith
+
+module _ (tick : ℕ) (asked : TaskSlot → Bool) (x : TaskSlot) (j : State) (W : Woken tick asked j) where
+  abbrev askedToo : TaskSlot → Bool
+  askedToo t = sameTask t x || asked t
+
+  in-range : (b : Bool) (p : Place) → (if b then notDue tick p else wakesInRange p) ≡ true → wakesInRange p ≡ true
+  in-range true p e = and-left (wakesInRange p) _ e
+  in-range false p e = e
+
+  -- every task after the step of x, if what stands in its slot then is not due
+  next-due : (us : List Task) → ((t : TaskSlot) → (if asked t then notDue tick (taskAt us t .place) else wakesInRange (taskAt us t .place)) ≡ true) → notDue tick (taskAt us x .place) ≡ true
+      → (t : TaskSlot) → (if askedToo t then notDue tick (taskAt us t .place) else wakesInRange (taskAt us t .place)) ≡ true
+  next-due us D h t = go (sameTask t x) refl
+    where
+      go : (b : Bool) → sameTask t x ≡ b → (if b || asked t then notDue tick (taskAt us t .place) else wakesInRange (taskAt us t .place)) ≡ true
+      go true e = rw (one-number t x (eqb-true (t .0) (x .0) e)) h
+      go false e = D t
+
+  ready-due : (b : Bool) → (if b then notDue tick Ready else wakesInRange Ready) ≡ true
+  ready-due true = refl
+  ready-due false = refl
+
+  woken-next : Woken tick askedToo (wokenIfDue j x)
+  unfolding wokenIfDue
+  woken-next = go (wakesAt (j .tick) (taskAt (j .tasks) x .place)) refl
+    where
+      low : wakesAt (j .tick) (taskAt (j .tasks) x .place) ≡ true → x .0 < 16
+      low e = exists-low (j .tasks) x (W .nearly .task-slots) (due-there (j .tick) (taskAt (j .tasks) x .place) e)
+
+      ready-now : (m : ℕ) → x .0 < 16 → notDue tick (taskAt (readied j x m .tasks) x .place) ≡ true
+      ready-now m l = ap (λ (y : Task). notDue tick (y .place)) (readied-at j x m (omega (arith, W .nearly .task-slots)))
+
+      go : (b : Bool) → wakesAt (j .tick) (taskAt (j .tasks) x .place) ≡ b → Woken tick askedToo (if b then readied j x (outcomeDue (taskAt (j .tasks) x .place)) else j)
+      go true e =
+          let m = outcomeDue (taskAt (j .tasks) x .place) in
+          let M = readied-nearly j (W .nearly) x (low e) m (due-outcome (taskAt (j .tasks) x .place)) (ready-due (asked x)) in
+          record { nearly = reopen (waking tick askedToo) (readied j x m) M (next-due _ (λ t. M .tasks t .due) (ready-now m (low e))) (λ t q. refl); ticks = readied-ticks j x m .tick ∙ W .ticks }
+      go false e =
+          let p = taskAt (j .tasks) x .place in
+          let h = and-intro (wakesInRange p) _ (in-range (asked x) p (W .nearly .tasks x .due)) (not-off _ (rw (W .ticks) at e)) in
+          record { nearly = reopen (waking tick askedToo) j (W .nearly) (next-due (j .tasks) (λ t. W .nearly .tasks t .due) h) (λ t q. refl); ticks = W .ticks }
+
+-- those asked after the wakes of l
+askedAll : (TaskSlot → Bool) → List TaskSlot → TaskSlot → Bool
+askedAll asked [] = asked
+askedAll asked (x ∷ l) = askedAll (λ t. sameTask t x || asked t) l
+
+woken-all : (tick : ℕ) (asked : TaskSlot → Bool) (l : List TaskSlot) (j : State) → Woken tick asked j → Woken tick (askedAll asked l) (foldl wokenIfDue j l)
+unfolding foldl askedAll
+woken-all tick asked [] j W = W
+woken-all tick asked (x ∷ l) j W = woken-all tick (λ t. sameTask t x || asked t) l (wokenIfDue j x) (woken-next tick asked x j W)
+
+-- by number, all are asked
+asked-more : (asked : TaskSlot → Bool) (l m : List TaskSlot) → askedAll asked (l ++ m) ≡ askedAll (askedAll asked l) m
+unfolding askedAll
+asked-more asked [] m = refl
+asked-more asked (x ∷ l) m = asked-more (λ t. sameTask t x || asked t) l m
+
+all-asked : (asked : TaskSlot → Bool) (n : ℕ) (t : TaskSlot) → t .0 < n → askedAll asked (byNumber n) t ≡ true
+unfolding byNumber askedAll
+all-asked asked zero t h = absurd (omega arith)
+all-asked asked (suc n) t h = ap (λ (f : TaskSlot → Bool). f t) (asked-more asked (byNumber n) (task n ∷ [])) ∙ go (eqb (t .0) n) refl (all-asked asked n t)
+  where
+    go : (b : Bool) → eqb (t .0) n ≡ b → (t .0 < n → askedAll asked (byNumber n) t ≡ true) → (b || askedAll asked (byNumber n) t) ≡ true
+    go true e ih = refl
+    go false e ih = ih (omega (arith, eqb-false (t .0) n e))
+
+-- ── what the wakes leave: the hold, who runs, and who was ready
+pub record After (k j : State) : Type 0 where
+  pub hold : j .hold ≡ k .hold
+  pub running : j .running ≡ k .running
+  pub ready : (t : TaskSlot) → taskAt (k .tasks) t .place ≡ Ready → taskAt (j .tasks) t .place ≡ Ready
+
+after-trans : {k j i : State} → After k j → After j i → After k i
+after-trans a b = record { hold = b .hold ∙ a .hold; running = b .running ∙ a .running; ready = λ t e. b .ready t (a .ready t e) }
+
+woken-after : (j : State) (u : TaskSlot) → After j (wokenIfDue j u)
+unfolding wokenIfDue readied toTail
+woken-after j u = go (wakesAt (j .tick) (taskAt (j .tasks) u .place)) refl
+  where
+    go : (b : Bool) → wakesAt (j .tick) (taskAt (j .tasks) u .place) ≡ b → After j (if b then readied j u (outcomeDue (taskAt (j .tasks) u .place)) else j)
+    go true e = record { hold = refl; running = refl; ready = λ t q. ap (λ (x : Task). x .place) (at-other (j .tasks) u _ t (other t q)) ∙ q }
+      where
+        other : (t : TaskSlot) → taskAt (j .tasks) t .place ≡ Ready → t .0 ≡ u .0 → ⊥
+        other t q z = false≢true (sym (ap (wakesAt (j .tick)) (sym (ap (λ v. taskAt (j .tasks) v .place) (one-number t u z)) ∙ q)) ∙ e)
+    go false e = record { hold = refl; running = refl; ready = λ t q. q }
+
+all-after : (l : List TaskSlot) (k : State) → After k (foldl wokenIfDue k l)
+unfolding foldl
+all-after [] k = record { hold = refl; running = refl; ready = λ t e. e }
+all-after (u ∷ l) k = after-trans (woken-after k u) (all-after l (wokenIfDue k u))
+
+-- ── one tick's count and wakes
+pub record Ticked (k j : State) : Type 0 where
+  pub nearly : Nearly (settled (j .tick)) j
+  pub after : After k j
+
+pub one-tick : (k : State) → Nearly (settled (k .tick)) k → Ticked k (oneTick k)
+unfolding oneTick wakes
+one-tick k N =
+    let next = withTick k (later (k .tick) 1) in
+    let j = foldl wokenIfDue next (byNumber 16) in
+    let W = woken-all (later (k .tick) 1) (λ t. false) (byNumber 16) next start in
+    let A = all-after (byNumber 16) next in
+    record {
+      nearly = at-tick j (W .ticks) (reopen (settled (later (k .tick) 1)) j (W .nearly) (all-woken j (W .nearly)) (λ t q. refl));
+      after = record { hold = A .hold; running = A .running; ready = A .ready };
+    }
+  where
+    start : Woken (later (k .tick) 1) (λ t. false) (withTick k (later (k .tick) 1))
+    start =
+        record {
+          nearly = record {
+            task-slots = N .task-slots;
+            object-slots = N .object-slots;
+            order-places = N .order-places;
+            listing = record { once = N .listing .once; room = N .listing .room; zeros = N .listing .zeros };
+            idle-ready = N .idle-ready;
+            idle-own = N .idle-own;
+            idle-effective = N .idle-effective;
+            tasks = λ t. record {
+              waits = N .tasks t .waits;
+              at-least = N .tasks t .at-least;
+              range = N .tasks t .range;
+              equal = N .tasks t .equal;
+              due = (and-left (wakesInRange (taskAt (k .tasks) t .place)) _ (N .tasks t .due));
+              outcome = N .tasks t .outcome;
+              free = N .tasks t .free;
+            };
+            idle-holds = N .idle-holds;
+            holders = N .holders;
+            queues = N .queues;
+            counts = record { tick-range = omega arith; hold-range = N .counts .hold-range; pended-range = N .counts .pended-range; pends = N .counts .pends };
+          };
+          ticks = refl;
+        }
+
+    all-woken : (j : State) → Nearly (waking (later (k .tick) 1) (askedAll (λ u. false) (byNumber 16))) j → (t : TaskSlot) → notDue (later (k .tick) 1) (taskAt (j .tasks) t .place) ≡ true
+    all-woken j M t = go (ltb (t .0) 16) refl
+      where
+        go : (b : Bool) → ltb (t .0) 16 ≡ b → notDue (later (k .tick) 1) (taskAt (j .tasks) t .place) ≡ true
+        go true e = rw (all-asked (λ u. false) 16 t (ltb-true (t .0) 16 e)) at (M .tasks t .due)
+        go false e = let past : length (j .tasks) ≤ t .0 = omega (arith, ltb-false (t .0) 16 e, M .task-slots) in rw (past-tasks (j .tasks) t past)
+
+-- ── the calls
+module _ (k : State) (S : Sound k) (store : ℕ) where
+  N : Nearly (settled (k .tick)) k
+  N = sound-nearly k S
+
+  R : Runs k
+  R = sound-runs k S
+
+  -- 8: hold
+  pub hold-keeps : Passed k (nothing 8 0 0 1 0) store → Keeps (effect k (nothing 8 0 0 1 0))
+  unfolding effect held asked noDepth
+  hold-keeps P =
+      let d = eqb-false (k .hold) 255 (or-off (eqb (k .hold) 255) false (P .deep) .0) in
+      record {
+        nearly = recount k (k .hold + 1) (k .pended) N (record { tick-range = S .tick-range; hold-range = omega (arith, S .hold-range, d); pended-range = S .pended-range; pends = λ e. absurd (omega arith) });
+        runs = λ h. same-runs k (k .hold + 1) (k .pended) R;
+      }
+
+  -- 17: tick
+  tick-pends : Passed k (nothing 17 0 0 1 0) store → 0 < k .hold → k .pended + 1 ≤ 65535
+  unfolding noTick
+  tick-pends P h =
+      let f : eqb (k .pended) 65535 ≡ false = rw (lt-ltb 0 (k .hold) h) at (P .ticks) in
+      omega (arith, eqb-false (k .pended) 65535 f, S .pended-range)
+
+  turns : (j : State) → Ticked k j → k .hold ≡ 0 → Keeps (turned j)
+  unfolding turned toTail
+  turns j T z = go (noHigher (j .tasks) (level (j .tasks) (j .running)) (listed (j .order)))
+    where
+      runs-ready : taskAt (j .tasks) (j .running) .place ≡ Ready
+      runs-ready = ap (λ v. taskAt (j .tasks) v .place) (T .after .running) ∙ T .after .ready (k .running) (S .runs)
+
+      no-hold : 0 < j .hold → ⊥
+      no-hold h = omega (arith, T .after .hold)
+
+      go : (b : Bool) → Keeps (if b then toTail j (j .running) else j)
+      go true = record { nearly = moved-nearly j (T .nearly) (j .running) (ready-low (j .tasks) (j .running) (T .nearly .task-slots) runs-ready) (rw runs-ready); runs = λ h. absurd (no-hold h) }
+      go false = record { nearly = T .nearly; runs = λ h. absurd (no-hold h) }
+
+  pub tick-keeps : Passed k (nothing 17 0 0 1 0) store → Keeps (effect k (nothing 17 0 0 1 0))
+  unfolding effect ticked
+  tick-keeps P = go (ltb 0 (k .hold)) refl
+    where
+      go : (b : Bool) → ltb 0 (k .hold) ≡ b → Keeps (if b then withHold k (k .hold) (k .pended + 1) else turned (oneTick k))
+      go true e =
+          let h : 0 < k .hold = ltb-true 0 (k .hold) e in
+          record {
+            nearly = recount k (k .hold) (k .pended + 1) N (record { tick-range = S .tick-range; hold-range = S .hold-range; pended-range = tick-pends P h; pends = λ z. absurd (omega arith) });
+            runs = λ q. same-runs k (k .hold) (k .pended + 1) R;
+          }
+      go false e = turns (oneTick k) (one-tick k N) (omega (arith, ltb-false 0 (k .hold) e))
+
+  -- 9: release
+  all-ticks : (n : ℕ) (j : State) → Nearly (settled (j .tick)) j → j .hold ≡ 0 → Keeps (upTo (λ x i. oneTick x) n j) × (upTo (λ x i. oneTick x) n j .hold ≡ 0)
+  unfolding upTo
+  all-ticks zero j M z = (record { nearly = M; runs = λ h. absurd (omega arith) }, z)
+  all-ticks (suc n) j M z =
+      let h = all-ticks n j M z in
+      let T = one-tick (upTo (λ x i. oneTick x) n j) (h .0 .nearly) in
+      let e : oneTick (upTo (λ x i. oneTick x) n j) .hold ≡ 0 = T .after .hold ∙ h .1 in
+      (record { nearly = T .nearly; runs = λ q. absurd (omega (arith, e)) }, e)
+
+  pub release-keeps : Passed k (nothing 9 0 0 1 0) store → Keeps (effect k (nothing 9 0 0 1 0))
+  unfolding effect released ticks asked noDepth
+  release-keeps P = go (eqb (k .hold) 1) refl
+    where
+      some : (k .hold ≡ 0 → ⊥)
+      some = eqb-false (k .hold) 0 (P .deep)
+
+      go : (b : Bool) → eqb (k .hold) 1 ≡ b → Keeps (if b then upTo (λ x i. oneTick x) (k .pended) (withHold k 0 0) else withHold k (k .hold - 1) (k .pended))
+      go true e = all-ticks (k .pended) (withHold k 0 0) (recount k 0 0 N (record { tick-range = S .tick-range; hold-range = omega arith; pended-range = omega arith; pends = λ z. refl })) refl .0
+      go false e =
+          let d = eqb-false (k .hold) 1 e in
+          record {
+            nearly = recount k (k .hold - 1) (k .pended) N (record { tick-range = S .tick-range; hold-range = omega (arith, S .hold-range); pended-range = S .pended-range; pends = λ z. absurd (omega (arith, some, d)) });
+            runs = λ h. same-runs k (k .hold - 1) (k .pended) R;
+          }

@@ -1,0 +1,91 @@
+-- An object changed: a nearly sound kernel stays so, if its waiters may wait on the new kind, its holder exists, and who gives it up has its own priority.
+use Prim.Native.Nat.{_<_}
+use mathlib.Core.Path.{_≡_, refl, sym, ap, _∙_}
+use mathlib.Core.Bool.{Bool, true, false, false≢true}
+use mathlib.Core.List.{List}
+use native.Mathlib.Omega.{arith}
+use lib.ListN.{length, set, length-set}
+use lib.Seq.{getD-set-same, getD-set-other}
+use borrow.Author.Tests.{eqb-true, eqb-false, eq-eqb}
+use Rattle.numbers.specs.Numbers.{idle, sameObject}
+use Rattle.slots.specs.Objects.{unused, heldBy, kindAt}
+use Rattle.rules.specs.Types.{TaskSlot, ObjSlot, Wake, Waiting, Ring, Kind, Queue, Mutex, By, Object, State}
+use Rattle.slots.specs.Tasks.{taskAt}
+use Rattle.rules.specs.Tables.{withObject}
+use Rattle.rules.specs.Sentences.{Holds, Exists, MayWait, RingFits}
+use Rattle.rules.proofs.Says.{held-one}
+use Rattle.rules.proofs.Nearly.{Owing, Nearly}
+
+module _ (os : List Object) (o : ObjSlot) (y : Kind) where
+  abbrev pub kinds : List Object
+  kinds = set os (o .0) (record { kind = y })
+
+  pub kind-same : o .0 < length os → kindAt kinds o ≡ y
+  unfolding kindAt
+  kind-same h = ap (λ (x : Object). x .kind) (getD-set-same os (o .0) (record { kind = y }) unused h)
+
+  pub kind-other : (p : ObjSlot) → (p .0 ≡ o .0 → ⊥) → kindAt kinds p ≡ kindAt os p
+  unfolding kindAt
+  kind-other p n = ap (λ (x : Object). x .kind) (getD-set-other os (o .0) (p .0) (record { kind = y }) unused n)
+
+one-object : (x y : ObjSlot) → x .0 ≡ y .0 → x ≡ y
+one-object x y e = λ i. record { 0 = e i }
+
+module _ {w : Owing} (k : State) (N : Nearly w k) (o : ObjSlot) (y : Kind) (low : o .0 < 16)
+    (W : (t : TaskSlot) (v : Wake) → taskAt (k .tasks) t .place ≡ Waiting o v → MayWait t y)
+    (Q : (q : Ring) → y ≡ Queue q → RingFits q)
+    (H : (t : TaskSlot) → y ≡ Mutex (By t) → Exists (k .tasks) t × (t .0 ≡ 0 → ⊥))
+    (G : (t : TaskSlot) → Holds (k .objects) t o → w .owes t ≡ false → ((p : ObjSlot) → Holds (kinds (k .objects) o y) t p → ⊥) → taskAt (k .tasks) t .own ≡ taskAt (k .tasks) t .effective) where
+  abbrev qs : List Object
+  qs = kinds (k .objects) o y
+
+  -- the changed object, and every other
+  each : (P : ObjSlot → Kind → Type 0) → P o y → ((p : ObjSlot) → (p .0 ≡ o .0 → ⊥) → P p (kindAt (k .objects) p)) → (p : ObjSlot) → P p (kindAt qs p)
+  each P h f p = go (sameObject p o) refl
+    where
+      go : (b : Bool) → sameObject p o ≡ b → P p (kindAt qs p)
+      go true e = rw (one-object p o (eqb-true (p .0) (o .0) e), kind-same (k .objects) o y (omega (arith, N .object-slots))) h
+      go false e = rw (kind-other (k .objects) o y p (eqb-false (p .0) (o .0) e)) (f p (eqb-false (p .0) (o .0) e))
+
+  -- who held it has its own priority; of everyone else nothing changed
+  equal-now : (t : TaskSlot) → w .owes t ≡ false → ((p : ObjSlot) → Holds qs t p → ⊥) → taskAt (k .tasks) t .own ≡ taskAt (k .tasks) t .effective
+  equal-now t e n = go (heldBy t (kindAt (k .objects) o)) refl
+    where
+      held-as : (p : ObjSlot) → Holds (k .objects) t p → heldBy t (kindAt (k .objects) p) ≡ true
+      held-as p h = rw h (eq-eqb (t .0) (t .0) refl)
+
+      none : heldBy t (kindAt (k .objects) o) ≡ false → (p : ObjSlot) → Holds (k .objects) t p → ⊥
+      none f p h = cases (sameObject p o) refl
+        where
+          cases : (b : Bool) → sameObject p o ≡ b → ⊥
+          cases true q = false≢true (sym f ∙ (rw (one-object p o (eqb-true (p .0) (o .0) q)) at (held-as p h)))
+          cases false q = n p (kind-other (k .objects) o y p (eqb-false (p .0) (o .0) q) ∙ h)
+
+      go : (b : Bool) → heldBy t (kindAt (k .objects) o) ≡ b → taskAt (k .tasks) t .own ≡ taskAt (k .tasks) t .effective
+      go true f = G t (held-one t (kindAt (k .objects) o) f) e n
+      go false f = N .tasks t .equal e (none f)
+
+  pub object-nearly : Nearly w (withObject k o y)
+  object-nearly =
+      record {
+        task-slots = N .task-slots;
+        object-slots = length-set (k .objects) (o .0) (record { kind = y }) ∙ N .object-slots;
+        order-places = N .order-places;
+        listing = record { once = N .listing .once; room = N .listing .room; zeros = N .listing .zeros };
+        idle-ready = N .idle-ready;
+        idle-own = N .idle-own;
+        idle-effective = N .idle-effective;
+        tasks = λ t. record {
+          waits = λ p v e. each (λ r z. taskAt (k .tasks) t .place ≡ Waiting r v → MayWait t z) (W t v) (λ r n f. N .tasks t .waits r v f) p e;
+          at-least = N .tasks t .at-least;
+          range = N .tasks t .range;
+          equal = equal-now t;
+          due = N .tasks t .due;
+          outcome = N .tasks t .outcome;
+          free = N .tasks t .free;
+        };
+        idle-holds = each (λ p z. z ≡ Mutex (By idle) → ⊥) (λ e. H idle e .1 refl) (λ p n e. N .idle-holds p e);
+        holders = λ t. each (λ p z. z ≡ Mutex (By t) → Exists (k .tasks) t) (λ e. H t e .0) (λ p n e. N .holders t p e);
+        queues = λ p. each (λ r z. (q : Ring) → z ≡ Queue q → RingFits q) Q (λ r n q e. N .queues r q e) p;
+        counts = record { tick-range = N .counts .tick-range; hold-range = N .counts .hold-range; pended-range = N .counts .pended-range; pends = N .counts .pends };
+      }

@@ -1,0 +1,95 @@
+-- "No. | Call | Effect": what each accepted call does to the kernel, before choose.
+use Prim.Native.Nat.{ℕ}
+use mathlib.Core.List.{List, [], _∷_}
+use lib.Dec.{eqb}
+use Rattle.numbers.specs.Numbers.{task, object}
+use Rattle.slots.specs.Places.{isListed}
+use Rattle.slots.specs.Tasks.{freeTask, readyAt, brokenOff, taskAt}
+use Rattle.rules.specs.Types.{TaskSlot, ObjSlot, Delayed, Nobody, By, Kind, Unused, Queue, Mutex, WaitersOf, Asked, State}
+use Rattle.slots.specs.Objects.{kindAt}
+use Rattle.rules.specs.Tables.{freeSlot, freeObject, withTask, withObject}
+use Rattle.rules.specs.Asking.{is}
+use Rattle.rules.specs.Lines.{first, toTail, leaves}
+use Rattle.rules.specs.Waits.{later, readied, blocked, waitFor}
+use Rattle.rules.specs.Loans.{newPriority, lent, ownAgain}
+use Rattle.rules.specs.Ticks.{ticked, held, released}
+use Rattle.rules.specs.Items.{sentTo, receivedFrom}
+
+-- 1: "lowest free slot; ready"
+unfoldable pub created : State → ℕ → State
+created k p = toTail (withTask k (task (freeSlot (k .tasks))) (readyAt p)) (task (freeSlot (k .tasks)))
+
+-- 2: "leaves any wait; slot is free and used again"
+unfoldable pub deleted : State → TaskSlot → State
+deleted k t = leaves (withTask k t freeTask) t
+
+-- 3: "if delayed or waiting, leaves that with outcome 3; if ready, outcome stays; already suspended: nothing changes"
+unfoldable pub suspended : State → TaskSlot → State
+suspended k t =
+    if isListed (taskAt (k .tasks) t .place) then leaves (withTask k t (brokenOff (taskAt (k .tasks) t))) t else k
+
+-- 4: "made ready"
+unfoldable pub resumed : State → TaskSlot → State
+resumed k t = readied k t (taskAt (k .tasks) t .outcome)
+
+-- 7: "the head of its line goes to the tail"
+unfoldable pub yielded : State → State
+yielded k = toTail k (k .running)
+
+-- 6: "0: as yield; else delayed"
+unfoldable pub delayed : State → ℕ → State
+delayed k n = if eqb n 0 then yielded k else blocked k (Delayed (later (k .tick) n))
+
+-- 10: "lowest free object; empty, first 0"
+unfoldable pub queueMade : State → ℕ → ℕ → State
+queueMade k c s = withObject k (object (freeObject (k .objects))) (Queue (record { capacity = c; size = s; first = 0; count = 0 }))
+
+-- 11: "lowest free object"
+unfoldable pub mutexMade : State → State
+mutexMade k = withObject k (object (freeObject (k .objects))) (Mutex Nobody)
+
+-- 12: "items in it are dropped"
+unfoldable pub removed : State → ObjSlot → State
+removed k o = withObject k o Unused
+
+-- 15: "A free mutex becomes the caller's. Held by another: the caller waits, and the holder's effective priority becomes the larger of the two effective ones."
+abbrev pub takenFrom : State → ObjSlot → Kind → ℕ → State
+takenFrom k o Unused w = k
+takenFrom k o (Queue q) w = k
+takenFrom k o (Mutex Nobody) w = withObject k o (Mutex (By (k .running)))
+takenFrom k o (Mutex (By h)) w = waitFor (lent k h) o w
+
+unfoldable pub taken : State → ObjSlot → ℕ → State
+taken k o w = takenFrom k o (kindAt (k .objects) o) w
+
+-- 16: "The first waiter becomes holder and is made ready, outcome 1; with none, the mutex is free. A giver now holding none gets its own priority back."
+abbrev pub handedTo : State → ObjSlot → List TaskSlot → State
+handedTo k o [] = withObject k o (Mutex Nobody)
+handedTo k o (t ∷ l) = withObject (readied k t 1) o (Mutex (By t))
+
+unfoldable pub handedOn : State → ObjSlot → State
+handedOn k o = handedTo k o (first k (WaitersOf o))
+
+unfoldable pub given : State → ObjSlot → State
+given k o = ownAgain (handedOn k o) (k .running)
+
+-- the whole table, by the call's number
+unfoldable pub effect : State → Asked → State
+effect k a =
+    if is 1 a then created k (a .priority)
+    else if is 2 a then deleted k (a .task)
+    else if is 3 a then suspended k (a .task)
+    else if is 4 a then resumed k (a .task)
+    else if is 5 a then newPriority k (a .task) (a .priority)
+    else if is 6 a then delayed k (a .ticks)
+    else if is 7 a then yielded k
+    else if is 8 a then held k
+    else if is 9 a then released k
+    else if is 10 a then queueMade k (a .capacity) (a .size)
+    else if is 11 a then mutexMade k
+    else if is 12 a then removed k (a .object)
+    else if is 13 a then sentTo k (a .object) (kindAt (k .objects) (a .object)) (a .wait)
+    else if is 14 a then receivedFrom k (a .object) (kindAt (k .objects) (a .object)) (a .wait)
+    else if is 15 a then taken k (a .object) (a .wait)
+    else if is 16 a then given k (a .object)
+    else ticked k

@@ -1,0 +1,15 @@
+pub mod State
+pub mod Types
+pub mod Tables
+pub mod Lines
+pub mod Sound
+pub mod Sentences
+pub mod Asking
+pub mod Refusals
+pub mod Waits
+pub mod Loans
+pub mod Ticks
+pub mod Items
+pub mod Effects
+pub mod Step
+pub mod Session

@@ -1,0 +1,53 @@
+-- The tick: count and wakes, the turn of the line; and the release that runs pended ticks.
+use Prim.Native.Nat.{ℕ, _+_, _-_, min}
+use mathlib.Core.List.{List}
+use lib.Dec.{eqb, ltb}
+use Rattle.lists.specs.Lists.{foldl, upTo}
+use Rattle.numbers.specs.Numbers.{byNumber}
+use Rattle.order.specs.Order.{listed}
+use Rattle.slots.specs.Places.{wakesAt, outcomeDue, away}
+use Rattle.rules.specs.Types.{TaskSlot, Task, State}
+use Rattle.slots.specs.Tasks.{taskAt}
+use Rattle.rules.specs.Tables.{withTick, withHold}
+use Rattle.rules.specs.Lines.{level, toTail}
+use Rattle.rules.specs.Sound.{noHigher}
+use Rattle.rules.specs.Waits.{later, readied}
+
+-- the task t, made ready if it is due
+unfoldable pub wokenIfDue : State → TaskSlot → State
+wokenIfDue k t =
+    if wakesAt (k .tick) (taskAt (k .tasks) t .place)
+    then readied k t (outcomeDue (taskAt (k .tasks) t .place))
+    else k
+
+-- of those that l lists the due are made ready, in its order
+unfoldable pub wakes : State → List TaskSlot → State
+wakes k l = foldl wokenIfDue k l
+
+-- "the count goes up, then the due tasks are made ready in order of task number"
+unfoldable pub oneTick : State → State
+oneTick k = wakes (withTick k (later (k .tick) 1)) (byNumber 16)
+
+-- how many ticks pass before the one on which a task is next due; 4,294,967,295 where none has a wake tick
+unfoldable pub untilDue : ℕ → List Task → ℕ
+untilDue now ts = foldl (λ n x. min n (away now (x .place))) 4294967295 ts
+
+-- "then, if no higher line is occupied, the running task goes to the tail of its line"
+unfoldable pub turned : State → State
+turned k = if noHigher (k .tasks) (level (k .tasks) (k .running)) (listed (k .order)) then toTail k (k .running) else k
+
+-- 17: "With a hold, pended goes up by one. Else the count goes up, .."
+unfoldable pub ticked : State → State
+ticked k = if ltb 0 (k .hold) then withHold k (k .hold) (k .pended + 1) else turned (oneTick k)
+
+-- "each pended tick's count and wakes in turn, without the turn of the line"
+unfoldable pub ticks : ℕ → State → State
+ticks n k = upTo (λ x i. oneTick x) n k
+
+-- 9: "Release to depth 0 runs each pended tick's count and wakes in turn"
+unfoldable pub released : State → State
+released k = if eqb (k .hold) 1 then ticks (k .pended) (withHold k 0 0) else withHold k (k .hold - 1) (k .pended)
+
+-- 8: "depth up"
+unfoldable pub held : State → State
+held k = withHold k (k .hold + 1) (k .pended)

@@ -1,0 +1,27 @@
+-- The records and variants that the rules speak of, under one name.
+pub use Rattle.numbers.specs.declared.TaskSlot.{TaskSlot}
+pub use Rattle.numbers.specs.declared.ObjSlot.{ObjSlot}
+pub use Rattle.calls.specs.declared.TaskNo.{TaskNo}
+pub use Rattle.calls.specs.declared.Call.{Call}
+pub use Rattle.calls.specs.declared.Call.the-variants.{Create, Delete, Suspend, Resume, SetPriority, Delay, Yield, Hold, Release, MakeQueue, MakeMutex, Remove, Send, Receive, Take, Give, Tick}
+pub use Rattle.calls.specs.declared.Names.{Names}
+pub use Rattle.calls.specs.declared.Names.the-variants.{Nothing, Task as ATask, Object as AnObject, Queue as AQueue, Mutex as AMutex}
+pub use Rattle.calls.specs.declared.Asked.{Asked}
+pub use Rattle.cuts.specs.declared.Cut.{Cut}
+pub use Rattle.order.specs.declared.Order.{Order}
+pub use Rattle.slots.specs.declared.Wake.{Wake}
+pub use Rattle.slots.specs.declared.Wake.the-variants.{Never, At}
+pub use Rattle.slots.specs.declared.Place.{Place}
+pub use Rattle.slots.specs.declared.Place.the-variants.{Free, Ready, Delayed, Waiting, Suspended}
+pub use Rattle.slots.specs.declared.Task.{Task}
+pub use Rattle.slots.specs.declared.Ring.{Ring}
+pub use Rattle.slots.specs.declared.Holder.{Holder}
+pub use Rattle.slots.specs.declared.Holder.the-variants.{Nobody, By}
+pub use Rattle.slots.specs.declared.Kind.{Kind}
+pub use Rattle.slots.specs.declared.Kind.the-variants.{Unused, Queue, Mutex}
+pub use Rattle.slots.specs.declared.Object.{Object}
+pub use Rattle.slots.specs.declared.Who.{Who}
+pub use Rattle.slots.specs.declared.Who.the-variants.{AllReady, WaitersOf}
+pub use Rattle.slots.specs.declared.Lead.{Lead}
+pub use Rattle.slots.specs.declared.Lead.the-variants.{Open, Best}
+pub use Rattle.rules.specs.State.{State, Seen, Outlet, toWaiter, toQueue, toCaller}

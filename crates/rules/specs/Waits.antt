@@ -1,0 +1,27 @@
+-- Waits: how a task is made ready, and how the caller begins to wait.
+use Prim.Native.Nat.{ℕ, _+_, _%_, _^_}
+use lib.Dec.{leb}
+use Rattle.slots.specs.Tasks.{placed, taskAt}
+use Rattle.rules.specs.Types.{TaskSlot, ObjSlot, Wake, Never, At, Place, Ready, Waiting, State}
+use Rattle.rules.specs.Tables.{withTask}
+use Rattle.rules.specs.Lines.{toTail}
+
+-- "The wake tick is the tick count plus the wait, wrapped at 2^32"
+abbrev pub later : ℕ → ℕ → ℕ
+later now n = (now + n) % 2 ^ 32
+
+-- "1 to 4,294,967,294 means that many ticks; 4,294,967,295 means for ever"; "a wait for ever has no wake tick"
+abbrev pub wakeOf : ℕ → ℕ → Wake
+wakeOf now w = if leb 4294967295 w then Never else At (later now w)
+
+-- "Made ready means put at the tail of the line", with an outcome
+unfoldable pub readied : State → TaskSlot → ℕ → State
+readied k t n = toTail (withTask k t (placed (taskAt (k .tasks) t) Ready n)) t
+
+-- "A delay or wait sets it to 0 as it begins": the caller's outcome; it arrives last
+unfoldable pub blocked : State → Place → State
+blocked k p = toTail (withTask k (k .running) (placed (taskAt (k .tasks) (k .running)) p 0)) (k .running)
+
+-- "the caller waits" on an object
+unfoldable pub waitFor : State → ObjSlot → ℕ → State
+waitFor k o w = blocked k (Waiting o (wakeOf (k .tick) w))
