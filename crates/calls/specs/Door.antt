@@ -1,6 +1,7 @@
 -- The door: a number that a caller writes names a slot, or none; and a slot's number is what a caller reads. Behind it there are slots alone.
 use Prim.Native.Nat.{ℕ}
 use lib.Dec.{ltb}
+use Rattle.lists.specs.Choice.{if_then_else_}
 use Rattle.numbers.specs.declared.TaskSlot.{TaskSlot}
 use Rattle.numbers.specs.declared.ObjSlot.{ObjSlot}
 use Rattle.numbers.specs.Numbers.{task, object}

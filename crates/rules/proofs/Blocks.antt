@@ -7,6 +7,7 @@ use native.Mathlib.Omega.{arith}
 use lib.Dec.{eqb, leb}
 use lib.ListN.{set}
 use borrow.Author.Tests.{eqb-true, eqb-false, le-leb}
+use Rattle.lists.specs.Choice.{if_then_else_}
 use Rattle.lists.proofs.Bools.{and-intro}
 use Rattle.numbers.specs.Numbers.{idle, sameTask}
 use Rattle.order.specs.Order.{listed, without}

@@ -7,6 +7,7 @@ use native.Mathlib.Omega.{arith}
 use lib.Dec.{eqb, ltb, leb}
 use lib.ListN.{length}
 use borrow.Author.Tests.{eqb-false, eq-eqb, ltb-true, ltb-false, leb-false}
+use Rattle.lists.specs.Choice.{if_then_else_}
 use Rattle.lists.specs.Lists.{isNone}
 use Rattle.lists.proofs.Bools.{on, or-off}
 use Rattle.numbers.specs.Numbers.{object, idle}

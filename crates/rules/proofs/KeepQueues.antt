@@ -6,6 +6,7 @@ use mathlib.Core.List.{List, [], _∷_}
 use native.Mathlib.Omega.{arith}
 use lib.Dec.{eqb, ltb}
 use borrow.Author.Tests.{eqb-true, eqb-false, eq-eqb, ne-eqb, ltb-true, ltb-false}
+use Rattle.lists.specs.Choice.{if_then_else_}
 use Rattle.lists.proofs.Bools.{on, not-off}
 use Rattle.calls.specs.Asked.{onObject}
 use Rattle.slots.specs.Places.{waitsOn}

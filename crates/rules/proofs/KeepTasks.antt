@@ -5,6 +5,7 @@ use mathlib.Core.Bool.{Bool, true, false, not, _&&_, false≢true}
 use native.Mathlib.Omega.{arith}
 use lib.Dec.{eqb, ltb, leb}
 use borrow.Author.Tests.{ne-eqb, leb-false, eqb-true, eqb-false, eq-eqb, ltb-false, lt-ltb, le-leb}
+use Rattle.lists.specs.Choice.{if_then_else_}
 use Rattle.lists.specs.Lists.{larger}
 use Rattle.lists.proofs.Bools.{and-intro, on, not-off, or-off}
 use Rattle.numbers.specs.Numbers.{task, idle, isIdle}

@@ -7,6 +7,7 @@ use native.Mathlib.Omega.{arith}
 use lib.Dec.{eqb, ltb}
 use lib.ListN.{length}
 use borrow.Author.Tests.{eqb-true, eqb-false, ltb-true, ltb-false, lt-ltb}
+use Rattle.lists.specs.Choice.{if_then_else_}
 use Rattle.lists.specs.Lists.{foldl, upTo}
 use Rattle.lists.proofs.Bools.{and-left, and-intro, not-off, or-off}
 use Rattle.numbers.specs.Numbers.{task, sameTask, byNumber}

@@ -3,6 +3,7 @@ use Prim.Native.Nat.{ℕ}
 use mathlib.Core.Path.{_≡_, refl, _∙_}
 use mathlib.Core.Bool.{Bool, true, false, _&&_}
 use lib.Dec.{eqb}
+use Rattle.lists.specs.Choice.{if_then_else_}
 use Rattle.lists.proofs.Bools.{and-left}
 use Rattle.order.specs.Order.{listed}
 use Rattle.order.specs.Tidy.{count}

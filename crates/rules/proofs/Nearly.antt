@@ -5,6 +5,7 @@ use mathlib.Core.Bool.{Bool, true, false}
 use mathlib.Core.List.{List, [], _∷_}
 use native.Mathlib.Omega.{arith}
 use lib.ListN.{length, length-take, length-append, length-replicate}
+use Rattle.lists.specs.Choice.{if_then_else_}
 use Rattle.lists.specs.Lists.{head}
 use Rattle.numbers.specs.Numbers.{task, idle}
 use Rattle.order.specs.Order.{listed, ordered}

@@ -6,6 +6,7 @@ use native.Mathlib.Omega.{arith}
 use lib.Dec.{eqb, ltb, leb}
 use lib.ListN.{length}
 use borrow.Author.Tests.{eqb-true, eqb-false, ltb-false, ltb-true, lt-ltb, not-false}
+use Rattle.lists.specs.Choice.{if_then_else_}
 use Rattle.lists.proofs.Bools.{or-off}
 use Rattle.slots.specs.Places.{isReady}
 use Rattle.rules.specs.Types.{Task, Ring, Kind, Queue, Asked, State}

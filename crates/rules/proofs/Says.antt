@@ -8,6 +8,7 @@ use lib.Dec.{eqb, ltb, leb}
 use lib.ListN.{length, getD, length-take}
 use lib.Seq.{getD-take}
 use borrow.Author.Tests.{eqb-true, eqb-false, eq-eqb, ne-eqb, ltb-true, ltb-false, lt-ltb, leb-true, le-leb}
+use Rattle.lists.specs.Choice.{if_then_else_}
 use Rattle.lists.specs.Lists.{allBelow, kept, head}
 use Rattle.lists.proofs.Tests.{any-at, any-none, kept-none}
 use Rattle.lists.proofs.Bools.{and-left, and-right, and-intro, or-left, or-right, or-second, off, not-off, untrue, at, also, none, all-below, below-all}

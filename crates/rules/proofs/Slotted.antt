@@ -8,6 +8,7 @@ use lib.Dec.{eqb}
 use lib.ListN.{length, set, length-set}
 use lib.Seq.{getD-set-same, getD-set-other, set-getD}
 use borrow.Author.Tests.{eqb-true, eqb-false}
+use Rattle.lists.specs.Choice.{if_then_else_}
 use Rattle.numbers.specs.Numbers.{task, idle, sameTask}
 use Rattle.order.specs.Order.{listed, ordered, without}
 use Rattle.order.specs.Tidy.{count}

@@ -8,6 +8,7 @@ use native.Mathlib.Omega.{arith}
 use lib.Dec.{eqb, ltb, leb}
 use lib.ListN.{length}
 use borrow.Author.Tests.{leb-true, leb-false}
+use Rattle.lists.specs.Choice.{if_then_else_}
 use Rattle.lists.specs.Lists.{kept, head}
 use Rattle.lists.proofs.Bools.{and-left}
 use Rattle.order.specs.Order.{listed}

@@ -2,6 +2,7 @@
 use Prim.Native.Nat.{ℕ}
 use mathlib.Core.Bool.{Bool, not, _||_}
 use lib.Dec.{eqb}
+use Rattle.lists.specs.Choice.{if_then_else_}
 use Rattle.rules.specs.Types.{Asked, State}
 use Rattle.rules.specs.Tables.{freeSlot, freeObject}
 

@@ -2,6 +2,7 @@
 use Prim.Native.Nat.{ℕ, _+_, _-_, _*_, _%_}
 use mathlib.Core.List.{List, [], _∷_}
 use lib.Dec.{eqb, ltb}
+use Rattle.lists.specs.Choice.{if_then_else_}
 use Rattle.items.specs.Bytes.{bytesAt, putAt}
 use Rattle.rules.specs.Types.{TaskSlot, ObjSlot, Ring, Kind, Unused, Queue, Mutex, WaitersOf, Outlet, toWaiter, toQueue, toCaller, State}
 use Rattle.rules.specs.Tables.{withObject}

@@ -2,6 +2,7 @@
 use Prim.Native.Nat.{ℕ}
 use mathlib.Core.List.{List, [], _∷_, _++_}
 use lib.Dec.{eqb}
+use Rattle.lists.specs.Choice.{if_then_else_}
 use Rattle.lists.specs.Lists.{larger, kept, head}
 use Rattle.order.specs.Order.{listed, ordered, without}
 use Rattle.slots.specs.Tasks.{inLine, taskAt}

@@ -2,6 +2,7 @@
 use Prim.Native.Nat.{ℕ}
 use mathlib.Core.Bool.{Bool}
 use lib.Dec.{eqb}
+use Rattle.lists.specs.Choice.{if_then_else_}
 use Rattle.lists.specs.Lists.{larger}
 use Rattle.numbers.specs.Numbers.{sameTask}
 use Rattle.slots.specs.Places.{isReady}

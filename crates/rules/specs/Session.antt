@@ -4,6 +4,7 @@ use mathlib.Core.Bool.{Bool, _&&_}
 use mathlib.Core.List.{List, [], _∷_, _++_}
 use lib.Dec.{eqb, ltb}
 use lib.ListN.{length, take}
+use Rattle.lists.specs.Choice.{if_then_else_}
 use Rattle.calls.specs.Door.{taskNo}
 use Rattle.cuts.specs.Keeping.{kept, ended, isEmpty}
 use Rattle.journal.specs.declared.Read.{Read}

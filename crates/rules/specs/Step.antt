@@ -3,6 +3,7 @@ use Prim.Native.Nat.{ℕ}
 use mathlib.Core.List.{List}
 use lib.Dec.{eqb}
 use lib.ListN.{length}
+use Rattle.lists.specs.Choice.{if_then_else_}
 use Rattle.calls.specs.Door.{number}
 use Rattle.calls.specs.Asked.{asked}
 use Rattle.calls.specs.Said.{Saying, says, done, made, waiting, refused}

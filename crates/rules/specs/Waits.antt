@@ -1,6 +1,7 @@
 -- Waits: how a task is made ready, and how the caller begins to wait.
 use Prim.Native.Nat.{ℕ, _+_, _%_, _^_}
 use lib.Dec.{leb}
+use Rattle.lists.specs.Choice.{if_then_else_}
 use Rattle.slots.specs.Tasks.{placed, taskAt}
 use Rattle.rules.specs.Types.{TaskSlot, ObjSlot, Wake, Never, At, Place, Ready, Waiting, State}
 use Rattle.rules.specs.Tables.{withTask}
