@@ -3,6 +3,7 @@ mod door;
 mod named;
 mod table;
 
+pub use door::number;
 use numbers::ObjSlot;
 use numbers::TaskSlot;
 
@@ -50,7 +51,7 @@ pub enum Names {
 
 // A call behind the door: its number and arguments, each in its own field, and slots where the caller wrote numbers. An argument that the call does not have stands at a value that is never turned away.
 pub struct Asked {
-    pub number: u32,
+    pub number: u8,
     pub names: Names,
     pub task: TaskSlot,
     pub object: ObjSlot,

@@ -12,7 +12,7 @@ use numbers::TaskSlot;
 
 impl Asked {
     // A call that names nothing.
-    pub fn nothing(number: u32, priority: u32, ticks: u32, capacity: u32, size: u32) -> Asked
+    pub fn nothing(number: u8, priority: u32, ticks: u32, capacity: u32, size: u32) -> Asked
         ensures { λ r. ⌜ r ≡ nothing number priority ticks capacity size ⌝ }
     {
         Asked {
@@ -28,7 +28,7 @@ impl Asked {
         }
     }
 
-    pub fn on_task(number: u32, t: TaskNo, priority: u32) -> Asked
+    pub fn on_task(number: u8, t: TaskNo, priority: u32) -> Asked
         ensures { λ r. ⌜ r ≡ onTask number (taskSlot t) priority ⌝ }
     {
         Asked {
@@ -44,7 +44,7 @@ impl Asked {
         }
     }
 
-    pub fn on_object(number: u32, names: Names, o: ObjNo, wait: u32) -> Asked
+    pub fn on_object(number: u8, names: Names, o: ObjNo, wait: u32) -> Asked
         ensures { λ r. ⌜ r ≡ onObject number names (objSlot o) wait ⌝ }
     {
         Asked {

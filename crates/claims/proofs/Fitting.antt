@@ -25,7 +25,7 @@ use Rattle.kernel.specs.Step.{answered, accepted, turnedAway, step}
 use Rattle.kernel.specs.Session.{Run, run, begun, closed}
 use Rattle.kernel.specs.Promises.{Ran, Steps, Answers, Closes}
 use Rattle.promises.proofs.LineForLine.{closed-stays}
-use Rattle.promises.proofs.Unique.{no-second-step, no-second-block, no-second-end}
+use Rattle.claims.proofs.Unique.{no-second-step, no-second-block, no-second-end}
 use Rattle.claims.specs.Types.{TaskNo, Call, Answer, Asked, Read, Written, Count, NotWritten, Kernel, Step, Session, Served}
 use Rattle.claims.specs.Claims.{OneFits, Total}
 

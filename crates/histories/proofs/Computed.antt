@@ -5,16 +5,19 @@ use Rattle.calls.specs.Asked.{asked}
 use Rattle.order.specs.Order.{ordered, without}
 use Rattle.order.specs.Tidy.{count, tidy}
 use Rattle.items.specs.Bytes.{putAt}
-use Rattle.kernel.specs.Effects.{created, deleted, suspended, resumed, yielded, delayed, queueMade, mutexMade, removed, taken, handedOn, given, effect}
-use Rattle.kernel.specs.Items.{itemAt, outlet, sent, storeSent, received, storeReceived}
-use Rattle.kernel.specs.Lines.{line, those, highest, leader, first, chosen, toTail, toHead, leaves}
-use Rattle.kernel.specs.Loans.{moved, movedIf, prioritized, newPriority, lent, ownAgain}
-use Rattle.kernel.specs.Refusals.{outOfRange, namesNone, wrongSize, notForIdle, notWithHold, noSlot, heldOrWaited, inUse, notHis, hisAlready, notSuspended, mustWait, noDepth, noTick, table, laterRow, refusal}
-use Rattle.kernel.specs.Sound.{noHigher, runsFine, sound}
-use Rattle.kernel.specs.Step.{stored, answered, accepted, step}
-use Rattle.kernel.specs.Tables.{fresh, taskAt, kindAt, holds, freeSlot, freeObject}
-use Rattle.kernel.specs.Ticks.{wokenIfDue, wakes, byNumber, oneTick, turned, ticked, ticks, released, held}
-use Rattle.kernel.specs.Waits.{readied, blocked, waitFor}
+use Rattle.rules.specs.Effects.{created, deleted, suspended, resumed, yielded, delayed, queueMade, mutexMade, removed, taken, handedOn, given, effect}
+use Rattle.rules.specs.Items.{itemAt, outlet, sent, storeSent, received, storeReceived}
+use Rattle.rules.specs.Lines.{line, those, highest, leader, first, chosen, toTail, toHead, leaves}
+use Rattle.rules.specs.Loans.{moved, movedIf, prioritized, newPriority, lent, ownAgain}
+use Rattle.rules.specs.Refusals.{outOfRange, namesNone, wrongSize, notForIdle, notWithHold, noSlot, heldOrWaited, inUse, notHis, hisAlready, notSuspended, mustWait, noDepth, noTick, table, laterRow, refusal}
+use Rattle.rules.specs.Sound.{noHigher, runsFine, sound}
+use Rattle.rules.specs.Step.{stored, answered, accepted, step}
+use Rattle.slots.specs.Tasks.{taskAt}
+use Rattle.slots.specs.Objects.{kindAt}
+use Rattle.rules.specs.Tables.{fresh, holds, freeSlot, freeObject}
+use Rattle.numbers.specs.Numbers.{byNumber}
+use Rattle.rules.specs.Ticks.{wokenIfDue, wakes, oneTick, turned, ticked, ticks, released, held}
+use Rattle.rules.specs.Waits.{readied, blocked, waitFor}
 use Rattle.histories.specs.Moments.{tasksBelow}
 use Rattle.histories.specs.Borrowed.{largest, givenAt, lastGiven, lentAt, counted, due}
 use Rattle.histories.specs.Tales.{shownFrom, shown, twoGives, setWithLoan, timeRunsOut, handedWithWaiter, lendsBorrowed, refusedChange, slotUsedAgain}

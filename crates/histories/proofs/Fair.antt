@@ -5,17 +5,18 @@ use mathlib.Core.List.{[], map}
 use Rattle.lists.specs.Lists.{larger}
 use Rattle.lists.proofs.Bools.{and-left, and-right, off, untrue}
 use Rattle.slots.specs.Places.{isFree, waited}
-use Rattle.kernel.specs.Tables.{taskAt, kindAt}
-use Rattle.kernel.specs.Lines.{level}
-use Rattle.kernel.specs.Sentences.{Holds}
-use Rattle.kernel.proofs.Says.{held-one}
-use Rattle.histories.specs.Types.{TaskNo, ObjNo}
+use Rattle.slots.specs.Tasks.{taskAt}
+use Rattle.slots.specs.Objects.{kindAt}
+use Rattle.rules.specs.Lines.{level}
+use Rattle.rules.specs.Sentences.{Holds}
+use Rattle.rules.proofs.Says.{held-one}
+use Rattle.histories.specs.Types.{TaskSlot, ObjSlot}
 use Rattle.histories.specs.Moments.{Moment, hasMutex, waitsIn, begins, tasksBelow}
 use Rattle.histories.specs.Borrowed.{largest, isCreated, isChanged, givenAt, lastOf, lends, lentAt}
 use Rattle.histories.proofs.Largest.{larger-none, none-pass}
 use Rattle.histories.proofs.QuietCalls.{Quietly}
 
-pub record Fair (m : Moment) (t : TaskNo) : Type 0 where
+pub record Fair (m : Moment) (t : TaskSlot) : Type 0 where
   -- its own priority is the one given then, or the one before
   pub own : isFree (taskAt (m .after .tasks) t .place) ≡ false → taskAt (m .after .tasks) t .own ≡ lastOf (givenAt t m) (taskAt (m .before .tasks) t .own)
   -- who is given none was there before
@@ -26,16 +27,16 @@ pub record Fair (m : Moment) (t : TaskNo) : Type 0 where
   pub first : hasMutex (m .after) t ≡ true → hasMutex (m .before) t ≡ false → level (m .after .tasks) t ≡ level (m .before .tasks) t
 
 -- the object that u waits on after the moment
-abbrev pub on : Moment → TaskNo → ObjNo
+abbrev pub on : Moment → TaskSlot → ObjSlot
 on m u = waited (taskAt (m .after .tasks) u .place)
 
 -- who lends waits afterwards, and not before, on a mutex of t
-pub record Lends (t : TaskNo) (m : Moment) (u : TaskNo) : Type 0 where
+pub record Lends (t : TaskSlot) (m : Moment) (u : TaskSlot) : Type 0 where
   pub now : waitsIn (m .after) u (on m u) ≡ true
   pub not-before : waitsIn (m .before) u (on m u) ≡ false
   pub his : Holds (m .after .objects) t (on m u)
 
-pub lending : (t : TaskNo) (m : Moment) (u : TaskNo) → lends t m u ≡ true → Lends t m u
+pub lending : (t : TaskSlot) (m : Moment) (u : TaskSlot) → lends t m u ≡ true → Lends t m u
 lending t m u e =
     let b : begins m u (on m u) ≡ true = and-left (begins m u (on m u)) _ e in
     record {
@@ -44,15 +45,15 @@ lending t m u e =
       his = held-one t (kindAt (m .after .objects) (on m u)) (and-right (begins m u (on m u)) _ e);
     }
 
-pub none-given : (t : TaskNo) (m : Moment) → isCreated t m ≡ false → isChanged t m ≡ false → givenAt t m ≡ []
+pub none-given : (t : TaskSlot) (m : Moment) → isCreated t m ≡ false → isChanged t m ≡ false → givenAt t m ≡ []
 unfolding givenAt
 none-given t m a b = rw (a, b)
 
-pub none-lent : (t : TaskNo) (m : Moment) → ((u : TaskNo) → Lends t m u → ⊥) → lentAt t m ≡ []
+pub none-lent : (t : TaskSlot) (m : Moment) → ((u : TaskSlot) → Lends t m u → ⊥) → lentAt t m ≡ []
 unfolding lentAt
 none-lent t m n = ap (map (level (m .after .tasks))) (none-pass (level (m .after .tasks)) (lends t m) (λ u. untrue _ (λ e. n u (lending t m u e))) (tasksBelow 16))
 
-module _ (m : Moment) (t : TaskNo) where
+module _ (m : Moment) (t : TaskSlot) where
   -- nothing given, and quiet
   pub quiet-fair : givenAt t m ≡ [] → Quietly t (m .before) (m .after) → Fair m t
   unfolding largest
@@ -64,7 +65,7 @@ module _ (m : Moment) (t : TaskNo) where
         first = λ a b. q .effective;
       }
     where
-      calm : (u : TaskNo) → Lends t m u → ⊥
+      calm : (u : TaskSlot) → Lends t m u → ⊥
       calm u l = false≢true (sym (l .not-before) ∙ q .calm u (on m u) (l .his) (l .now))
 
   -- without a mutex afterwards the own priority is all

@@ -8,27 +8,28 @@ use lib.ListN.{length, set, length-set}
 use borrow.Author.Tests.{eqb-true, eqb-false, eq-eqb}
 use Rattle.lists.specs.Choice.{if_then_else_}
 use Rattle.lists.specs.Lists.{larger}
-use Rattle.calls.specs.Numbers.{sameTask}
+use Rattle.numbers.specs.Numbers.{sameTask}
+use Rattle.calls.specs.Door.{objSlot}
 use Rattle.calls.specs.Asked.{asked}
 use Rattle.calls.specs.Said.{Saying}
 use Rattle.order.proofs.Lines.{one-number}
 use Rattle.slots.specs.Places.{isFree, waitsOn}
-use Rattle.slots.specs.Tasks.{placed, ranked}
-use Rattle.slots.specs.Objects.{heldBy}
-use Rattle.kernel.specs.Tables.{taskAt, kindAt, holds}
-use Rattle.kernel.specs.Lines.{level, toTail}
-use Rattle.kernel.specs.Sentences.{Holds, Sound}
-use Rattle.kernel.specs.Refusals.{hisAlready}
-use Rattle.kernel.specs.Waits.{wakeOf, blocked, waitFor}
-use Rattle.kernel.specs.Loans.{prioritized, lent, ownAgain}
-use Rattle.kernel.specs.Effects.{takenFrom, taken, handedOn, given}
-use Rattle.kernel.proofs.Says.{some-holds}
-use Rattle.kernel.proofs.Passes.{Passed}
-use Rattle.kernel.proofs.Slotted.{at-same, at-other}
-use Rattle.kernel.proofs.Blocks.{Same, prioritized-same, prioritized-tasks}
-use Rattle.kernel.proofs.Keeps.{exists-low, ready-low}
+use Rattle.slots.specs.Tasks.{placed, ranked, taskAt}
+use Rattle.slots.specs.Objects.{heldBy, kindAt}
+use Rattle.rules.specs.Tables.{holds}
+use Rattle.rules.specs.Lines.{level, toTail}
+use Rattle.rules.specs.Sentences.{Holds, Sound}
+use Rattle.rules.specs.Refusals.{hisAlready}
+use Rattle.rules.specs.Waits.{wakeOf, blocked, waitFor}
+use Rattle.rules.specs.Loans.{prioritized, lent, ownAgain}
+use Rattle.rules.specs.Effects.{takenFrom, taken, handedOn, given}
+use Rattle.rules.proofs.Says.{some-holds}
+use Rattle.rules.proofs.Passes.{Passed}
+use Rattle.rules.proofs.Slotted.{at-same, at-other}
+use Rattle.rules.proofs.Blocks.{Same, prioritized-same, prioritized-tasks}
+use Rattle.rules.proofs.Keeps.{exists-low, ready-low}
 use Rattle.promises.proofs.Histories.{exists-there}
-use Rattle.histories.specs.Types.{TaskNo, ObjNo, Wake, Place, Free, Ready, Delayed, Waiting, Suspended, Task, Nobody, By, Kind, Unused, Queue, Mutex, Kernel, Take, Give}
+use Rattle.histories.specs.Types.{TaskSlot, ObjNo, ObjSlot, Wake, Place, Waiting, Task, Nobody, By, Kind, Unused, Queue, Mutex, State, Take, Give}
 use Rattle.histories.specs.Moments.{Moment, waitsIn}
 use Rattle.histories.specs.Borrowed.{largest, givenAt, lends, lentAt}
 use Rattle.histories.proofs.Largest.{larger-max, one-passes}
@@ -38,32 +39,35 @@ use Rattle.histories.proofs.Fair.{Fair, Lends, lending, on, none-given,
 use Rattle.histories.proofs.FairTasks.{moment, that-or-other, places-kept, ranked-at, prioritized-quiet}
 
 -- a task's effective priority changed leaves every own one
-owns-kept : (k : Kernel) (t : TaskNo) (eff : ℕ) (v : TaskNo) → taskAt (prioritized k t (taskAt (k .tasks) t .own) eff .tasks) v .own ≡ taskAt (k .tasks) v .own
+owns-kept : (k : State) (t : TaskSlot) (eff : ℕ) (v : TaskSlot) → taskAt (prioritized k t (taskAt (k .tasks) t .own) eff .tasks) v .own ≡ taskAt (k .tasks) v .own
 owns-kept k t eff v =
     ap (λ ts. taskAt ts v .own) (prioritized-tasks k t (taskAt (k .tasks) t .own) eff)
     ∙ each (k .tasks) t (ranked (taskAt (k .tasks) t) (taskAt (k .tasks) t .own) eff) (λ v y. y .own ≡ taskAt (k .tasks) v .own) refl (λ v. refl) v
 
 -- who waits on a mutex of t, and did not before, lends
-lends-on : (t : TaskNo) (m : Moment) (u : TaskNo) (o : ObjNo) (w : Wake) → taskAt (m .after .tasks) u .place ≡ Waiting o w → waitsIn (m .before) u o ≡ false → Holds (m .after .objects) t o → lends t m u ≡ true
+lends-on : (t : TaskSlot) (m : Moment) (u : TaskSlot) (o : ObjSlot) (w : Wake) → taskAt (m .after .tasks) u .place ≡ Waiting o w → waitsIn (m .before) u o ≡ false → Holds (m .after .objects) t o → lends t m u ≡ true
 lends-on t m u o w e b h = rw (e, eq-eqb (o .0) (o .0) refl, b, h, eq-eqb (t .0) (t .0) refl)
 
-module _ (k : Kernel) (S : Sound k) (n : ℕ) (a : Saying) where
-  abbrev r : TaskNo
+module _ (k : State) (S : Sound k) (n : ℕ) (a : Saying) where
+  abbrev r : TaskSlot
   r = k .running
 
   caller-low : r .0 < 16
   caller-low = ready-low (k .tasks) r (S .task-slots) (S .runs)
 
   -- 15: take of a mutex that h holds
-  module _ (o : ObjNo) (w : ℕ) (P : Passed k (asked (Take o w)) n) (h : TaskNo) (kind : kindAt (k .objects) o ≡ Mutex (By h)) where
+  module _ (num : ObjNo) (w : ℕ) (P : Passed k (asked (Take num w)) n) (h : TaskSlot) (kind : kindAt (k .objects) (objSlot num) ≡ Mutex (By h)) where
+    abbrev o : ObjSlot
+    o = objSlot num
+
     abbrev eff : ℕ
     eff = larger (level (k .tasks) h) (level (k .tasks) r)
 
-    abbrev j : Kernel
+    abbrev j : State
     j = prioritized k h (taskAt (k .tasks) h .own) eff
 
     abbrev wait : Moment
-    wait = moment k (Take o w) a (waitFor j o w)
+    wait = moment k (Take num w) a (waitFor j o w)
 
     s : Same j k
     s = prioritized-same k h (taskAt (k .tasks) h .own) eff
@@ -85,7 +89,7 @@ module _ (k : Kernel) (S : Sound k) (n : ℕ) (a : Saying) where
     -- the tables afterwards
     tables : waitFor j o w .tasks ≡ set (j .tasks) (r .0) (placed (taskAt (j .tasks) r) place 0)
     unfolding waitFor blocked toTail
-    tables = ap (λ (v : TaskNo). set (j .tasks) (v .0) (placed (taskAt (j .tasks) v) place 0)) (s .running)
+    tables = ap (λ (v : TaskSlot). set (j .tasks) (v .0) (placed (taskAt (j .tasks) v) place 0)) (s .running)
 
     same-objects : waitFor j o w .objects ≡ k .objects
     unfolding waitFor blocked toTail
@@ -100,7 +104,7 @@ module _ (k : Kernel) (S : Sound k) (n : ℕ) (a : Saying) where
     caller-now : taskAt (waitFor j o w .tasks) r ≡ placed (taskAt (j .tasks) r) place 0
     caller-now = ap (λ ts. taskAt ts r) tables ∙ at-same (j .tasks) r (placed (taskAt (j .tasks) r) place 0) (omega (arith, caller-low, slots))
 
-    other-now : (v : TaskNo) → (v .0 ≡ r .0 → ⊥) → taskAt (waitFor j o w .tasks) v ≡ taskAt (j .tasks) v
+    other-now : (v : TaskSlot) → (v .0 ≡ r .0 → ⊥) → taskAt (waitFor j o w .tasks) v ≡ taskAt (j .tasks) v
     other-now v d = ap (λ ts. taskAt ts v) tables ∙ at-other (j .tasks) r (placed (taskAt (j .tasks) r) place 0) v d
 
     holder-now : taskAt (waitFor j o w .tasks) h ≡ ranked (taskAt (k .tasks) h) (taskAt (k .tasks) h .own) eff
@@ -113,7 +117,7 @@ module _ (k : Kernel) (S : Sound k) (n : ℕ) (a : Saying) where
     caller-lends : lends h wait r ≡ true
     caller-lends = lends-on h wait r o (wakeOf (j .tick) w) (ap (λ (x : Task). x .place) caller-now) (ap (waitsOn o) (S .runs)) still-his
 
-    only-caller : (v : TaskNo) → lends h wait v ≡ true → v ≡ r
+    only-caller : (v : TaskSlot) → lends h wait v ≡ true → v ≡ r
     only-caller v e = go (sameTask v r) refl
       where
         l : Lends h wait v
@@ -140,58 +144,61 @@ module _ (k : Kernel) (S : Sound k) (n : ℕ) (a : Saying) where
           first = λ b c. absurd (false≢true (sym c ∙ some-holds (k .objects) h o kind));
         }
 
-    others : (t : TaskNo) → (h .0 ≡ t .0 → ⊥) → Quietly t k (waitFor j o w)
+    others : (t : TaskSlot) → (h .0 ≡ t .0 → ⊥) → Quietly t k (waitFor j o w)
     others t d =
         onward (prioritized-tables t d)
-        (wait-quiet t (waitFor j o w .objects) j o w caller-there (λ q. let z : Mutex (By h) ≡ Mutex (By t) = sym still-his ∙ q in let y : h ≡ t = cc in d (ap (λ (v : TaskNo). v .0) y)))
+        (wait-quiet t (waitFor j o w .objects) j o w caller-there (λ q. let z : Mutex (By h) ≡ Mutex (By t) = sym still-his ∙ q in let y : h ≡ t = cc in d (ap (λ (v : TaskSlot). v .0) y)))
       where
-        prioritized-tables : (t : TaskNo) → (h .0 ≡ t .0 → ⊥) → Quiet t (waitFor j o w .objects) (k .tasks) (j .tasks)
+        prioritized-tables : (t : TaskSlot) → (h .0 ≡ t .0 → ⊥) → Quiet t (waitFor j o w .objects) (k .tasks) (j .tasks)
         prioritized-tables t d = subst (λ os. Quiet t os (k .tasks) (j .tasks)) (s .objects ∙ sym same-objects) (prioritized-quiet k t h (taskAt (k .tasks) h .own) eff d)
 
         caller-there : isFree (taskAt (j .tasks) (j .running) .place) ≡ false
         caller-there = ap isFree (places-kept k h (taskAt (k .tasks) h .own) eff (j .running) ∙ ap (λ v. taskAt (k .tasks) v .place) (s .running) ∙ S .runs)
 
-    wait-fair : (t : TaskNo) → Fair wait t
+    wait-fair : (t : TaskSlot) → Fair wait t
     unfolding asked
     wait-fair t = that-or-other h t (λ v. Fair wait v) holder-fair (λ d. quiet-fair wait t (none-given t wait refl refl) (others t d))
 
-  pub take-fair : (o : ObjNo) (w : ℕ) → Passed k (asked (Take o w)) n → (t : TaskNo) → Fair (moment k (Take o w) a (taken k o w)) t
+  pub take-fair : (num : ObjNo) (w : ℕ) → Passed k (asked (Take num w)) n → (t : TaskSlot) → Fair (moment k (Take num w) a (taken k (objSlot num) w)) t
   unfolding taken asked lent
-  take-fair o w P t = go (kindAt (k .objects) o) refl
+  take-fair num w P t = go (kindAt (k .objects) (objSlot num)) refl
     where
-      go : (x : Kind) → kindAt (k .objects) o ≡ x → Fair (moment k (Take o w) a (takenFrom k o x w)) t
+      go : (x : Kind) → kindAt (k .objects) (objSlot num) ≡ x → Fair (moment k (Take num w) a (takenFrom k (objSlot num) x w)) t
       go Unused e = quiet-fair _ t (none-given t _ refl refl) still
       go (Queue q) e = quiet-fair _ t (none-given t _ refl refl) still
       go (Mutex Nobody) e = quiet-fair _ t (none-given t _ refl refl) still
-      go (Mutex (By h)) e = wait-fair o w P h e t
+      go (Mutex (By h)) e = wait-fair num w P h e t
 
   -- 16: give
-  module _ (o : ObjNo) where
-    abbrev i : Kernel
-    i = handedOn k o
+  module _ (num : ObjNo) where
+    abbrev p : ObjSlot
+    p = objSlot num
+
+    abbrev i : State
+    i = handedOn k p
 
     abbrev own : ℕ
     own = taskAt (i .tasks) r .own
 
-    abbrev gift : Kernel → Moment
-    gift x = moment k (Give o) a x
+    abbrev gift : State → Moment
+    gift x = moment k (Give num) a x
 
     giver-fair : holds (i .objects) r ≡ false → Fair (gift (prioritized i r own own)) r
     unfolding asked
     giver-fair e =
-        let q = handed-quiet k S r o in
+        let q = handed-quiet k S r p in
         let g : givenAt r (gift (prioritized i r own own)) ≡ [] = none-given r _ refl refl in
         bare-fair (gift (prioritized i r own own)) r (ap (λ os. holds os r) (prioritized-same i r own own .objects) ∙ e)
         (λ f. rw g (owns-kept i r own r ∙ q .own))
         (λ f z. ap isFree (S .runs))
 
-    pub give-fair : (t : TaskNo) → Fair (gift (given k o)) t
+    pub give-fair : (t : TaskSlot) → Fair (gift (given k p)) t
     unfolding given ownAgain asked
     give-fair t = go (holds (i .objects) r) refl
       where
         go : (b : Bool) → holds (i .objects) r ≡ b → Fair (gift (if b then i else prioritized i r own own)) t
-        go true e = quiet-fair (gift i) t (none-given t _ refl refl) (handed-quiet k S t o)
+        go true e = quiet-fair (gift i) t (none-given t _ refl refl) (handed-quiet k S t p)
         go false e =
             that-or-other r t (λ v. Fair (gift (prioritized i r own own)) v) (giver-fair e)
             (λ d. quiet-fair (gift (prioritized i r own own)) t (none-given t _ refl refl)
-            (onward (subst (λ os. Quiet t os (k .tasks) (i .tasks)) (sym (prioritized-same i r own own .objects)) (handed-quiet k S t o)) (prioritized-quiet i t r own own d)))
+            (onward (subst (λ os. Quiet t os (k .tasks) (i .tasks)) (sym (prioritized-same i r own own .objects)) (handed-quiet k S t p)) (prioritized-quiet i t r own own d)))

@@ -7,23 +7,24 @@ use lib.Dec.{eqb}
 use lib.ListN.{length}
 use borrow.Author.Tests.{eqb-true}
 use Rattle.lists.specs.Choice.{if_then_else_}
-use Rattle.calls.specs.Numbers.{sameTask}
+use Rattle.numbers.specs.Numbers.{sameTask}
+use Rattle.calls.specs.Door.{taskSlot, objSlot}
 use Rattle.calls.specs.Asked.{asked}
 use Rattle.calls.specs.Said.{Saying, says, done, made, waiting, refused}
 use Rattle.slots.specs.Places.{isBlocked}
-use Rattle.kernel.specs.Tables.{taskAt}
-use Rattle.kernel.specs.Lines.{first, runsIf, chosen, toTail}
-use Rattle.kernel.specs.Sound.{sound}
-use Rattle.kernel.specs.Sentences.{Sound}
-use Rattle.kernel.specs.Asking.{is, makes, newSlot}
-use Rattle.kernel.specs.Refusals.{namesNone, laterRow, refusal}
-use Rattle.kernel.specs.Ticks.{held}
-use Rattle.kernel.specs.Effects.{resumed, yielded, queueMade, mutexMade, removed, effect}
-use Rattle.kernel.specs.Step.{answered, accepted, turnedAway, steppedBy, step}
-use Rattle.kernel.proofs.Says.{sound-says}
-use Rattle.kernel.proofs.Passes.{Passed, passed}
+use Rattle.slots.specs.Tasks.{taskAt}
+use Rattle.rules.specs.Lines.{first, runsIf, chosen, toTail}
+use Rattle.rules.specs.Sound.{sound}
+use Rattle.rules.specs.Sentences.{Sound}
+use Rattle.rules.specs.Asking.{is, makes, newSlot}
+use Rattle.rules.specs.Refusals.{namesNone, laterRow, refusal}
+use Rattle.rules.specs.Ticks.{held}
+use Rattle.rules.specs.Effects.{resumed, yielded, queueMade, mutexMade, removed, effect}
+use Rattle.rules.specs.Step.{answered, accepted, turnedAway, steppedBy, step}
+use Rattle.rules.proofs.Says.{sound-says}
+use Rattle.rules.proofs.Passes.{Passed, passed}
 use Rattle.promises.specs.History.{Made}
-use Rattle.histories.specs.Types.{TaskNo, Call, Create, Delete, Suspend, Resume, SetPriority, Delay, Yield, Hold, Release, MakeQueue, MakeMutex, Remove, Send, Receive, Take, Give, Tick, AllReady, Kernel}
+use Rattle.histories.specs.Types.{TaskSlot, Call, Create, Delete, Suspend, Resume, SetPriority, Delay, Yield, Hold, Release, MakeQueue, MakeMutex, Remove, Send, Receive, Take, Give, Tick, AllReady, State}
 use Rattle.histories.specs.Moments.{Moment, exists, isRefusal, momentOf}
 use Rattle.histories.specs.Borrowed.{givenAt, lentAt}
 use Rattle.histories.proofs.Quiet.{still}
@@ -32,12 +33,12 @@ use Rattle.histories.proofs.Fair.{Fair, none-given, quiet-fair}
 use Rattle.histories.proofs.FairTasks.{moment, create-fair, delete-fair, change-fair}
 use Rattle.histories.proofs.FairMutexes.{take-fair, give-fair}
 
-effect-fair : (k : Kernel) → Sound k → (n : ℕ) (a : Saying) → isRefusal (a .word) ≡ false → (t : TaskNo) (c : Call) → Passed k (asked c) n → Fair (moment k c a (effect k c)) t
+effect-fair : (k : State) → Sound k → (n : ℕ) (a : Saying) → isRefusal (a .word) ≡ false → (t : TaskSlot) (c : Call) → Passed k (asked c) n → Fair (moment k c a (effect k (asked c))) t
 unfolding effect asked namesNone resumed yielded held queueMade mutexMade removed toTail
 effect-fair k S n a ok t (Create p) P = create-fair k S n a p P t
 effect-fair k S n a ok t (Delete u) P = delete-fair k S n a u P t
-effect-fair k S n a ok t (Suspend u) P = quiet-fair _ t (none-given t _ refl refl) (suspended-quiet k S t u (P .named))
-effect-fair k S n a ok t (Resume u) P = quiet-fair _ t (none-given t _ refl refl) (readied-quiet t (resumed k u .objects) k u _ (P .named))
+effect-fair k S n a ok t (Suspend u) P = quiet-fair _ t (none-given t _ refl refl) (suspended-quiet k S t (taskSlot u) (P .named))
+effect-fair k S n a ok t (Resume u) P = quiet-fair _ t (none-given t _ refl refl) (readied-quiet t (resumed k (taskSlot u) .objects) k (taskSlot u) _ (P .named))
 effect-fair k S n a ok t (SetPriority u p) P = change-fair k S n a ok u p P t
 effect-fair k S n a ok t (Delay d) P = quiet-fair _ t (none-given t _ refl refl) (delayed-quiet k S t d)
 effect-fair k S n a ok t Yield P = quiet-fair _ t (none-given t _ refl refl) still
@@ -46,24 +47,24 @@ effect-fair k S n a ok t Release P = quiet-fair _ t (none-given t _ refl refl) (
 effect-fair k S n a ok t (MakeQueue c z) P = quiet-fair _ t (none-given t _ refl refl) still
 effect-fair k S n a ok t MakeMutex P = quiet-fair _ t (none-given t _ refl refl) still
 effect-fair k S n a ok t (Remove o) P = quiet-fair _ t (none-given t _ refl refl) still
-effect-fair k S n a ok t (Send o w) P = quiet-fair _ t (none-given t _ refl refl) (send-quiet k S t o w)
-effect-fair k S n a ok t (Receive o w) P = quiet-fair _ t (none-given t _ refl refl) (receive-quiet k S t o w)
+effect-fair k S n a ok t (Send o w) P = quiet-fair _ t (none-given t _ refl refl) (send-quiet k S t (objSlot o) w)
+effect-fair k S n a ok t (Receive o w) P = quiet-fair _ t (none-given t _ refl refl) (receive-quiet k S t (objSlot o) w)
 effect-fair k S n a ok t (Take o w) P = take-fair k S n a o w P t
 effect-fair k S n a ok t (Give o) P = give-fair k S n a o t
 effect-fair k S n a ok t Tick P = quiet-fair _ t (none-given t _ refl refl) (ticked-quiet t _ k)
 
 -- choose changes who runs, and nothing else
-chosen-fair : (k : Kernel) (c : Call) (a : Saying) (j : Kernel) (t : TaskNo) → Fair (moment k c a j) t → Fair (moment k c a (chosen j)) t
+chosen-fair : (k : State) (c : Call) (a : Saying) (j : State) (t : TaskSlot) → Fair (moment k c a j) t → Fair (moment k c a (chosen j)) t
 unfolding chosen givenAt lentAt
 chosen-fair k c a j t F = go (eqb (j .hold) 0) (first j AllReady)
   where
-    go : (b : Bool) (l : List TaskNo) → Fair (moment k c a (if b then runsIf j l else j)) t
+    go : (b : Bool) (l : List TaskSlot) → Fair (moment k c a (if b then runsIf j l else j)) t
     go true [] = F
     go true (u ∷ l) = record { own = F .own; there = F .there; kept = F .kept; first = F .first }
     go false l = F
 
 -- a refused call gives nothing
-refused-fair : (k : Kernel) (c : Call) (n : ℕ) (t : TaskNo) → Fair (moment k c (says refused n) k) t
+refused-fair : (k : State) (c : Call) (n : ℕ) (t : TaskSlot) → Fair (moment k c (says refused n) k) t
 refused-fair k c n t = quiet-fair _ t (none-given t _ (not-both (is 1 (asked c)) (exists k t)) (not-third (is 5 (asked c)) (sameTask (asked c .task) t))) still
   where
     not-both : (x b : Bool) → (x && (b && not b)) ≡ false
@@ -76,7 +77,7 @@ refused-fair k c n t = quiet-fair _ t (none-given t _ (not-both (is 1 (asked c))
     not-third true false = refl
     not-third false y = refl
 
-answered-accepts : (k : Kernel) (c : Call) (j : Kernel) → isRefusal (answered k (asked c) j .word) ≡ false
+answered-accepts : (k : State) (c : Call) (j : State) → isRefusal (answered k (asked c) j .word) ≡ false
 unfolding answered
 answered-accepts k c j = go (makes (asked c)) (isBlocked (taskAt (j .tasks) (k .running) .place))
   where
@@ -85,7 +86,7 @@ answered-accepts k c j = go (makes (asked c)) (isBlocked (taskAt (j .tasks) (k .
     go false true = refl
     go false false = refl
 
-pub step-fair : (k : Kernel) → sound k ≡ true → (m : Made) (t : TaskNo) → Fair (momentOf k m) t
+pub step-fair : (k : State) → sound k ≡ true → (m : Made) (t : TaskSlot) → Fair (momentOf k m) t
 unfolding step refusal accepted
 step-fair k e m t = subst (λ b. Fair (by (if b then row else 1)) t) (sym e) (go (eqb row 0) refl)
   where
@@ -93,10 +94,10 @@ step-fair k e m t = subst (λ b. Fair (by (if b then row else 1)) t) (sym e) (go
     row = laterRow k (asked (m .call)) (length (m .item)) (length (m .store))
 
     by : ℕ → Moment
-    by n = let r = steppedBy n k (m .call) (m .item) (m .store) in moment k (m .call) (r .answer) (r .kernel)
+    by n = let r = steppedBy n k (asked (m .call)) (m .item) (m .store) in moment k (m .call) (r .answer) (r .kernel)
 
-    go : (b : Bool) → eqb row 0 ≡ b → Fair (let r = if b then accepted k (m .call) (m .item) (m .store) else turnedAway k row (m .store) in moment k (m .call) (r .answer) (r .kernel)) t
+    go : (b : Bool) → eqb row 0 ≡ b → Fair (let r = if b then accepted k (asked (m .call)) (m .item) (m .store) else turnedAway k row (m .store) in moment k (m .call) (r .answer) (r .kernel)) t
     go true q =
-        chosen-fair k (m .call) _ (effect k (m .call)) t
-        (effect-fair k (sound-says k e) (length (m .store)) _ (answered-accepts k (m .call) (chosen (effect k (m .call)))) t (m .call) (passed k (asked (m .call)) (length (m .item)) (length (m .store)) (eqb-true row 0 q)))
+        chosen-fair k (m .call) _ (effect k (asked (m .call))) t
+        (effect-fair k (sound-says k e) (length (m .store)) _ (answered-accepts k (m .call) (chosen (effect k (asked (m .call))))) t (m .call) (passed k (asked (m .call)) (length (m .item)) (length (m .store)) (eqb-true row 0 q)))
     go false q = refused-fair k (m .call) row t

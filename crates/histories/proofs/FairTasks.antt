@@ -9,24 +9,25 @@ use borrow.Author.Tests.{eqb-true, eqb-false, eq-eqb, ne-eqb}
 use Rattle.lists.proofs.Bools.{or-off}
 use Rattle.lists.specs.Choice.{if_then_else_}
 use Rattle.lists.specs.Lists.{larger}
-use Rattle.calls.specs.Numbers.{task, sameTask}
+use Rattle.numbers.specs.Numbers.{task, sameTask}
+use Rattle.calls.specs.Door.{taskSlot}
 use Rattle.calls.specs.Asked.{asked}
 use Rattle.calls.specs.Said.{Saying}
 use Rattle.order.proofs.Lines.{one-number}
 use Rattle.slots.specs.Places.{isFree, waitsOn}
-use Rattle.slots.specs.Tasks.{freeTask, readyAt, ranked}
-use Rattle.kernel.specs.Tables.{taskAt, holds, freeSlot}
-use Rattle.kernel.specs.Lines.{level, toTail, leaves}
-use Rattle.kernel.specs.Sentences.{Sound}
-use Rattle.kernel.specs.Refusals.{namesNone, noSlot, inUse}
-use Rattle.kernel.specs.Loans.{prioritized, newPriority}
-use Rattle.kernel.specs.Effects.{created, deleted}
-use Rattle.kernel.proofs.Says.{none-holds}
-use Rattle.kernel.proofs.Passes.{Passed}
-use Rattle.kernel.proofs.Slotted.{at-same}
-use Rattle.kernel.proofs.Blocks.{prioritized-same, prioritized-tasks}
-use Rattle.kernel.proofs.Keeps.{exists-low, index-most, index-passes}
-use Rattle.histories.specs.Types.{TaskNo, Place, Free, Ready, Delayed, Waiting, Suspended, Task, Kernel, Call, Create, Delete, SetPriority}
+use Rattle.slots.specs.Tasks.{freeTask, readyAt, ranked, taskAt}
+use Rattle.rules.specs.Tables.{holds, freeSlot}
+use Rattle.rules.specs.Lines.{level, toTail, leaves}
+use Rattle.rules.specs.Sentences.{Sound}
+use Rattle.rules.specs.Refusals.{namesNone, noSlot, inUse}
+use Rattle.rules.specs.Loans.{prioritized, newPriority}
+use Rattle.rules.specs.Effects.{created, deleted}
+use Rattle.rules.proofs.Says.{none-holds}
+use Rattle.rules.proofs.Passes.{Passed}
+use Rattle.rules.proofs.Slotted.{at-same}
+use Rattle.rules.proofs.Blocks.{prioritized-same, prioritized-tasks}
+use Rattle.rules.proofs.Keeps.{exists-low, index-most, index-passes}
+use Rattle.histories.specs.Types.{TaskNo, TaskSlot, Place, Free, Ready, Delayed, Waiting, Suspended, Task, State, Call, Create, Delete, SetPriority}
 use Rattle.histories.specs.Moments.{Moment, isRefusal}
 use Rattle.histories.specs.Borrowed.{largest, givenAt}
 use Rattle.histories.proofs.Largest.{larger-max}
@@ -35,11 +36,11 @@ use Rattle.histories.proofs.QuietCalls.{Quietly}
 use Rattle.histories.proofs.Fair.{Fair, Lends, on, none-given, none-lent, quiet-fair, bare-fair}
 
 -- the moment of an accepted call
-abbrev pub moment : Kernel → Call → Saying → Kernel → Moment
+abbrev pub moment : State → Call → Saying → State → Moment
 moment k c a j = record { before = k; call = c; answer = a; after = j }
 
 -- one task, and every other
-pub that-or-other : (u t : TaskNo) (P : TaskNo → Type 0) → P u → ((u .0 ≡ t .0 → ⊥) → P t) → P t
+pub that-or-other : (u t : TaskSlot) (P : TaskSlot → Type 0) → P u → ((u .0 ≡ t .0 → ⊥) → P t) → P t
 that-or-other u t P h o = go (sameTask u t) refl
   where
     go : (b : Bool) → sameTask u t ≡ b → P t
@@ -54,24 +55,24 @@ no-place (Waiting o w) e = absurd (false≢true e)
 no-place Suspended e = absurd (false≢true e)
 
 -- a priority changed leaves every place
-pub places-kept : (k : Kernel) (t : TaskNo) (own eff : ℕ) (v : TaskNo) → taskAt (prioritized k t own eff .tasks) v .place ≡ taskAt (k .tasks) v .place
+pub places-kept : (k : State) (t : TaskSlot) (own eff : ℕ) (v : TaskSlot) → taskAt (prioritized k t own eff .tasks) v .place ≡ taskAt (k .tasks) v .place
 places-kept k t own eff v =
     ap (λ ts. taskAt ts v .place) (prioritized-tasks k t own eff)
     ∙ each (k .tasks) t (ranked (taskAt (k .tasks) t) own eff) (λ v y. y .place ≡ taskAt (k .tasks) v .place) refl (λ v. refl) v
 
-pub ranked-at : (k : Kernel) (t : TaskNo) (own eff : ℕ) → t .0 < length (k .tasks) → taskAt (prioritized k t own eff .tasks) t ≡ ranked (taskAt (k .tasks) t) own eff
+pub ranked-at : (k : State) (t : TaskSlot) (own eff : ℕ) → t .0 < length (k .tasks) → taskAt (prioritized k t own eff .tasks) t ≡ ranked (taskAt (k .tasks) t) own eff
 ranked-at k t own eff low = ap (λ ts. taskAt ts t) (prioritized-tasks k t own eff) ∙ at-same (k .tasks) t (ranked (taskAt (k .tasks) t) own eff) low
 
-pub prioritized-quiet : (k : Kernel) (t u : TaskNo) (own eff : ℕ) → (u .0 ≡ t .0 → ⊥) → Quietly t k (prioritized k u own eff)
+pub prioritized-quiet : (k : State) (t u : TaskSlot) (own eff : ℕ) → (u .0 ≡ t .0 → ⊥) → Quietly t k (prioritized k u own eff)
 prioritized-quiet k t u own eff d = subst (λ us. Quiet t (prioritized k u own eff .objects) (k .tasks) us) (sym (prioritized-tasks k u own eff)) (ranked-quiet t (prioritized k u own eff .objects) (k .tasks) u own eff d)
 
 some-given : {p : ℕ} {l : List ℕ} → l ≡ p ∷ [] → l ≡ [] → ⊥
 some-given e f = let z : _≡_ {A = ℕ} 0 1 = cc in omega arith
 
-module _ (k : Kernel) (S : Sound k) (n : ℕ) (a : Saying) where
+module _ (k : State) (S : Sound k) (n : ℕ) (a : Saying) where
   -- 1: create
   module _ (p : ℕ) (P : Passed k (asked (Create p)) n) where
-    abbrev new : TaskNo
+    abbrev new : TaskSlot
     new = task (freeSlot (k .tasks))
 
     abbrev creation : Moment
@@ -100,7 +101,7 @@ module _ (k : Kernel) (S : Sound k) (n : ℕ) (a : Saying) where
     unfolding givenAt asked
     given-first = rw (now-there, was-free)
 
-    others : (t : TaskNo) → (new .0 ≡ t .0 → ⊥) → Quietly t k (created k p)
+    others : (t : TaskSlot) → (new .0 ≡ t .0 → ⊥) → Quietly t k (created k p)
     unfolding created toTail
     others t d = slot-quiet t (k .objects) (k .tasks) new (readyAt p) (λ e. absurd (d e)) (λ o h w. absurd (false≢true w))
 
@@ -110,7 +111,7 @@ module _ (k : Kernel) (S : Sound k) (n : ℕ) (a : Saying) where
     not-new false true e = absurd (false≢true e)
     not-new false false e = refl
 
-    pub create-fair : (t : TaskNo) → Fair creation t
+    pub create-fair : (t : TaskSlot) → Fair creation t
     unfolding asked
     create-fair t =
         that-or-other new t (λ v. Fair creation v)
@@ -118,33 +119,39 @@ module _ (k : Kernel) (S : Sound k) (n : ℕ) (a : Saying) where
         (λ d. let q = others t d in quiet-fair creation t (none-given t creation (not-new _ _ (q .there)) refl) q)
 
   -- 2: delete
-  module _ (u : TaskNo) (P : Passed k (asked (Delete u)) n) where
-    abbrev deletion : Moment
-    deletion = moment k (Delete u) a (deleted k u)
+  module _ (num : TaskNo) (P : Passed k (asked (Delete num)) n) where
+    abbrev old : TaskSlot
+    old = taskSlot num
 
-    was-there : isFree (taskAt (k .tasks) u .place) ≡ false
+    abbrev deletion : Moment
+    deletion = moment k (Delete num) a (deleted k old)
+
+    was-there : isFree (taskAt (k .tasks) old .place) ≡ false
     unfolding asked namesNone
     was-there = P .named
 
-    held-none : holds (k .objects) u ≡ false
+    held-none : holds (k .objects) old ≡ false
     unfolding asked inUse
-    held-none = or-off (holds (k .objects) u) _ (P .unused) .0
+    held-none = or-off (holds (k .objects) old) _ (P .unused) .0
 
-    now-gone : isFree (taskAt (deleted k u .tasks) u .place) ≡ true
+    now-gone : isFree (taskAt (deleted k old .tasks) old .place) ≡ true
     unfolding deleted leaves
-    now-gone = ap (λ (x : Task). isFree (x .place)) (at-same (k .tasks) u freeTask (omega (arith, exists-low (k .tasks) u (S .task-slots) was-there, S .task-slots)))
+    now-gone = ap (λ (x : Task). isFree (x .place)) (at-same (k .tasks) old freeTask (omega (arith, exists-low (k .tasks) old (S .task-slots) was-there, S .task-slots)))
 
-    pub delete-fair : (t : TaskNo) → Fair deletion t
+    pub delete-fair : (t : TaskSlot) → Fair deletion t
     unfolding deleted leaves asked
     delete-fair t =
-        that-or-other u t (λ v. Fair deletion v)
-        (bare-fair deletion u held-none (λ e. absurd (false≢true (sym e ∙ now-gone))) (λ e g. absurd (false≢true (sym e ∙ now-gone))))
-        (λ d. quiet-fair deletion t (none-given t deletion refl refl) (slot-quiet t (k .objects) (k .tasks) u freeTask (λ e. absurd (d e)) (λ o h w. absurd (false≢true w))))
+        that-or-other old t (λ v. Fair deletion v)
+        (bare-fair deletion old held-none (λ e. absurd (false≢true (sym e ∙ now-gone))) (λ e g. absurd (false≢true (sym e ∙ now-gone))))
+        (λ d. quiet-fair deletion t (none-given t deletion refl refl) (slot-quiet t (k .objects) (k .tasks) old freeTask (λ e. absurd (d e)) (λ o h w. absurd (false≢true w))))
 
   -- 5: set priority
-  module _ (ok : isRefusal (a .word) ≡ false) (u : TaskNo) (p : ℕ) (P : Passed k (asked (SetPriority u p)) n) where
+  module _ (ok : isRefusal (a .word) ≡ false) (num : TaskNo) (p : ℕ) (P : Passed k (asked (SetPriority num p)) n) where
+    abbrev u : TaskSlot
+    u = taskSlot num
+
     abbrev change : Moment
-    change = moment k (SetPriority u p) a (newPriority k u p)
+    change = moment k (SetPriority num p) a (newPriority k u p)
 
     abbrev eff : ℕ
     eff = if holds (k .objects) u then larger (level (k .tasks) u) p else p
@@ -165,7 +172,7 @@ module _ (k : Kernel) (S : Sound k) (n : ℕ) (a : Saying) where
     unfolding givenAt asked
     given-now = rw (eq-eqb (u .0) (u .0) refl, ok)
 
-    nobody : (v : TaskNo) → Lends u change v → ⊥
+    nobody : (v : TaskSlot) → Lends u change v → ⊥
     unfolding newPriority
     nobody v l = false≢true (sym (l .not-before) ∙ sym (ap (waitsOn (on change v)) (places-kept k u p eff v)) ∙ l .now)
 
@@ -184,7 +191,7 @@ module _ (k : Kernel) (S : Sound k) (n : ℕ) (a : Saying) where
           first = λ b h. absurd (false≢true (sym h ∙ sym same-holds ∙ b));
         }
 
-    pub change-fair : (t : TaskNo) → Fair change t
+    pub change-fair : (t : TaskSlot) → Fair change t
     unfolding asked newPriority
     change-fair t =
         that-or-other u t (λ v. Fair change v) his

@@ -8,9 +8,9 @@ use lib.Dec.{ltb, eqb}
 use borrow.Author.Tests.{ltb-true, ltb-false, eqb-true, eqb-false}
 use Rattle.lists.specs.Choice.{if_then_else_}
 use Rattle.lists.specs.Lists.{larger, kept}
-use Rattle.calls.specs.Numbers.{task}
+use Rattle.numbers.specs.Numbers.{task}
 use Rattle.order.proofs.Lines.{one-number}
-use Rattle.histories.specs.Types.{TaskNo}
+use Rattle.histories.specs.Types.{TaskSlot}
 use Rattle.histories.specs.Moments.{tasksBelow}
 use Rattle.histories.specs.Borrowed.{largest}
 
@@ -30,13 +30,13 @@ pub larger-none : (n : ℕ) → (larger n 0 ≡ n) × (larger 0 n ≡ n)
 larger-none n = (rw (larger-max n 0) (omega arith), rw (larger-max 0 n) (omega arith))
 
 -- ── among the tasks that pass a test
-module _ (f : TaskNo → ℕ) (p : TaskNo → Bool) where
-  pub none-pass : ((u : TaskNo) → p u ≡ false) → (l : List TaskNo) → kept p l ≡ []
+module _ (f : TaskSlot → ℕ) (p : TaskSlot → Bool) where
+  pub none-pass : ((u : TaskSlot) → p u ≡ false) → (l : List TaskSlot) → kept p l ≡ []
   unfolding kept
   none-pass h [] = refl
   none-pass h (u ∷ l) = rw (h u) (none-pass h l)
 
-  at-most : (b : ℕ) → ((u : TaskNo) → p u ≡ true → f u ≤ b) → (l : List TaskNo) → largest (map f (kept p l)) ≤ b
+  at-most : (b : ℕ) → ((u : TaskSlot) → p u ≡ true → f u ≤ b) → (l : List TaskSlot) → largest (map f (kept p l)) ≤ b
   unfolding kept largest
   at-most b h [] = omega arith
   at-most b h (u ∷ l) = go (p u) refl (at-most b h l)
@@ -45,7 +45,7 @@ module _ (f : TaskNo → ℕ) (p : TaskNo → Bool) where
       go true e ih = rw (larger-max (f u) (largest (map f (kept p l)))) (omega (arith, h u e))
       go false e ih = ih
 
-  at-least : (n : ℕ) (r : TaskNo) → r .0 < n → p r ≡ true → f r ≤ largest (map f (kept p (tasksBelow n)))
+  at-least : (n : ℕ) (r : TaskSlot) → r .0 < n → p r ≡ true → f r ≤ largest (map f (kept p (tasksBelow n)))
   unfolding kept largest tasksBelow
   at-least zero r low e = absurd (omega arith)
   at-least (suc n) r low e = go (eqb (r .0) n) refl (p (task n)) refl (at-least n r)
@@ -57,7 +57,7 @@ module _ (f : TaskNo → ℕ) (p : TaskNo → Bool) where
       go false q false g ih = ih (omega (arith, eqb-false (r .0) n q)) e
 
   -- one passes, and no other
-  pub one-passes : (n : ℕ) (r : TaskNo) → r .0 < n → p r ≡ true → ((u : TaskNo) → p u ≡ true → u ≡ r) → largest (map f (kept p (tasksBelow n))) ≡ f r
+  pub one-passes : (n : ℕ) (r : TaskSlot) → r .0 < n → p r ≡ true → ((u : TaskSlot) → p u ≡ true → u ≡ r) → largest (map f (kept p (tasksBelow n))) ≡ f r
   one-passes n r low e only =
       let a = at-least n r low e in
       let b = at-most (f r) (λ u q. rw (only u q) (omega arith)) (tasksBelow n) in

@@ -7,20 +7,20 @@ use lib.ListN.{getD, replicate}
 use Rattle.lists.specs.Choice.{if_then_else_}
 use Rattle.lists.specs.Lists.{larger, any}
 use Rattle.slots.specs.Places.{isFree}
-use Rattle.slots.specs.Tasks.{freeTask}
-use Rattle.kernel.specs.Tables.{fresh, taskAt, holds}
-use Rattle.kernel.specs.Lines.{level}
-use Rattle.kernel.specs.Sound.{sound}
-use Rattle.kernel.specs.Sentences.{Exists}
-use Rattle.kernel.proofs.Says.{sound-says, not-held}
-use Rattle.kernel.proofs.Every.{fresh-sound, step-kept}
+use Rattle.slots.specs.Tasks.{freeTask, taskAt}
+use Rattle.rules.specs.Tables.{fresh, holds}
+use Rattle.rules.specs.Lines.{level}
+use Rattle.rules.specs.Sound.{sound}
+use Rattle.rules.specs.Sentences.{Exists}
+use Rattle.rules.proofs.Says.{sound-says, not-held}
+use Rattle.rules.proofs.Every.{fresh-sound, step-kept}
 use Rattle.promises.specs.History.{Made, after, reached}
 use Rattle.promises.specs.Program.{linesOf, answering}
 use Rattle.promises.specs.Turns.{Turn, afterTurns, atStart}
 use Rattle.promises.specs.Reached.{programCalls}
 use Rattle.promises.proofs.Histories.{exists-there}
 use Rattle.promises.proofs.Reaches.{program-reached, session-so-far}
-use Rattle.histories.specs.Types.{TaskNo, Kernel}
+use Rattle.histories.specs.Types.{TaskSlot, State}
 use Rattle.histories.specs.Moments.{Moment, momentOf, momentsFrom, moments, hasMutex}
 use Rattle.histories.specs.Borrowed.{largest, givenAt, lastOf, lastGiven, lentAt, counted, due, PaysBack}
 use Rattle.histories.proofs.Largest.{largest-append, larger-none}
@@ -28,12 +28,12 @@ use Rattle.histories.proofs.Fair.{Fair}
 use Rattle.histories.proofs.FairSteps.{step-fair}
 
 -- what the past accounts for
-record Accounts (k : Kernel) (past : List Moment) : Type 0 where
+record Accounts (k : State) (past : List Moment) : Type 0 where
   fine : sound k ≡ true
   -- every task's own priority is the last given
-  own : (t : TaskNo) → isFree (taskAt (k .tasks) t .place) ≡ false → taskAt (k .tasks) t .own ≡ lastGiven t past
+  own : (t : TaskSlot) → isFree (taskAt (k .tasks) t .place) ≡ false → taskAt (k .tasks) t .own ≡ lastGiven t past
   -- the effective one of a task with a mutex is the largest of those counted
-  borrowed : (t : TaskNo) → hasMutex k t ≡ true → level (k .tasks) t ≡ largest (counted t past)
+  borrowed : (t : TaskSlot) → hasMutex k t ≡ true → level (k .tasks) t ≡ largest (counted t past)
 
 -- the fresh kernel: idle alone, with 0
 fresh-own : (n : ℕ) → getD (fresh .tasks) n freeTask .own ≡ 0
@@ -51,14 +51,14 @@ unfolding fresh taskAt holds any lastGiven
 starts = record { fine = fresh-sound; own = λ t e. fresh-own (t .0); borrowed = λ t e. absurd (false≢true e) }
 
 -- one call more
-module _ (k : Kernel) (past : List Moment) (m : Made) (A : Accounts k past) where
+module _ (k : State) (past : List Moment) (m : Made) (A : Accounts k past) where
   abbrev now : Moment
   now = momentOf k m
 
-  F : (t : TaskNo) → Fair now t
+  F : (t : TaskSlot) → Fair now t
   F = step-fair k (A .fine) m
 
-  own-now : (t : TaskNo) → isFree (taskAt (now .after .tasks) t .place) ≡ false → taskAt (now .after .tasks) t .own ≡ lastGiven t (now ∷ past)
+  own-now : (t : TaskSlot) → isFree (taskAt (now .after .tasks) t .place) ≡ false → taskAt (now .after .tasks) t .own ≡ lastGiven t (now ∷ past)
   unfolding lastGiven
   own-now t e = F t .own e ∙ go (givenAt t now) refl
     where
@@ -66,7 +66,7 @@ module _ (k : Kernel) (past : List Moment) (m : Made) (A : Accounts k past) wher
       go [] n = A .own t (F t .there e n)
       go (p ∷ ps) n = refl
 
-  borrowed-now : (t : TaskNo) → hasMutex (now .after) t ≡ true → level (now .after .tasks) t ≡ largest (counted t (now ∷ past))
+  borrowed-now : (t : TaskSlot) → hasMutex (now .after) t ≡ true → level (now .after .tasks) t ≡ largest (counted t (now ∷ past))
   unfolding counted largest
   borrowed-now t e = go (hasMutex k t) refl
     where
@@ -80,12 +80,12 @@ module _ (k : Kernel) (past : List Moment) (m : Made) (A : Accounts k past) wher
   one-more : Accounts (now .after) (now ∷ past)
   one-more = record { fine = step-kept k (m .call) (m .item) (m .store) (A .fine); own = own-now; borrowed = borrowed-now }
 
-accounts : (k : Kernel) (past : List Moment) (ms : List Made) → Accounts k past → Accounts (after k ms) (momentsFrom k past ms)
+accounts : (k : State) (past : List Moment) (ms : List Made) → Accounts k past → Accounts (after k ms) (momentsFrom k past ms)
 unfolding after momentsFrom
 accounts k past [] A = A
 accounts k past (m ∷ ms) A = accounts _ _ ms (one-more k past m A)
 
-module _ (ms : List Made) (t : TaskNo) (there : Exists ((reached ms) .tasks) t) where
+module _ (ms : List Made) (t : TaskSlot) (there : Exists ((reached ms) .tasks) t) where
   A : Accounts (reached ms) (moments ms)
   A = accounts fresh [] ms starts
 
@@ -110,11 +110,11 @@ module _ (ms : List Made) (t : TaskNo) (there : Exists ((reached ms) .tasks) t) 
 
 -- ── of the program: the calls are those of its lines
 -- after every line of every input
-pub program-pays-back : (ls : List (List ℕ)) (t : TaskNo) → PaysBack (programCalls ls) (answering fresh (replicate 9216 0) ls .kernel) t
-program-pays-back ls t = subst (λ (k : Kernel). PaysBack (programCalls ls) k t) (sym (program-reached ls)) (paid-back (programCalls ls) t)
+pub program-pays-back : (ls : List (List ℕ)) (t : TaskSlot) → PaysBack (programCalls ls) (answering fresh (replicate 9216 0) ls .kernel) t
+program-pays-back ls t = subst (λ (k : State). PaysBack (programCalls ls) k t) (sym (program-reached ls)) (paid-back (programCalls ls) t)
 
 -- however the input is cut, at any time
-pub session-pays-back : (ts : List Turn) (t : TaskNo) → PaysBack (programCalls (linesOf (session-so-far ts .taken))) (afterTurns atStart ts .kernel) t
+pub session-pays-back : (ts : List Turn) (t : TaskSlot) → PaysBack (programCalls (linesOf (session-so-far ts .taken))) (afterTurns atStart ts .kernel) t
 session-pays-back ts t =
     let h = session-so-far ts in
-    subst (λ (k : Kernel). PaysBack (programCalls (linesOf (h .taken))) k t) (sym (h .kernel)) (program-pays-back (linesOf (h .taken)) t)
+    subst (λ (k : State). PaysBack (programCalls (linesOf (h .taken))) k t) (sym (h .kernel)) (program-pays-back (linesOf (h .taken)) t)

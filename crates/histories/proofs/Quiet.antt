@@ -7,24 +7,23 @@ use lib.Dec.{ltb}
 use lib.ListN.{length, set}
 use lib.Seq.{set-out}
 use borrow.Author.Tests.{eqb-true, eqb-false, ltb-true, ltb-false}
-use Rattle.calls.specs.Numbers.{sameTask}
+use Rattle.numbers.specs.Numbers.{sameTask}
 use Rattle.order.proofs.Lines.{one-number}
 use Rattle.slots.specs.Places.{isFree, waitsOn}
-use Rattle.slots.specs.Tasks.{placed, ranked}
-use Rattle.kernel.specs.Tables.{taskAt}
-use Rattle.kernel.specs.Lines.{level}
-use Rattle.kernel.specs.Sentences.{Holds}
-use Rattle.kernel.proofs.Slotted.{at-same, at-other}
-use Rattle.histories.specs.Types.{TaskNo, ObjNo, Place, Task, Object}
+use Rattle.slots.specs.Tasks.{placed, ranked, taskAt}
+use Rattle.rules.specs.Lines.{level}
+use Rattle.rules.specs.Sentences.{Holds}
+use Rattle.rules.proofs.Slotted.{at-same, at-other}
+use Rattle.histories.specs.Types.{TaskSlot, ObjSlot, Place, Task, Object}
 
 -- the objects are those at the end
-pub record Quiet (t : TaskNo) (os : List Object) (ts us : List Task) : Type 0 where
+pub record Quiet (t : TaskSlot) (os : List Object) (ts us : List Task) : Type 0 where
   pub there : isFree (taskAt us t .place) ≡ isFree (taskAt ts t .place)
   pub own : taskAt us t .own ≡ taskAt ts t .own
   pub effective : level us t ≡ level ts t
-  pub calm : (u : TaskNo) (o : ObjNo) → Holds os t o → waitsOn o (taskAt us u .place) ≡ true → waitsOn o (taskAt ts u .place) ≡ true
+  pub calm : (u : TaskSlot) (o : ObjSlot) → Holds os t o → waitsOn o (taskAt us u .place) ≡ true → waitsOn o (taskAt ts u .place) ≡ true
 
-module _ {t : TaskNo} {os : List Object} where
+module _ {t : TaskSlot} {os : List Object} where
   pub still : {ts : List Task} → Quiet t os ts ts
   still = record { there = refl; own = refl; effective = refl; calm = λ u o h e. e }
 
@@ -32,7 +31,7 @@ module _ {t : TaskNo} {os : List Object} where
   onward a b = record { there = b .there ∙ a .there; own = b .own ∙ a .own; effective = b .effective ∙ a .effective; calm = λ u o h e. a .calm u o h (b .calm u o h e) }
 
 -- what holds of the stored task, and of every task as it was, holds of every task
-pub each : (ts : List Task) (u : TaskNo) (x : Task) (P : TaskNo → Task → Type 0) → P u x → ((v : TaskNo) → P v (taskAt ts v)) → (v : TaskNo) → P v (taskAt (set ts (u .0) x) v)
+pub each : (ts : List Task) (u : TaskSlot) (x : Task) (P : TaskSlot → Task → Type 0) → P u x → ((v : TaskSlot) → P v (taskAt ts v)) → (v : TaskSlot) → P v (taskAt (set ts (u .0) x) v)
 each ts u x P h o v = go (sameTask v u) refl (ltb (u .0) (length ts)) refl
   where
     go : (a : Bool) → sameTask v u ≡ a → (b : Bool) → ltb (u .0) (length ts) ≡ b → P v (taskAt (set ts (u .0) x) v)
@@ -41,10 +40,10 @@ each ts u x P h o v = go (sameTask v u) refl (ltb (u .0) (length ts)) refl
     go false e b l = rw (at-other ts u x v (eqb-false (v .0) (u .0) e)) (o v)
 
 -- one slot changed: if it is the task's own, place and priorities are as before; and it begins no wait on a mutex of the task
-module _ (t : TaskNo) (os : List Object) (ts : List Task) (u : TaskNo) (x : Task)
+module _ (t : TaskSlot) (os : List Object) (ts : List Task) (u : TaskSlot) (x : Task)
     (own : u .0 ≡ t .0 → (isFree (x .place) ≡ isFree (taskAt ts u .place)) × (x .own ≡ taskAt ts u .own) × (x .effective ≡ level ts u))
-    (calm : (o : ObjNo) → Holds os t o → waitsOn o (x .place) ≡ true → waitsOn o (taskAt ts u .place) ≡ true) where
-  abbrev As : TaskNo → Task → Type 0
+    (calm : (o : ObjSlot) → Holds os t o → waitsOn o (x .place) ≡ true → waitsOn o (taskAt ts u .place) ≡ true) where
+  abbrev As : TaskSlot → Task → Type 0
   As v y = v .0 ≡ t .0 → (isFree (y .place) ≡ isFree (taskAt ts v .place)) × (y .own ≡ taskAt ts v .own) × (y .effective ≡ level ts v)
 
   mine : As t (taskAt (set ts (u .0) x) t)
@@ -56,14 +55,14 @@ module _ (t : TaskNo) (os : List Object) (ts : List Task) (u : TaskNo) (x : Task
         there = mine refl .0;
         own = mine refl .1;
         effective = mine refl .2;
-        calm = each ts u x (λ v y. (o : ObjNo) → Holds os t o → waitsOn o (y .place) ≡ true → waitsOn o (taskAt ts v .place) ≡ true) calm (λ v o h e. e);
+        calm = each ts u x (λ v y. (o : ObjSlot) → Holds os t o → waitsOn o (y .place) ≡ true → waitsOn o (taskAt ts v .place) ≡ true) calm (λ v o h e. e);
       }
 
 -- an existing task placed elsewhere, but not to wait on a mutex of t
-pub placed-quiet : (t : TaskNo) (os : List Object) (ts : List Task) (u : TaskNo) (p : Place) (n : ℕ) → isFree p ≡ false → isFree (taskAt ts u .place) ≡ false
-    → ((o : ObjNo) → Holds os t o → waitsOn o p ≡ true → ⊥) → Quiet t os ts (set ts (u .0) (placed (taskAt ts u) p n))
+pub placed-quiet : (t : TaskSlot) (os : List Object) (ts : List Task) (u : TaskSlot) (p : Place) (n : ℕ) → isFree p ≡ false → isFree (taskAt ts u .place) ≡ false
+    → ((o : ObjSlot) → Holds os t o → waitsOn o p ≡ true → ⊥) → Quiet t os ts (set ts (u .0) (placed (taskAt ts u) p n))
 placed-quiet t os ts u p n a b c = slot-quiet t os ts u (placed (taskAt ts u) p n) (λ e. (a ∙ sym b, refl, refl)) (λ o h e. absurd (c o h e))
 
 -- the priorities of another task changed
-pub ranked-quiet : (t : TaskNo) (os : List Object) (ts : List Task) (u : TaskNo) (own eff : ℕ) → (u .0 ≡ t .0 → ⊥) → Quiet t os ts (set ts (u .0) (ranked (taskAt ts u) own eff))
+pub ranked-quiet : (t : TaskSlot) (os : List Object) (ts : List Task) (u : TaskSlot) (own eff : ℕ) → (u .0 ≡ t .0 → ⊥) → Quiet t os ts (set ts (u .0) (ranked (taskAt ts u) own eff))
 ranked-quiet t os ts u own eff d = slot-quiet t os ts u (ranked (taskAt ts u) own eff) (λ e. absurd (d e)) (λ o h e. e)

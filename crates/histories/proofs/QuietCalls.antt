@@ -8,50 +8,51 @@ use lib.Dec.{eqb, ltb}
 use borrow.Author.Tests.{eqb-true}
 use Rattle.lists.specs.Choice.{if_then_else_}
 use Rattle.lists.specs.Lists.{foldl, upTo}
-use Rattle.calls.specs.Numbers.{task}
+use Rattle.numbers.specs.Numbers.{task, byNumber}
 use Rattle.order.specs.Order.{listed}
 use Rattle.slots.specs.Places.{isFree, isBlocked, isListed, waitsOn, wakesAt, outcomeDue}
-use Rattle.slots.specs.Tasks.{brokenOff}
-use Rattle.kernel.specs.Tables.{taskAt, kindAt, withTask, withTick, withHold}
-use Rattle.kernel.specs.Lines.{level, first, toTail, leaves}
-use Rattle.kernel.specs.Sound.{noHigher}
-use Rattle.kernel.specs.Sentences.{Holds, Sound}
-use Rattle.kernel.specs.Waits.{later, wakeOf, readied, blocked, waitFor}
-use Rattle.kernel.specs.Ticks.{wokenIfDue, wakes, byNumber, oneTick, turned, ticked, ticks, released}
-use Rattle.kernel.specs.Items.{oneLess, sentBy, sent, sentTo, refilledBy, received, receivedFrom}
-use Rattle.kernel.specs.Effects.{suspended, yielded, delayed, handedTo, handedOn}
-use Rattle.kernel.proofs.Within.{first-meant, first-single, by-outlet}
-use Rattle.kernel.proofs.KeepTicks.{due-there}
-use Rattle.histories.specs.Types.{TaskNo, ObjNo, Place, Free, Ready, Delayed, Waiting, Suspended, Ring, Kind, Unused, Queue, Mutex, Object, WaitersOf, Kernel}
+use Rattle.slots.specs.Tasks.{brokenOff, taskAt}
+use Rattle.slots.specs.Objects.{kindAt}
+use Rattle.rules.specs.Tables.{withTask, withTick, withHold}
+use Rattle.rules.specs.Lines.{level, first, toTail, leaves}
+use Rattle.rules.specs.Sound.{noHigher}
+use Rattle.rules.specs.Sentences.{Holds, Sound}
+use Rattle.rules.specs.Waits.{later, wakeOf, readied, blocked, waitFor}
+use Rattle.rules.specs.Ticks.{wokenIfDue, wakes, oneTick, turned, ticked, ticks, released}
+use Rattle.rules.specs.Items.{oneLess, sentBy, sent, sentTo, refilledBy, received, receivedFrom}
+use Rattle.rules.specs.Effects.{suspended, yielded, delayed, handedTo, handedOn}
+use Rattle.rules.proofs.Within.{first-meant, first-single, by-outlet}
+use Rattle.rules.proofs.KeepTicks.{due-there}
+use Rattle.histories.specs.Types.{TaskSlot, ObjSlot, Place, Free, Ready, Delayed, Waiting, Suspended, Ring, Kind, Unused, Queue, Mutex, Object, WaitersOf, State}
 use Rattle.histories.proofs.Quiet.{Quiet, still, onward, placed-quiet}
 
 -- from a kernel to the next
-abbrev pub Quietly : TaskNo → Kernel → Kernel → Type 0
+abbrev pub Quietly : TaskSlot → State → State → Type 0
 Quietly t k j = Quiet t (j .objects) (k .tasks) (j .tasks)
 
 -- who waits, is due or is suspended exists
-waits-there : (o : ObjNo) (p : Place) → waitsOn o p ≡ true → isFree p ≡ false
+waits-there : (o : ObjSlot) (p : Place) → waitsOn o p ≡ true → isFree p ≡ false
 waits-there o Free e = absurd (false≢true e)
 waits-there o Ready e = refl
 waits-there o (Delayed w) e = refl
 waits-there o (Waiting q w) e = refl
 waits-there o Suspended e = refl
 
-one-object : (x y : ObjNo) → x .0 ≡ y .0 → x ≡ y
+one-object : (x y : ObjSlot) → x .0 ≡ y .0 → x ≡ y
 one-object x y e = λ i. record { 0 = e i }
 
 -- ── the building blocks
-module _ (t : TaskNo) (os : List Object) where
-  pub readied-quiet : (j : Kernel) (u : TaskNo) (n : ℕ) → isFree (taskAt (j .tasks) u .place) ≡ false → Quiet t os (j .tasks) (readied j u n .tasks)
+module _ (t : TaskSlot) (os : List Object) where
+  pub readied-quiet : (j : State) (u : TaskSlot) (n : ℕ) → isFree (taskAt (j .tasks) u .place) ≡ false → Quiet t os (j .tasks) (readied j u n .tasks)
   unfolding readied toTail
   readied-quiet j u n e = placed-quiet t os (j .tasks) u Ready n refl e (λ o h w. false≢true w)
 
   -- the caller waits on what is no mutex of t
-  pub wait-quiet : (j : Kernel) (o : ObjNo) (w : ℕ) → isFree (taskAt (j .tasks) (j .running) .place) ≡ false → (Holds os t o → ⊥) → Quiet t os (j .tasks) (waitFor j o w .tasks)
+  pub wait-quiet : (j : State) (o : ObjSlot) (w : ℕ) → isFree (taskAt (j .tasks) (j .running) .place) ≡ false → (Holds os t o → ⊥) → Quiet t os (j .tasks) (waitFor j o w .tasks)
   unfolding waitFor blocked toTail
   wait-quiet j o w e n = placed-quiet t os (j .tasks) (j .running) (Waiting o (wakeOf (j .tick) w)) 0 refl e (λ p h q. n (subst (λ x. Holds os t x) (one-object p o (sym (eqb-true (o .0) (p .0) q))) h))
 
-  woken-quiet : (j : Kernel) (u : TaskNo) → Quiet t os (j .tasks) (wokenIfDue j u .tasks)
+  woken-quiet : (j : State) (u : TaskSlot) → Quiet t os (j .tasks) (wokenIfDue j u .tasks)
   unfolding wokenIfDue
   woken-quiet j u = go (wakesAt (j .tick) (taskAt (j .tasks) u .place)) refl
     where
@@ -60,21 +61,21 @@ module _ (t : TaskNo) (os : List Object) where
       go true e = readied-quiet j u _ (due-there (j .tick) (taskAt (j .tasks) u .place) e)
       go false e = still
 
-  wakes-quiet : (l : List TaskNo) (j : Kernel) → Quiet t os (j .tasks) (foldl wokenIfDue j l .tasks)
+  wakes-quiet : (l : List TaskSlot) (j : State) → Quiet t os (j .tasks) (foldl wokenIfDue j l .tasks)
   unfolding foldl
   wakes-quiet [] j = still
   wakes-quiet (u ∷ l) j = onward (woken-quiet j u) (wakes-quiet l (wokenIfDue j u))
 
-  loop-quiet : (f : Kernel → ℕ → Kernel) → ((j : Kernel) (n : ℕ) → Quiet t os (j .tasks) (f j n .tasks)) → (n : ℕ) (j : Kernel) → Quiet t os (j .tasks) (upTo f n j .tasks)
+  loop-quiet : (f : State → ℕ → State) → ((j : State) (n : ℕ) → Quiet t os (j .tasks) (f j n .tasks)) → (n : ℕ) (j : State) → Quiet t os (j .tasks) (upTo f n j .tasks)
   unfolding upTo
   loop-quiet f q zero j = still
   loop-quiet f q (suc n) j = onward (loop-quiet f q n j) (q (upTo f n j) n)
 
-  tick-quiet : (j : Kernel) → Quiet t os (j .tasks) (oneTick j .tasks)
+  tick-quiet : (j : State) → Quiet t os (j .tasks) (oneTick j .tasks)
   unfolding oneTick wakes
   tick-quiet j = wakes-quiet (byNumber 16) (withTick j (later (j .tick) 1))
 
-  pub ticked-quiet : (j : Kernel) → Quiet t os (j .tasks) (ticked j .tasks)
+  pub ticked-quiet : (j : State) → Quiet t os (j .tasks) (ticked j .tasks)
   unfolding ticked turned toTail
   ticked-quiet j = go (ltb 0 (j .hold)) (noHigher (oneTick j .tasks) (level (oneTick j .tasks) (oneTick j .running)) (listed (oneTick j .order)))
     where
@@ -83,7 +84,7 @@ module _ (t : TaskNo) (os : List Object) where
       go false true = tick-quiet j
       go false false = tick-quiet j
 
-  pub released-quiet : (j : Kernel) → Quiet t os (j .tasks) (released j .tasks)
+  pub released-quiet : (j : State) → Quiet t os (j .tasks) (released j .tasks)
   unfolding released ticks
   released-quiet j = go (eqb (j .hold) 1)
     where
@@ -92,19 +93,19 @@ module _ (t : TaskNo) (os : List Object) where
       go false = still
 
 -- ── the calls
-module _ (k : Kernel) (S : Sound k) (t : TaskNo) where
+module _ (k : State) (S : Sound k) (t : TaskSlot) where
   caller-there : isFree (taskAt (k .tasks) (k .running) .place) ≡ false
   caller-there = ap isFree (S .runs)
 
-  first-there : (o : ObjNo) (u : TaskNo) (r : List TaskNo) → first k (WaitersOf o) ≡ u ∷ r → isFree (taskAt (k .tasks) u .place) ≡ false
+  first-there : (o : ObjSlot) (u : TaskSlot) (r : List TaskSlot) → first k (WaitersOf o) ≡ u ∷ r → isFree (taskAt (k .tasks) u .place) ≡ false
   first-there o u r e = waits-there o (taskAt (k .tasks) u .place) (first-meant k (WaitersOf o) u (first-single k (WaitersOf o) u r e))
 
   -- the first waiter is made ready, and takes the mutex over
-  pub handed-quiet : (o : ObjNo) → Quietly t k (handedOn k o)
+  pub handed-quiet : (o : ObjSlot) → Quietly t k (handedOn k o)
   unfolding handedOn
   handed-quiet o = go (first k (WaitersOf o)) refl
     where
-      go : (f : List TaskNo) → first k (WaitersOf o) ≡ f → Quietly t k (handedTo k o f)
+      go : (f : List TaskSlot) → first k (WaitersOf o) ≡ f → Quietly t k (handedTo k o f)
       go [] e = still
       go (u ∷ r) e = readied-quiet t (handedTo k o (u ∷ r) .objects) k u 1 (first-there o u r e)
 
@@ -116,7 +117,7 @@ module _ (k : Kernel) (S : Sound k) (t : TaskNo) where
       go true = still
       go false = placed-quiet t (k .objects) (k .tasks) (k .running) (Delayed (later (k .tick) n)) 0 refl caller-there (λ o h w. false≢true w)
 
-  pub suspended-quiet : (u : TaskNo) → isFree (taskAt (k .tasks) u .place) ≡ false → Quietly t k (suspended k u)
+  pub suspended-quiet : (u : TaskSlot) → isFree (taskAt (k .tasks) u .place) ≡ false → Quietly t k (suspended k u)
   unfolding suspended leaves
   suspended-quiet u e = go (isListed (taskAt (k .tasks) u .place))
     where
@@ -125,7 +126,7 @@ module _ (k : Kernel) (S : Sound k) (t : TaskNo) where
       go false = still
 
   -- a queue is no mutex of t
-  module _ (o : ObjNo) (q : Ring) (w : ℕ) (kind : kindAt (k .objects) o ≡ Queue q) where
+  module _ (o : ObjSlot) (q : Ring) (w : ℕ) (kind : kindAt (k .objects) o ≡ Queue q) where
     caller-waits : Quietly t k (waitFor k o w)
     unfolding waitFor blocked toTail
     caller-waits = wait-quiet t (k .objects) k o w caller-there (λ h. let z : _≡_ {A = ℕ} 0 1 = cc in omega arith)
@@ -142,12 +143,12 @@ module _ (k : Kernel) (S : Sound k) (t : TaskNo) where
     unfolding received
     received-quiet = go (eqb (q .count) 0) (first k (WaitersOf o)) refl
       where
-        go : (b : Bool) (f : List TaskNo) → first k (WaitersOf o) ≡ f → Quietly t k (if b then waitFor k o w else refilledBy k o (oneLess q) f)
+        go : (b : Bool) (f : List TaskSlot) → first k (WaitersOf o) ≡ f → Quietly t k (if b then waitFor k o w else refilledBy k o (oneLess q) f)
         go true f e = caller-waits
         go false [] e = still
         go false (u ∷ r) e = readied-quiet t (refilledBy k o (oneLess q) (u ∷ r) .objects) _ u 1 (first-there o u r e)
 
-  pub send-quiet : (o : ObjNo) (w : ℕ) → Quietly t k (sentTo k o (kindAt (k .objects) o) w)
+  pub send-quiet : (o : ObjSlot) (w : ℕ) → Quietly t k (sentTo k o (kindAt (k .objects) o) w)
   send-quiet o w = go (kindAt (k .objects) o) refl
     where
       go : (x : Kind) → kindAt (k .objects) o ≡ x → Quietly t k (sentTo k o x w)
@@ -155,7 +156,7 @@ module _ (k : Kernel) (S : Sound k) (t : TaskNo) where
       go (Queue q) e = sent-quiet o q w e
       go (Mutex h) e = still
 
-  pub receive-quiet : (o : ObjNo) (w : ℕ) → Quietly t k (receivedFrom k o (kindAt (k .objects) o) w)
+  pub receive-quiet : (o : ObjSlot) (w : ℕ) → Quietly t k (receivedFrom k o (kindAt (k .objects) o) w)
   receive-quiet o w = go (kindAt (k .objects) o) refl
     where
       go : (x : Kind) → kindAt (k .objects) o ≡ x → Quietly t k (receivedFrom k o x w)

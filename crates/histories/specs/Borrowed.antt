@@ -5,16 +5,16 @@ use mathlib.Core.Bool.{Bool, _&&_, _||_}
 use mathlib.Core.List.{List, [], _∷_, _++_, map}
 use Rattle.lists.specs.Choice.{if_then_else_}
 use Rattle.lists.specs.Lists.{larger, kept}
-use Rattle.calls.specs.Numbers.{sameTask}
+use Rattle.numbers.specs.Numbers.{sameTask}
 use Rattle.calls.specs.Asked.{asked}
 use Rattle.slots.specs.Places.{waited}
-use Rattle.slots.specs.Objects.{heldBy}
-use Rattle.kernel.specs.Tables.{taskAt, kindAt}
-use Rattle.kernel.specs.Lines.{level}
-use Rattle.kernel.specs.Sentences.{Exists}
-use Rattle.kernel.specs.Asking.{is}
+use Rattle.slots.specs.Objects.{heldBy, kindAt}
+use Rattle.slots.specs.Tasks.{taskAt}
+use Rattle.rules.specs.Lines.{level}
+use Rattle.rules.specs.Sentences.{Exists}
+use Rattle.rules.specs.Asking.{is}
 use Rattle.promises.specs.History.{Made}
-use Rattle.histories.specs.Types.{TaskNo, Kernel}
+use Rattle.histories.specs.Types.{TaskSlot, State}
 use Rattle.histories.specs.Moments.{Moment, moments, hasMutex, appears, begins, accepted, tasksBelow}
 
 -- the largest of several, 0 for none
@@ -23,15 +23,15 @@ largest [] = 0
 largest (n ∷ ns) = larger n (largest ns)
 
 -- "given to it by its creation": by a create at which the task appears
-abbrev pub isCreated : TaskNo → Moment → Bool
+abbrev pub isCreated : TaskSlot → Moment → Bool
 isCreated t m = is 1 (asked (m .call)) && appears m t
 
 -- "or an accepted change": by a set priority of this task
-abbrev pub isChanged : TaskNo → Moment → Bool
+abbrev pub isChanged : TaskSlot → Moment → Bool
 isChanged t m = is 5 (asked (m .call)) && (sameTask (asked (m .call) .task) t && accepted m)
 
 -- the priority given to t at the moment: a list of one, or of none
-unfoldable pub givenAt : TaskNo → Moment → List ℕ
+unfoldable pub givenAt : TaskSlot → Moment → List ℕ
 givenAt t m = if isCreated t m || isChanged t m then asked (m .call) .priority ∷ [] else []
 
 -- "the priority last given to it": its creation gives one, so a slot's earlier tasks are not asked; idle counts as created with 0
@@ -39,29 +39,29 @@ abbrev pub lastOf : List ℕ → ℕ → ℕ
 lastOf [] n = n
 lastOf (p ∷ ps) n = p
 
-unfoldable pub lastGiven : TaskNo → List Moment → ℕ
+unfoldable pub lastGiven : TaskSlot → List Moment → ℕ
 lastGiven t [] = 0
 lastGiven t (m ∷ earlier) = lastOf (givenAt t m) (lastGiven t earlier)
 
 -- the task u "began to wait on a mutex this task then held"
-abbrev pub lends : TaskNo → Moment → TaskNo → Bool
+abbrev pub lends : TaskSlot → Moment → TaskSlot → Bool
 lends t m u =
     let o = waited (taskAt (m .after .tasks) u .place) in begins m u o && heldBy t (kindAt (m .after .objects) o)
 
 -- each such "waiter's effective priority at that moment"
-unfoldable pub lentAt : TaskNo → Moment → List ℕ
+unfoldable pub lentAt : TaskSlot → Moment → List ℕ
 lentAt t m = map (level (m .after .tasks)) (kept (lends t m) (tasksBelow 16))
 
 -- "the priority it had when it went from none to one, those given to it since, and, for each later moment .., the waiter's effective priority"
-unfoldable pub counted : TaskNo → List Moment → List ℕ
+unfoldable pub counted : TaskSlot → List Moment → List ℕ
 counted t [] = []
 counted t (m ∷ earlier) =
     if hasMutex (m .before) t then givenAt t m ++ (lentAt t m ++ counted t earlier) else level (m .before .tasks) t ∷ []
 
 -- "a task without a mutex has exactly the priority last given to it"; "A task with one has the largest of" those counted
-unfoldable pub due : Kernel → List Moment → TaskNo → ℕ
+unfoldable pub due : State → List Moment → TaskSlot → ℕ
 due k past t = if hasMutex k t then largest (counted t past) else lastGiven t past
 
 -- a task that exists in k, which these calls reach, has the effective priority that their history says
-abbrev pub PaysBack : List Made → Kernel → TaskNo → Type 0
+abbrev pub PaysBack : List Made → State → TaskSlot → Type 0
 PaysBack ms k t = Exists (k .tasks) t → level (k .tasks) t ≡ due k (moments ms) t

@@ -2,28 +2,29 @@
 use Prim.Native.Nat.{ℕ, zero, suc}
 use mathlib.Core.Bool.{Bool, true, false, not, _&&_}
 use mathlib.Core.List.{List, [], _∷_}
-use Rattle.calls.specs.Numbers.{task}
+use Rattle.numbers.specs.Numbers.{task}
 use Rattle.calls.specs.Said.{Word, done, made, waiting, refused, Saying}
 use Rattle.slots.specs.Places.{isFree, waitsOn}
-use Rattle.kernel.specs.Tables.{fresh, taskAt, holds}
-use Rattle.kernel.specs.Step.{step}
+use Rattle.slots.specs.Tasks.{taskAt}
+use Rattle.rules.specs.Tables.{fresh, holds}
+use Rattle.rules.specs.Step.{step}
 use Rattle.promises.specs.History.{Made}
-use Rattle.histories.specs.Types.{TaskNo, ObjNo, Call, Kernel}
+use Rattle.histories.specs.Types.{TaskSlot, ObjSlot, Call, State}
 
 pub record Moment : Type 0 where
-  pub before : Kernel
+  pub before : State
   pub call : Call
   pub answer : Saying
-  pub after : Kernel
+  pub after : State
 
 -- the call m, made in the kernel k
-abbrev pub momentOf : Kernel → Made → Moment
+abbrev pub momentOf : State → Made → Moment
 momentOf k m =
     let r = step k (m .call) (m .item) (m .store) in
     record { before = k; call = m .call; answer = r .answer; after = r .kernel }
 
 -- the calls made in k, the latest first, ahead of those of the past
-unfoldable pub momentsFrom : Kernel → List Moment → List Made → List Moment
+unfoldable pub momentsFrom : State → List Moment → List Made → List Moment
 momentsFrom k past [] = past
 momentsFrom k past (m ∷ ms) = let n = momentOf k m in momentsFrom (n .after) (n ∷ past) ms
 
@@ -32,22 +33,22 @@ abbrev pub moments : List Made → List Moment
 moments ms = momentsFrom fresh [] ms
 
 -- ── what is asked of a kernel on the way
-abbrev pub exists : Kernel → TaskNo → Bool
+abbrev pub exists : State → TaskSlot → Bool
 exists k t = not (isFree (taskAt (k .tasks) t .place))
 
-abbrev pub hasMutex : Kernel → TaskNo → Bool
+abbrev pub hasMutex : State → TaskSlot → Bool
 hasMutex k t = holds (k .objects) t
 
-abbrev pub waitsIn : Kernel → TaskNo → ObjNo → Bool
+abbrev pub waitsIn : State → TaskSlot → ObjSlot → Bool
 waitsIn k u o = waitsOn o (taskAt (k .tasks) u .place)
 
 -- ── what is asked of a moment
 -- the task is there after it, and was not before
-abbrev pub appears : Moment → TaskNo → Bool
+abbrev pub appears : Moment → TaskSlot → Bool
 appears m t = exists (m .after) t && not (exists (m .before) t)
 
 -- "began to wait": it waits on the object after it, and did not before
-abbrev pub begins : Moment → TaskNo → ObjNo → Bool
+abbrev pub begins : Moment → TaskSlot → ObjSlot → Bool
 begins m u o = waitsIn (m .after) u o && not (waitsIn (m .before) u o)
 
 abbrev pub isRefusal : Word → Bool
@@ -60,6 +61,6 @@ abbrev pub accepted : Moment → Bool
 accepted m = not (isRefusal (m .answer .word))
 
 -- the tasks of the slots below n
-unfoldable pub tasksBelow : ℕ → List TaskNo
+unfoldable pub tasksBelow : ℕ → List TaskSlot
 tasksBelow zero = []
 tasksBelow (suc n) = task n ∷ tasksBelow n

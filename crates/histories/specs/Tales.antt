@@ -3,29 +3,30 @@ use Prim.Native.Nat.{ℕ}
 use mathlib.Core.List.{List, [], _∷_}
 use lib.ListN.{replicate}
 use Rattle.lists.specs.Choice.{if_then_else_}
-use Rattle.calls.specs.Numbers.{task, object}
-use Rattle.kernel.specs.Tables.{fresh}
-use Rattle.kernel.specs.Lines.{level}
+use Rattle.numbers.specs.Numbers.{task}
+use Rattle.calls.specs.Numbers.{taskOf, objectOf}
+use Rattle.rules.specs.Tables.{fresh}
+use Rattle.rules.specs.Lines.{level}
 use Rattle.promises.specs.History.{Made}
-use Rattle.histories.specs.Types.{TaskNo, Kernel, Call, Create, Delete, SetPriority, Delay, MakeMutex, Take, Give, Tick}
+use Rattle.histories.specs.Types.{TaskSlot, State, Call, Create, Delete, SetPriority, Delay, MakeMutex, Take, Give, Tick}
 use Rattle.histories.specs.Moments.{Moment, momentOf, exists}
 use Rattle.histories.specs.Borrowed.{due}
 
 -- what the kernel says and what its history says, after a call; nothing where the task does not exist
-abbrev pub shownIn : TaskNo → Kernel → List Moment → List ℕ
+abbrev pub shownIn : TaskSlot → State → List Moment → List ℕ
 shownIn t k past = if exists k t then level (k .tasks) t ∷ due k past t ∷ [] else []
 
 -- every call with an empty item and a store of zeros
 abbrev pub plain : Call → Made
 plain c = record { call = c; item = []; store = replicate 9216 0 }
 
-unfoldable pub shownFrom : TaskNo → Kernel → List Moment → List Call → List (List ℕ)
+unfoldable pub shownFrom : TaskSlot → State → List Moment → List Call → List (List ℕ)
 shownFrom t k past [] = []
 shownFrom t k past (c ∷ cs) =
     let n = momentOf k (plain c) in shownIn t (n .after) (n ∷ past) ∷ shownFrom t (n .after) (n ∷ past) cs
 
 pub record Tale : Type 0 where
-  pub task : TaskNo
+  pub task : TaskSlot
   pub calls : List Call
   pub expected : List (List ℕ)
 
@@ -43,7 +44,7 @@ gone = []
 unfoldable pub twoGives : Tale
 twoGives = record {
   task = task 1;
-  calls = Create 3 ∷ MakeMutex ∷ MakeMutex ∷ Take (object 0) 0 ∷ Take (object 1) 0 ∷ Create 5 ∷ Take (object 0) 10 ∷ Give (object 0) ∷ Give (object 1) ∷ [];
+  calls = Create 3 ∷ MakeMutex ∷ MakeMutex ∷ Take (objectOf 0) 0 ∷ Take (objectOf 1) 0 ∷ Create 5 ∷ Take (objectOf 0) 10 ∷ Give (objectOf 0) ∷ Give (objectOf 1) ∷ [];
   expected = both 3 ∷ both 3 ∷ both 3 ∷ both 3 ∷ both 3 ∷ both 3 ∷ both 5 ∷ both 5 ∷ both 3 ∷ [];
 }
 
@@ -51,7 +52,7 @@ twoGives = record {
 unfoldable pub setWithLoan : Tale
 setWithLoan = record {
   task = task 1;
-  calls = Create 3 ∷ MakeMutex ∷ Take (object 0) 0 ∷ Create 5 ∷ Take (object 0) 10 ∷ SetPriority (task 1) 2 ∷ SetPriority (task 1) 7 ∷ SetPriority (task 1) 4 ∷ Give (object 0) ∷ [];
+  calls = Create 3 ∷ MakeMutex ∷ Take (objectOf 0) 0 ∷ Create 5 ∷ Take (objectOf 0) 10 ∷ SetPriority (taskOf 1) 2 ∷ SetPriority (taskOf 1) 7 ∷ SetPriority (taskOf 1) 4 ∷ Give (objectOf 0) ∷ [];
   expected = both 3 ∷ both 3 ∷ both 3 ∷ both 3 ∷ both 5 ∷ both 5 ∷ both 7 ∷ both 7 ∷ both 4 ∷ [];
 }
 
@@ -59,7 +60,7 @@ setWithLoan = record {
 unfoldable pub timeRunsOut : Tale
 timeRunsOut = record {
   task = task 1;
-  calls = Create 3 ∷ MakeMutex ∷ Take (object 0) 0 ∷ Create 5 ∷ Take (object 0) 1 ∷ Tick ∷ Delay 9 ∷ Give (object 0) ∷ [];
+  calls = Create 3 ∷ MakeMutex ∷ Take (objectOf 0) 0 ∷ Create 5 ∷ Take (objectOf 0) 1 ∷ Tick ∷ Delay 9 ∷ Give (objectOf 0) ∷ [];
   expected = both 3 ∷ both 3 ∷ both 3 ∷ both 3 ∷ both 5 ∷ both 5 ∷ both 5 ∷ both 3 ∷ [];
 }
 
@@ -70,17 +71,17 @@ handedWithWaiter = record {
   calls =
       Create 3
       ∷ MakeMutex
-      ∷ Take (object 0) 0
+      ∷ Take (objectOf 0) 0
       ∷ Create 6
-      ∷ Take (object 0) 10
+      ∷ Take (objectOf 0) 10
       ∷ Create 7
-      ∷ Take (object 0) 10
-      ∷ SetPriority (task 3) 5
-      ∷ Give (object 0)
-      ∷ SetPriority (task 3) 9
+      ∷ Take (objectOf 0) 10
+      ∷ SetPriority (taskOf 3) 5
+      ∷ Give (objectOf 0)
+      ∷ SetPriority (taskOf 3) 9
       ∷ Create 8
-      ∷ Take (object 0) 10
-      ∷ Give (object 0)
+      ∷ Take (objectOf 0) 10
+      ∷ Give (objectOf 0)
       ∷ [];
   expected = gone ∷ gone ∷ gone ∷ both 6 ∷ both 6 ∷ both 6 ∷ both 6 ∷ both 6 ∷ both 6 ∷ both 6 ∷ both 6 ∷ both 8 ∷ both 6 ∷ [];
 }
@@ -89,7 +90,7 @@ handedWithWaiter = record {
 unfoldable pub lendsBorrowed : Tale
 lendsBorrowed = record {
   task = task 1;
-  calls = Create 3 ∷ MakeMutex ∷ MakeMutex ∷ Take (object 0) 0 ∷ Create 4 ∷ Take (object 1) 0 ∷ Create 7 ∷ Take (object 1) 10 ∷ Take (object 0) 10 ∷ Give (object 0) ∷ [];
+  calls = Create 3 ∷ MakeMutex ∷ MakeMutex ∷ Take (objectOf 0) 0 ∷ Create 4 ∷ Take (objectOf 1) 0 ∷ Create 7 ∷ Take (objectOf 1) 10 ∷ Take (objectOf 0) 10 ∷ Give (objectOf 0) ∷ [];
   expected = both 3 ∷ both 3 ∷ both 3 ∷ both 3 ∷ both 3 ∷ both 3 ∷ both 3 ∷ both 3 ∷ both 7 ∷ both 3 ∷ [];
 }
 
@@ -97,10 +98,10 @@ lendsBorrowed = record {
 unfoldable pub refusedChange : Tale
 refusedChange = record {
   task = task 1;
-  calls = Create 3 ∷ SetPriority (task 1) 40 ∷ MakeMutex ∷ Take (object 0) 0 ∷ SetPriority (task 1) 40 ∷ Give (object 0) ∷ [];
+  calls = Create 3 ∷ SetPriority (taskOf 1) 40 ∷ MakeMutex ∷ Take (objectOf 0) 0 ∷ SetPriority (taskOf 1) 40 ∷ Give (objectOf 0) ∷ [];
   expected = both 3 ∷ both 3 ∷ both 3 ∷ both 3 ∷ both 3 ∷ both 3 ∷ [];
 }
 
 -- the slot's first task had 5, the next has 3
 unfoldable pub slotUsedAgain : Tale
-slotUsedAgain = record { task = task 1; calls = Create 5 ∷ Delete (task 1) ∷ Create 3 ∷ []; expected = both 5 ∷ gone ∷ both 3 ∷ [] }
+slotUsedAgain = record { task = task 1; calls = Create 5 ∷ Delete (taskOf 1) ∷ Create 3 ∷ []; expected = both 5 ∷ gone ∷ both 3 ∷ [] }

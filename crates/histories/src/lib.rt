@@ -1,1 +1,1 @@
-// Theorems about the kernel's histories: what a whole row of calls leaves behind. The definitions are in specs/, the proofs in proofs/; there is no code.
+// Theorems about histories: what a whole row of calls leaves behind. The definitions are in specs/, the proofs in proofs/; there is no code.

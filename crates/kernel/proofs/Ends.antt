@@ -1,77 +1,139 @@
--- How an accepted call ends: what its effect is, and what it answers.
-use Prim.Native.Nat.{ℕ, _≤_, min}
+-- What the walks of the tables find is what the rules say of the state.
+use Prim.Native.Nat.{ℕ}
 use mathlib.Core.Path.{_≡_, refl, sym, ap, _∙_}
-use mathlib.Core.Bool.{Bool, true, false}
+use mathlib.Core.Bool.{Bool, true, false, not, _&&_, _||_}
 use mathlib.Core.List.{List, [], _∷_}
-use native.Mathlib.Omega.{arith}
 use lib.Dec.{eqb}
-use lib.ListN.{length, take}
+use lib.ListN.{set}
 use borrow.Author.Tests.{eq-eqb, ne-eqb}
 use Rattle.lists.specs.Choice.{if_then_else_}
-use Rattle.lists.specs.Lists.{foldl}
-use Rattle.calls.specs.Asked.{asked}
-use Rattle.calls.specs.Said.{Saying, says, made, waiting}
-use Rattle.order.specs.Order.{listed, reach}
-use Rattle.slots.specs.Places.{isBlocked}
-use Rattle.slots.specs.Leads.{better, leads, leadsOr}
-use Rattle.kernel.specs.Types.{TaskNo, Task, AllReady, Lead, Open, Best, Call, Kernel, Step}
-use Rattle.kernel.specs.Tables.{taskAt, withRunning}
-use Rattle.kernel.specs.Lines.{those, leader, first, runsIf, chosen}
-use Rattle.kernel.specs.Effects.{effect}
-use Rattle.kernel.specs.Step.{answered}
-use Rattle.kernel.proofs.Slots.{past-tasks}
-use Rattle.kernel.proofs.Leads.{finds}
-use Rattle.kernel.specs.Promises.{waitingOr, doneOrWaiting, Ended, Makes, Accepts}
+use Rattle.lists.specs.Lists.{foldl, any, kept, isNone}
+use Rattle.numbers.specs.declared.TaskSlot.{TaskSlot}
+use Rattle.order.specs.Order.{listed}
+use Rattle.slots.specs.declared.Task.{Task}
+use Rattle.slots.specs.declared.Who.{Who}
+use Rattle.slots.specs.declared.Who.the-variants.{AllReady}
+use Rattle.slots.specs.declared.Lead.{Lead}
+use Rattle.slots.specs.declared.Lead.the-variants.{Open, Best}
+use Rattle.slots.specs.Places.{wakesAt, outcomeDue}
+use Rattle.slots.specs.Tasks.{taskAt, inHigher}
+use Rattle.slots.specs.Leads.{leads, leadsOr}
+use Rattle.tasks.specs.declared.Woken.{Woken}
+use Rattle.tasks.specs.Rows.{tasksOf}
+use Rattle.objects.specs.Rows.{objectsOf}
+use Rattle.tasks.specs.Walks.{leadIn, higherIn}
+use Rattle.tasks.specs.Dues.{woken, readyOf, tailed, wakesIn}
+use Rattle.tasks.proofs.Lists.{lead-of, higher-of, wakes-by}
+use Rattle.rules.specs.State.{State}
+use Rattle.rules.specs.Tables.{withRunning}
+use Rattle.rules.specs.Lines.{level, first, runsIf, chosen, toTail}
+use Rattle.rules.specs.Sound.{noHigher}
+use Rattle.rules.specs.Waits.{readied}
+use Rattle.rules.specs.Ticks.{wokenIfDue, wakes, turned}
+use Rattle.rules.proofs.Leads.{finds}
+use Rattle.kernel.specs.Types.{Kernel}
+use Rattle.kernel.specs.Stands.{kernelOf}
+use Rattle.kernel.proofs.Stands.{same-running}
 
-pub ends : (k : Kernel) (c : Call) {e : Kernel} {r : Step} → e ≡ effect k c → ((next : Kernel) → answered k (asked c) next ≡ doneOrWaiting next (k .running)) → Ended e (k .running) r → Accepts k c r
-ends k c q a d =
-    record {
-      kernel = d .kernel ∙ ap chosen q;
-      answer = d .answer ∙ ap (λ x. doneOrWaiting (chosen x) (k .running)) q ∙ sym (a (chosen (effect k c)));
-    }
+-- who stands first
+pub first-of : (s : State) (w : Who) → leads (leadIn (tasksOf (s .tasks)) w (listed (s .order))) ≡ first s w
+unfolding first
+first-of s w = ap leads (lead-of (s .tasks) w (listed (s .order))) ∙ finds (s .tasks) w (listed (s .order))
 
-pub makes : (k : Kernel) (c : Call) {e : Kernel} {n : ℕ} {r : Step} → e ≡ effect k c → ((next : Kernel) → answered k (asked c) next ≡ says made n) → Makes e n r → Accepts k c r
-makes k c q a d = record { kernel = d .kernel ∙ ap chosen q; answer = d .answer ∙ sym (a (chosen (effect k c))) }
+-- who is found runs
+leads-run : (s : State) (b : Lead) → withRunning s (leadsOr b (s .running)) ≡ runsIf s (leads b)
+leads-run s Open = refl
+leads-run s (Best t p) = refl
 
--- choose changes no task
-pub chosen-tasks : (k : Kernel) → chosen k .tasks ≡ k .tasks
+pub chosen-by : (s : State) → s .hold ≡ 0 → withRunning s (leadsOr (leadIn (tasksOf (s .tasks)) AllReady (listed (s .order))) (s .running)) ≡ chosen s
 unfolding chosen
-chosen-tasks k = go (eqb (k .hold) 0) (first k AllReady)
+chosen-by s h =
+    leads-run s (leadIn (tasksOf (s .tasks)) AllReady (listed (s .order)))
+    ∙ rw (eq-eqb (s .hold) 0 h, first-of s AllReady)
+
+pub stays-running : (s : State) → (s .hold ≡ 0 → ⊥) → s ≡ chosen s
+unfolding chosen
+stays-running s h = rw (ne-eqb (s .hold) 0 h)
+
+-- whether a higher line is occupied
+none-any : (p : TaskSlot → Bool) (l : List TaskSlot) → isNone (kept p l) ≡ not (any p l)
+unfolding kept any
+none-any p [] = refl
+none-any p (t ∷ l) = go (p t) (none-any p l)
   where
-    go : (b : Bool) (l : List TaskNo) → (if b then runsIf k l else k) .tasks ≡ k .tasks
-    go true [] = refl
-    go true (t ∷ l) = refl
-    go false l = refl
+    go : (b : Bool) → isNone (kept p l) ≡ not (any p l) → isNone (if b then t ∷ kept p l else kept p l) ≡ not (b || any p l)
+    go true e = refl
+    go false e = e
 
--- so the caller is answered alike before and after it
-pub chosen-answer : (a : Saying) (k : Kernel) (u : TaskNo) → waitingOr a k u ≡ waitingOr a (chosen k) u
-chosen-answer a k u =
-    ap (λ (ts : List Task). if isBlocked (taskAt ts u .place) then says waiting 0 else a) (sym (chosen-tasks k))
+module _ (k : Kernel) (s : State) (y : Task) (b : Bool) (h : k ≡ kernelOf s) (q : y ≡ taskAt (s .tasks) (k .running)) (e : b ≡ higherIn (k .tasks) (y .effective) (listed (k .order))) where
+  no-higher-of : noHigher (s .tasks) (level (s .tasks) (s .running)) (listed (s .order)) ≡ not b
+  unfolding noHigher kernelOf
+  no-higher-of =
+      none-any (λ t. inHigher (level (s .tasks) (s .running)) (taskAt (s .tasks) t)) (listed (s .order))
+      ∙ ap not (sym (e
+      ∙ ap (λ (n : Kernel). higherIn (n .tasks) (y .effective) (listed (n .order))) h
+      ∙ ap (λ (x : Task). higherIn (tasksOf (s .tasks)) (x .effective) (listed (s .order))) (q ∙ ap (taskAt (s .tasks)) (same-running k s h))
+      ∙ higher-of (s .tasks) (level (s .tasks) (s .running)) (listed (s .order))))
 
--- a number past the table waits for nothing
-pub past-answer : (a : Saying) (k : Kernel) (t : TaskNo) → length (k .tasks) ≤ t .0 → waitingOr a (chosen k) t ≡ a
-past-answer a k t h = sym (chosen-answer a k t) ∙ ap (λ (x : Task). if isBlocked (x .place) then says waiting 0 else a) (past-tasks (k .tasks) t h)
+  -- one is: nothing moves
+  pub no-turn : b ≡ true → s ≡ turned s
+  unfolding turned
+  no-turn f = sym (ap (λ c. if c then toTail s (s .running) else s) (no-higher-of ∙ ap not f))
 
--- whom choose looks at: with a hold, nobody
-abbrev pub lookedAt : Kernel → ℕ
-lookedAt k = if eqb (k .hold) 0 then k .order .living else 0
+  -- none is
+  pub turn-goes : b ≡ false → toTail s (s .running) ≡ turned s
+  unfolding turned
+  turn-goes f = sym (ap (λ c. if c then toTail s (s .running) else s) (no-higher-of ∙ ap not f))
 
-pub looked-some : (k : Kernel) (n : ℕ) → length (k .order .places) ≡ 16 → k .hold ≡ 0 → n ≡ reach (k .order) → n ≡ min (lookedAt k) (length (k .order .places))
-looked-some k n len h e = rw (eq-eqb (k .hold) 0 h, len) e
+-- the wakes: they change tasks and order, and nothing else
+module _ {A : Type 0} (f : State → A) (same : (s : State) (t : TaskSlot) → f (wokenIfDue s t) ≡ f s) where
+  all-same : (s : State) (l : List TaskSlot) → f (foldl wokenIfDue s l) ≡ f s
+  unfolding foldl
+  all-same s [] = refl
+  all-same s (t ∷ l) = all-same (wokenIfDue s t) l ∙ same s t
 
-pub looked-none : (k : Kernel) (n : ℕ) → (k .hold ≡ 0 → ⊥) → n ≡ 0 → n ≡ min (lookedAt k) (length (k .order .places))
-looked-none k n h e = rw (ne-eqb (k .hold) 0 h) (omega (arith, e))
-
--- who leads of those looked at runs
-leads-run : (k : Kernel) (b : Lead) → withRunning k (leadsOr b (k .running)) ≡ runsIf k (leads b)
-leads-run k Open = refl
-leads-run k (Best t p) = refl
-
-pub chosen-by : (k : Kernel) (b : Lead) → b ≡ foldl (λ c t. better AllReady c t (taskAt (k .tasks) t)) Open (take (lookedAt k) (k .order .places)) → withRunning k (leadsOr b (k .running)) ≡ chosen k
-unfolding chosen first foldl
-chosen-by k b e = go (eqb (k .hold) 0) e
+woke : {A : Type 0} (f : State → A) (s : State) (t : TaskSlot) → f (readied s t (outcomeDue (taskAt (s .tasks) t .place))) ≡ f s → f (wokenIfDue s t) ≡ f s
+unfolding wokenIfDue
+woke f s t e = go (wakesAt (s .tick) (taskAt (s .tasks) t .place))
   where
-    go : (h : Bool) → b ≡ foldl (λ c t. better AllReady c t (taskAt (k .tasks) t)) Open (take (if h then k .order .living else 0) (k .order .places))
-        → withRunning k (leadsOr b (k .running)) ≡ (if h then runsIf k (leader (k .tasks) (those (k .tasks) AllReady (listed (k .order)))) else k)
-    go true q = leads-run k b ∙ ap (λ c. runsIf k (leads c)) q ∙ ap (runsIf k) (finds (k .tasks) AllReady (listed (k .order)))
-    go false q = ap (λ c. withRunning k (leadsOr c (k .running))) q
+    go : (b : Bool) → f (if b then readied s t (outcomeDue (taskAt (s .tasks) t .place)) else s) ≡ f s
+    go true = e
+    go false = refl
+
+wakes-columns : (s : State) (l : List TaskSlot) → wakesIn (s .tick) (woken (tasksOf (s .tasks)) (s .order)) l ≡ woken (tasksOf (wakes s l .tasks)) (wakes s l .order)
+unfolding wakes wokenIfDue readied toTail
+wakes-columns s l =
+    wakes-by (λ z. z .tasks) (λ z. z .order) (λ z. z .tick) wokenIfDue (λ z t. ticks z t (wakesAt (z .tick) (taskAt (z .tasks) t .place))) (λ z t. sets z t (wakesAt (z .tick) (taskAt (z .tasks) t .place))) (λ z t. tails z t (wakesAt (z .tick) (taskAt (z .tasks) t .place))) s l
+  where
+    ready : State → TaskSlot → State
+    ready z t = readied z t (outcomeDue (taskAt (z .tasks) t .place))
+
+    ticks : (z : State) (t : TaskSlot) (b : Bool) → (if b then ready z t else z) .tick ≡ z .tick
+    ticks z t true = refl
+    ticks z t false = refl
+
+    sets : (z : State) (t : TaskSlot) (b : Bool) → (if b then ready z t else z) .tasks ≡ (if b then set (z .tasks) (t .0) (readyOf (taskAt (z .tasks) t)) else z .tasks)
+    sets z t true = refl
+    sets z t false = refl
+
+    tails : (z : State) (t : TaskSlot) (b : Bool) → (if b then ready z t else z) .order ≡ (if b then tailed (z .order) t else z .order)
+    tails z t true = refl
+    tails z t false = refl
+
+pub wakes-done : (s : State) (l : List TaskSlot) (w : Woken) → w ≡ wakesIn (s .tick) (woken (tasksOf (s .tasks)) (s .order)) l
+    → _≡_ {A = Kernel} (record { tasks = w .tasks; objects = objectsOf (s .objects); order = w .order; running = s .running; tick = s .tick; hold = s .hold; pended = s .pended }) (kernelOf (wakes s l))
+unfolding kernelOf wakes readied toTail
+wakes-done s l w e = λ i. record {
+  tasks = (e ∙ wakes-columns s l) i .tasks;
+  objects = objectsOf (sym (all-same (λ z. z .objects) (λ z t. woke (λ y. y .objects) z t refl) s l) i);
+  order = (e ∙ wakes-columns s l) i .order;
+  running = sym (all-same (λ z. z .running) (λ z t. woke (λ y. y .running) z t refl) s l) i;
+  tick = sym (all-same (λ z. z .tick) (λ z t. woke (λ y. y .tick) z t refl) s l) i;
+  hold = sym (all-same (λ z. z .hold) (λ z t. woke (λ y. y .hold) z t refl) s l) i;
+  pended = sym (all-same (λ z. z .pended) (λ z t. woke (λ y. y .pended) z t refl) s l) i;
+}
+
+-- a create's or make's slot is looked for in no other call
+pub no-slot : (b : Bool) (n : ℕ) → eqb (if b then n else 0) 16 ≡ (b && eqb n 16)
+no-slot true n = refl
+no-slot false n = refl

@@ -1,35 +1,9 @@
--- The declared records and variants, under one name.
-pub use Rattle.calls.specs.declared.TaskNo.{TaskNo}
-pub use Rattle.calls.specs.declared.ObjNo.{ObjNo}
-pub use Rattle.calls.specs.declared.Call.{Call}
-pub use Rattle.calls.specs.declared.Call.the-variants.{Create, Delete, Suspend, Resume, SetPriority, Delay, Yield, Hold, Release, MakeQueue, MakeMutex, Remove, Send, Receive, Take, Give, Tick}
-pub use Rattle.calls.specs.declared.Names.{Names}
-pub use Rattle.calls.specs.declared.Names.the-variants.{Nothing, Task as ATask, Object as AnObject, Queue as AQueue, Mutex as AMutex}
-pub use Rattle.calls.specs.declared.Asked.{Asked}
+-- The code's own records and variants, under one name.
 pub use Rattle.cuts.specs.declared.Cut.{Cut}
-pub use Rattle.order.specs.declared.Order.{Order}
-pub use Rattle.slots.specs.declared.Wake.{Wake}
-pub use Rattle.slots.specs.declared.Wake.the-variants.{Never, At}
-pub use Rattle.slots.specs.declared.Place.{Place}
-pub use Rattle.slots.specs.declared.Place.the-variants.{Free, Ready, Delayed, Waiting, Suspended}
-pub use Rattle.slots.specs.declared.Task.{Task}
-pub use Rattle.slots.specs.declared.Ring.{Ring}
-pub use Rattle.slots.specs.declared.Holder.{Holder}
-pub use Rattle.slots.specs.declared.Holder.the-variants.{Nobody, By}
-pub use Rattle.slots.specs.declared.Kind.{Kind}
-pub use Rattle.slots.specs.declared.Kind.the-variants.{Unused, Queue, Mutex}
-pub use Rattle.slots.specs.declared.Object.{Object}
-pub use Rattle.slots.specs.declared.Who.{Who}
-pub use Rattle.slots.specs.declared.Who.the-variants.{AllReady, WaitersOf}
-pub use Rattle.slots.specs.declared.Found.{Found}
-pub use Rattle.slots.specs.declared.Found.the-variants.{NoOne, Someone}
-pub use Rattle.slots.specs.declared.Lead.{Lead}
-pub use Rattle.slots.specs.declared.Lead.the-variants.{Open, Best}
 pub use Rattle.kernel.specs.declared.Kernel.{Kernel}
 pub use Rattle.kernel.specs.declared.Step.{Step}
 pub use Rattle.kernel.specs.declared.Outlet.{Outlet}
-pub use Rattle.kernel.specs.declared.Outlet.the-variants.{Waiter as toWaiter, Ring as toQueue, Caller as toCaller}
+pub use Rattle.kernel.specs.declared.Outlet.the-variants.{Waiter, Ring as InRing, Caller}
 pub use Rattle.kernel.specs.declared.Seen.{Seen}
-pub use Rattle.kernel.specs.declared.Walk.{Walk}
 pub use Rattle.kernel.specs.declared.Session.{Session}
 pub use Rattle.kernel.specs.declared.Served.{Served}

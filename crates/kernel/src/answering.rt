@@ -1,15 +1,19 @@
 // A session: bytes come in blocks, cut anywhere, and each line that ends among them is answered. Soundness is tested once a block; a step keeps it.
 ghost use mathlib.Core.Path.{_≡_};
 ghost use Prim.Native.Nat.{_≤_};
-ghost use Rattle.kernel.specs.Sound.{sound};
-ghost use Rattle.kernel.specs.Session.{readCut, beforeCall, callIn, stepRead, newSession};
-ghost use Rattle.kernel.specs.Promises.{Is, Answers, Closes};
+ghost use mathlib.Core.Bool.{true};
+ghost use Rattle.rules.specs.Sound.{sound};
+ghost use Rattle.rules.specs.Session.{readCut, stepRead};
+ghost use Rattle.kernel.specs.Stands.{kernelOf, shown};
+ghost use Rattle.kernel.specs.Serving.{beforeCall, callIn};
+ghost use Rattle.kernel.specs.Promises.{Is, Answers, Closes, newSession};
 use crate::Kernel;
 use crate::Served;
 use crate::Session;
 use crate::Step;
 use calls::Answer;
 use calls::Call;
+use calls::TaskNo;
 use cuts::Cut;
 use cuts::gather;
 use cuts::keep;
@@ -60,8 +64,8 @@ fn call_in(says: Reading) -> Call
 impl Kernel {
     // The step of a line; `fine` says whether the kernel is sound.
     fn line_step(self, fine: bool, line: Read, store: &mut [u8]) -> Step
-        requires { ⌜ (fine ≡ sound self) × (line .len ≤ 64) ⌝ }
-        ensures { λ r. ⌜ Is (stepRead self (now (store .entry)) line) r (now (store .exit)) ⌝ }
+        requires { ⌜ (fine ≡ sound (shown self)) × (sound (shown self) ≡ true → self ≡ kernelOf (shown self)) × (line .len ≤ 64) ⌝ }
+        ensures { λ r. ⌜ Is self (stepRead (shown self) (now (store .entry)) line) r (now (store .exit)) ⌝ }
     {
         let says = line.answer;
         let no = line_refusal(says, fine, store.len());
@@ -117,7 +121,7 @@ impl Session {
             let step = kernel.line_step(fine, read_cut(Cut { bytes, len: n }), store);
             kernel = step.kernel;
             let answer = step.answer;
-            written = put_answer(out, written, answer, kernel.running);
+            written = put_answer(out, written, answer, TaskNo::of_slot(kernel.running));
             len = 0;
             at = stop.next + 1;
         }
@@ -136,7 +140,7 @@ impl Session {
             };
         }
         let no = line_refusal(Reading::Refused(3), self.kernel.sound(), store.len());
-        let written = put_answer(out, 0, Answer::Refused(no), self.kernel.running);
+        let written = put_answer(out, 0, Answer::Refused(no), TaskNo::of_slot(self.kernel.running));
         self.cut.len = 0;
         Served {
             session: self,

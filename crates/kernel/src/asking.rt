@@ -1,10 +1,9 @@
 // What a call asks, as the rows of the refusal table speak of it.
 ghost use mathlib.Core.Path.{_≡_};
-ghost use mathlib.Core.Bool.{_||_};
-ghost use Rattle.kernel.specs.Asking.{is, makes, stops, waits};
+ghost use Rattle.rules.specs.Asking.{is, makes, stops, waits};
 use calls::Asked;
 
-pub(crate) fn is(a: Asked, n: u32) -> bool
+pub(crate) fn is(a: Asked, n: u8) -> bool
     ensures { λ r. ⌜ r ≡ is n a ⌝ }
 {
     a.number == n
@@ -26,11 +25,4 @@ pub(crate) fn waits(a: Asked) -> bool
     ensures { λ r. ⌜ r ≡ waits a ⌝ }
 {
     a.wait != 0
-}
-
-// Rows 9 and 10 of the refusal table speak of it. They walk a table, so no other call asks them.
-pub(crate) fn walks(a: Asked) -> bool
-    ensures { λ r. ⌜ r ≡ (makes a || (is 2 a || is 12 a)) ⌝ }
-{
-    lists::either(makes(a), lists::either(is(a, 2), is(a, 12)))
 }

@@ -16,19 +16,19 @@ mod ticks;
 mod waits;
 
 use calls::Answer;
-use calls::TaskNo;
 use cuts::Cut;
+use numbers::TaskSlot;
+use objects::Objects;
 use order::Order;
 use slots::Kind;
-use slots::Object;
 use slots::Place;
-use slots::Task;
+use tasks::Tasks;
 
 pub struct Kernel {
-    pub tasks: [Task; 16],
-    pub objects: [Object; 16],
+    pub tasks: Tasks,
+    pub objects: Objects,
     pub order: Order,
-    pub running: TaskNo,
+    pub running: TaskSlot,
     pub tick: u32,
     pub hold: u8,
     pub pended: u16,
@@ -42,37 +42,21 @@ pub struct Step {
 
 // Where a sent item goes: to the first waiting receiver, into the queue, or to the slip of the caller, who waits.
 pub(crate) enum Outlet {
-    Waiter(TaskNo),
+    Waiter(TaskSlot),
     Ring,
     Caller,
 }
 
-// What the rows of the refusal table look at: the task and the object that the call names, the caller, the hold and the pended ticks.
+// What the rows of the refusal table look at: the task and the object that the call names; the slot that a create or make takes, and whether what is to be
+// deleted or removed is in use, each searched once, for their calls alone; the caller, the hold and the pended ticks.
 pub(crate) struct Seen {
     pub(crate) place: Place,
     pub(crate) kind: Kind,
-    pub(crate) running: TaskNo,
+    pub(crate) new: u8,
+    pub(crate) used: bool,
+    pub(crate) running: TaskSlot,
     pub(crate) hold: u8,
     pub(crate) pended: u16,
-}
-
-// A walk of the order, so far: whether it met one of the running task's line, and whether all is fine.
-pub(crate) struct Walk {
-    pub(crate) met: bool,
-    pub(crate) fine: bool,
-}
-
-// What the walk finds: how often each slot's number stands in the order, whether no other number does, and whether the running task may run.
-pub(crate) struct Standings {
-    pub(crate) tallies: [u8; 16],
-    pub(crate) numbers: bool,
-    pub(crate) runs: bool,
-}
-
-// For each slot, whether its task holds a mutex; and whether each object is fine.
-pub(crate) struct Holdings {
-    pub(crate) held: [bool; 16],
-    pub(crate) fine: bool,
 }
 
 // What goes on from block to block: the kernel, and what there is of a line whose newline has not come yet.

@@ -1,52 +1,50 @@
-// Who stands first, and moves within the order.
+// Who stands first, who runs, and moves within the order.
 ghost use mathlib.Core.Path.{_≡_};
 ghost use Rattle.slots.specs.Leads.{whom};
-ghost use Rattle.kernel.specs.Lines.{first, toTail, toHead, leaves};
+ghost use Rattle.rules.specs.Lines.{first, chosen, toTail, toHead, leaves};
+ghost use Rattle.kernel.specs.Does.{Reads, Does};
 use crate::Kernel;
-use calls::TaskNo;
+use numbers::TaskSlot;
 use slots::Found;
-use slots::Lead;
 use slots::Who;
 
 impl Kernel {
     // The first, in the order, of the highest effective priority among those meant.
     pub(crate) fn first(self, w: Who) -> Found
-        ensures { λ r. ⌜ whom r ≡ first self w ⌝ }
+        ensures { λ r. ⌜ Reads self (λ s. first s w) (whom r) ⌝ }
     {
-        let mut best = Lead::Open;
-        let mut i = 0usize;
-        let o = self.order;
-        let n = o.reach();
-        while i < n {
-            let t = o.places[i];
-            let s = t.slot();
-            if s < 16 {
-                let x = self.tasks[s];
-                best = best.better(w, t, x);
-            }
-            i += 1;
+        self.tasks.first(w, self.order).found()
+    }
+
+    // With no hold, the head of the highest occupied line runs. No line changes: who is overtaken stays at the head of its own.
+    pub(crate) fn chosen(mut self) -> Kernel
+        ensures { λ r. ⌜ Does self chosen r ⌝ }
+    {
+        if self.hold == 0 {
+            let best = self.tasks.first(Who::AllReady, self.order);
+            self.running = best.or(self.running);
         }
-        best.found()
+        self
     }
 
-    pub(crate) fn to_tail(self, t: TaskNo) -> Kernel
-        ensures { λ r. ⌜ r ≡ toTail self t ⌝ }
+    pub(crate) fn to_tail(mut self, t: TaskSlot) -> Kernel
+        ensures { λ r. ⌜ Does self (λ s. toTail s t) r ⌝ }
     {
-        let o = self.order;
-        self.with_order(o.to_tail(t))
+        self.order = self.order.to_tail(t);
+        self
     }
 
-    pub(crate) fn to_head(self, t: TaskNo) -> Kernel
-        ensures { λ r. ⌜ r ≡ toHead self t ⌝ }
+    pub(crate) fn to_head(mut self, t: TaskSlot) -> Kernel
+        ensures { λ r. ⌜ Does self (λ s. toHead s t) r ⌝ }
     {
-        let o = self.order;
-        self.with_order(o.to_front(t))
+        self.order = self.order.to_front(t);
+        self
     }
 
-    pub(crate) fn leaves(self, t: TaskNo) -> Kernel
-        ensures { λ r. ⌜ r ≡ leaves self t ⌝ }
+    pub(crate) fn leaves(mut self, t: TaskSlot) -> Kernel
+        ensures { λ r. ⌜ Does self (λ s. leaves s t) r ⌝ }
     {
-        let o = self.order;
-        self.with_order(o.without(t))
+        self.order = self.order.without(t);
+        self
     }
 }

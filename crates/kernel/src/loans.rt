@@ -1,9 +1,10 @@
 // How a priority comes about: given, lent, paid back.
 ghost use mathlib.Core.Path.{_≡_};
 ghost use Rattle.lists.specs.Lists.{larger};
-ghost use Rattle.kernel.specs.Loans.{moved, movedIf, prioritized, newPriority, lent, ownAgain};
+ghost use Rattle.rules.specs.Loans.{moved, movedIf, prioritized, newPriority, lent, ownAgain};
+ghost use Rattle.kernel.specs.Does.{Does};
 use crate::Kernel;
-use calls::TaskNo;
+use numbers::TaskSlot;
 
 fn larger(a: u8, b: u8) -> u8
     ensures { λ r. ⌜ r ≡ larger a b ⌝ }
@@ -12,8 +13,8 @@ fn larger(a: u8, b: u8) -> u8
 }
 
 impl Kernel {
-    fn moved(self, t: TaskNo) -> Kernel
-        ensures { λ r. ⌜ r ≡ moved self t ⌝ }
+    fn moved(self, t: TaskSlot) -> Kernel
+        ensures { λ r. ⌜ Does self (λ s. moved s t) r ⌝ }
     {
         let u = self.running;
         if t.same(u) {
@@ -23,8 +24,8 @@ impl Kernel {
         }
     }
 
-    fn moved_if(self, ready: bool, unchanged: bool, t: TaskNo) -> Kernel
-        ensures { λ r. ⌜ r ≡ movedIf ready unchanged self t ⌝ }
+    fn moved_if(self, ready: bool, unchanged: bool, t: TaskSlot) -> Kernel
+        ensures { λ r. ⌜ Does self (λ s. movedIf ready unchanged s t) r ⌝ }
     {
         if ready {
             if unchanged {
@@ -37,8 +38,8 @@ impl Kernel {
     }
 
     // Own and effective priority changed; a ready task whose effective priority changes moves.
-    fn prioritized(self, t: TaskNo, own: u8, effective: u8) -> Kernel
-        ensures { λ r. ⌜ r ≡ prioritized self t own effective ⌝ }
+    fn prioritized(self, t: TaskSlot, own: u8, effective: u8) -> Kernel
+        ensures { λ r. ⌜ Does self (λ s. prioritized s t own effective) r ⌝ }
     {
         let x = self.task(t);
         let p = x.place;
@@ -46,8 +47,8 @@ impl Kernel {
         next.moved_if(p.is_ready(), x.effective == effective, t)
     }
 
-    pub(crate) fn new_priority(self, t: TaskNo, p: u8) -> Kernel
-        ensures { λ r. ⌜ r ≡ newPriority self t p ⌝ }
+    pub(crate) fn new_priority(self, t: TaskSlot, p: u8) -> Kernel
+        ensures { λ r. ⌜ Does self (λ s. newPriority s t p) r ⌝ }
     {
         if self.holds(t) {
             let x = self.task(t);
@@ -58,8 +59,8 @@ impl Kernel {
     }
 
     // The caller lends its effective priority to the holder.
-    pub(crate) fn lent(self, h: TaskNo) -> Kernel
-        ensures { λ r. ⌜ r ≡ lent self h ⌝ }
+    pub(crate) fn lent(self, h: TaskSlot) -> Kernel
+        ensures { λ r. ⌜ Does self (λ s. lent s h) r ⌝ }
     {
         let x = self.task(h);
         let y = self.task(self.running);
@@ -67,8 +68,8 @@ impl Kernel {
     }
 
     // A giver that still holds a mutex keeps what was lent.
-    pub(crate) fn own_again(self, t: TaskNo) -> Kernel
-        ensures { λ r. ⌜ r ≡ ownAgain self t ⌝ }
+    pub(crate) fn own_again(self, t: TaskSlot) -> Kernel
+        ensures { λ r. ⌜ Does self (λ s. ownAgain s t) r ⌝ }
     {
         if self.holds(t) {
             self

@@ -3,15 +3,15 @@ ghost use mathlib.Core.Path.{_≡_};
 ghost use Prim.Native.Nat.{_<_, _≤_};
 ghost use lib.ListN.{length, take};
 ghost use Rattle.items.specs.Bytes.{bytesAt, putAt};
-ghost use Rattle.kernel.specs.Items.{slipOf, itemAt};
-ghost use Rattle.kernel.specs.Sentences.{RingFits};
+ghost use Rattle.rules.specs.Items.{slipOf, itemAt};
+ghost use Rattle.rules.specs.Sentences.{RingFits};
 use crate::rings;
-use calls::ObjNo;
-use calls::TaskNo;
+use numbers::ObjSlot;
+use numbers::TaskSlot;
 use slots::Ring;
 
 // The first `n` bytes of `item`, to the first bytes of the task's slip.
-pub(crate) fn to_slip(t: TaskNo, item: &[u8], n: usize, store: &mut [u8])
+pub(crate) fn to_slip(t: TaskSlot, item: &[u8], n: usize, store: &mut [u8])
     requires { ⌜ (t .0 < 16) × (n ≤ 64) × (length (now store) ≡ 9216) ⌝ }
     ensures { λ r. ⌜ now (store .exit) ≡ putAt (slipOf t) (take n (now (item .entry))) (now (store .entry)) ⌝ }
 {
@@ -21,7 +21,7 @@ pub(crate) fn to_slip(t: TaskNo, item: &[u8], n: usize, store: &mut [u8])
 }
 
 // `item`, to the place of item `i` in the queue's part.
-pub(crate) fn to_ring(o: ObjNo, q: Ring, i: u8, item: &[u8], store: &mut [u8])
+pub(crate) fn to_ring(o: ObjSlot, q: Ring, i: u8, item: &[u8], store: &mut [u8])
     requires { ⌜ (o .0 < 16) × RingFits q × (length (now store) ≡ 9216) ⌝ }
     ensures { λ r. ⌜ now (store .exit) ≡ putAt (itemAt o q i) (take (q .size) (now (item .entry))) (now (store .entry)) ⌝ }
 {
@@ -33,7 +33,7 @@ pub(crate) fn to_ring(o: ObjNo, q: Ring, i: u8, item: &[u8], store: &mut [u8])
 }
 
 // The first `n` bytes of the task's slip.
-pub(crate) fn of_slip(t: TaskNo, n: usize, store: &[u8]) -> [u8; 64]
+pub(crate) fn of_slip(t: TaskSlot, n: usize, store: &[u8]) -> [u8; 64]
     requires { ⌜ (t .0 < 16) × (n ≤ 64) × (length (now store) ≡ 9216) ⌝ }
     ensures { λ r. ⌜ take n r ≡ bytesAt (slipOf t) n (now (store .entry)) ⌝ }
 {
@@ -43,7 +43,7 @@ pub(crate) fn of_slip(t: TaskNo, n: usize, store: &[u8]) -> [u8; 64]
 }
 
 // Item `i` of the queue.
-pub(crate) fn of_ring(o: ObjNo, q: Ring, i: u8, store: &[u8]) -> [u8; 64]
+pub(crate) fn of_ring(o: ObjSlot, q: Ring, i: u8, store: &[u8]) -> [u8; 64]
     requires { ⌜ (o .0 < 16) × RingFits q × (length (now store) ≡ 9216) ⌝ }
     ensures { λ r. ⌜ take (q .size) r ≡ bytesAt (itemAt o q i) (q .size) (now (store .entry)) ⌝ }
 {

@@ -4,23 +4,27 @@ ghost use Prim.Native.Nat.{_<_};
 ghost use mathlib.Core.List.{[], _∷_};
 ghost use lib.ListN.{length};
 ghost use Rattle.slots.specs.Leads.{whom};
-ghost use Rattle.kernel.specs.Types.{TaskNo, WaitersOf};
-ghost use Rattle.kernel.specs.Lines.{first};
-ghost use Rattle.kernel.specs.Items.{outlet, sent, storeSent, refilledBy, storeRefilledBy, received, storeReceived};
-ghost use Rattle.kernel.specs.Sentences.{RingFits};
+ghost use Rattle.numbers.specs.declared.TaskSlot.{TaskSlot};
+ghost use Rattle.slots.specs.declared.Who.the-variants.{WaitersOf};
+ghost use Rattle.rules.specs.Lines.{first};
+ghost use Rattle.rules.specs.Items.{outlet, sent, storeSent, refilledBy, storeRefilledBy, received, storeReceived};
+ghost use Rattle.rules.specs.Sentences.{RingFits};
+ghost use Rattle.rules.specs.State.{State};
+ghost use Rattle.kernel.specs.Stands.{kernelOf, outletOf};
+ghost use Rattle.kernel.specs.Does.{Reads, Does, Firm};
 use crate::Kernel;
 use crate::Outlet;
 use crate::parts;
 use crate::rings;
-use calls::ObjNo;
+use numbers::ObjSlot;
 use slots::Found;
 use slots::Kind;
 use slots::Ring;
 use slots::Who;
 
 impl Kernel {
-    fn outlet(self, o: ObjNo, q: Ring) -> Outlet
-        ensures { λ r. ⌜ r ≡ outlet self o q ⌝ }
+    fn outlet(self, o: ObjSlot, q: Ring) -> Outlet
+        ensures { λ r. ⌜ Reads self (λ s. outlet s o q) (outletOf r) ⌝ }
     {
         match self.first(Who::WaitersOf(o)) {
             Found::NoOne => rings::room_or(q),
@@ -33,9 +37,9 @@ impl Kernel {
         }
     }
 
-    pub(crate) fn send_to(self, o: ObjNo, q: Ring, w: u32, item: &[u8], store: &mut [u8]) -> Kernel
-        requires { ⌜ (o .0 < 16) × RingFits q × (self .running .0 < 16) × (length (now item) ≡ q .size) × (length (now store) ≡ 9216) ⌝ }
-        ensures { λ r. ⌜ (r ≡ sent self o q w) × (now (store .exit) ≡ storeSent self o q (now (item .entry)) (now (store .entry))) ⌝ }
+    pub(crate) fn send_to(self, o: ObjSlot, q: Ring, w: u32, item: &[u8], store: &mut [u8]) -> Kernel
+        requires { ⌜ (o .0 < 16) × RingFits q × Firm self × (length (now item) ≡ q .size) × (length (now store) ≡ 9216) ⌝ }
+        ensures { λ r. ⌜ Does self (λ s. sent s o q w) r × Reads self (λ s. storeSent s o q (now (item .entry)) (now (store .entry))) (now (store .exit)) ⌝ }
     {
         let u = self.running;
         let n = item.len();
@@ -55,9 +59,9 @@ impl Kernel {
         }
     }
 
-    fn refilled_by(self, o: ObjNo, q: Ring, f: Found) -> Kernel
+    fn refilled_by(self, o: ObjSlot, q: Ring, f: Found) -> Kernel
         requires { ⌜ q .count < 255 ⌝ }
-        ensures { λ r. ⌜ r ≡ refilledBy self o q (whom f) ⌝ }
+        ensures { λ r. ⌜ Does self (λ s. refilledBy s o q (whom f)) r ⌝ }
     {
         match f {
             Found::NoOne => self.with_object(o, Kind::Queue(q)),
@@ -67,8 +71,8 @@ impl Kernel {
     }
 
     // The first waiting sender's item goes from its slip into the queue.
-    fn refill(o: ObjNo, q: Ring, f: Found, store: &mut [u8])
-        requires { ⌜ RingFits q × (o .0 < 16) × ((t : TaskNo) → whom f ≡ t ∷ [] → t .0 < 16) × (length (now store) ≡ 9216) ⌝ }
+    fn refill(o: ObjSlot, q: Ring, f: Found, store: &mut [u8])
+        requires { ⌜ RingFits q × (o .0 < 16) × ((t : TaskSlot) → whom f ≡ t ∷ [] → t .0 < 16) × (length (now store) ≡ 9216) ⌝ }
         ensures { λ r. ⌜ now (store .exit) ≡ storeRefilledBy o q (whom f) (now (store .entry)) ⌝ }
     {
         match f {
@@ -80,16 +84,17 @@ impl Kernel {
         }
     }
 
-    // The first waiter, whose number is within the table.
-    fn waiter(self, o: ObjNo) -> Found
-        ensures { λ r. ⌜ (whom r ≡ first self (WaitersOf o)) × ((t : TaskNo) → whom r ≡ t ∷ [] → t .0 < 16) ⌝ }
+    // The first waiter, who has a slot.
+    fn waiter(self, o: ObjSlot) -> Found
+        requires { ⌜ Firm self ⌝ }
+        ensures { λ r. ⌜ Reads self (λ s. first s (WaitersOf o)) (whom r) × ((t : TaskSlot) → whom r ≡ t ∷ [] → t .0 < 16) ⌝ }
     {
         self.first(Who::WaitersOf(o))
     }
 
-    pub(crate) fn receive_from(self, o: ObjNo, q: Ring, w: u32, store: &mut [u8]) -> Kernel
-        requires { ⌜ (o .0 < 16) × RingFits q × (self .running .0 < 16) × (length (now store) ≡ 9216) ⌝ }
-        ensures { λ r. ⌜ (r ≡ received self o q w) × (now (store .exit) ≡ storeReceived self o q (now (store .entry))) ⌝ }
+    pub(crate) fn receive_from(self, o: ObjSlot, q: Ring, w: u32, store: &mut [u8]) -> Kernel
+        requires { ⌜ (o .0 < 16) × RingFits q × Firm self × (length (now store) ≡ 9216) ⌝ }
+        ensures { λ r. ⌜ Does self (λ s. received s o q w) r × Reads self (λ s. storeReceived s o q (now (store .entry))) (now (store .exit)) ⌝ }
     {
         if q.count == 0 {
             return self.wait_for(o, w);

@@ -1,15 +1,18 @@
 // The refusal table: a method for each row, and the first row that applies.
 ghost use mathlib.Core.Path.{_≡_};
-ghost use Rattle.kernel.specs.Refusals.{seen, outOfRange, namesNone, sizeDiffers, wrongSize, notForIdle, notWithHold, notHis, hisAlready, notSuspended, isFull, isEmpty, stopsAt, mustWait, noDepth, noTick, firstRow, heldOrWaited, laterRow};
-ghost use Rattle.kernel.specs.Thirds.{earlyRows, middleRows, lateRows};
+ghost use Rattle.rules.specs.Refusals.{outOfRange, namesNone, sizeDiffers, wrongSize, notForIdle, notWithHold, notHis, hisAlready, notSuspended, isFull, isEmpty, stopsAt, mustWait, noDepth, noTick, firstRow, heldOrWaited, inUse};
+ghost use Rattle.kernel.specs.Rows.{lateRows, rowsFour, rowsTwo, SeesOf};
+ghost use Rattle.kernel.specs.Does.{Reads};
+ghost use Rattle.kernel.specs.Stands.{seenOf};
+ghost use Rattle.rules.specs.Asking.{makes, newSlot};
+ghost use Rattle.lists.specs.Choice.{if_then_else_};
 use crate::Kernel;
 use crate::Seen;
 use crate::asking;
 use calls::Asked;
 use calls::Names;
-use calls::ObjNo;
+use numbers::ObjSlot;
 use slots::Kind;
-use slots::Place;
 use slots::Who;
 
 fn out_of_range(a: Asked) -> bool
@@ -76,7 +79,7 @@ fn stops_at(a: Asked, x: Kind) -> bool
 
 impl Seen {
     fn names_none(self, a: Asked) -> bool
-        ensures { λ r. ⌜ r ≡ namesNone self a ⌝ }
+        ensures { λ r. ⌜ r ≡ namesNone (seenOf self) a ⌝ }
     {
         let names = a.names;
         let p = self.place;
@@ -91,14 +94,14 @@ impl Seen {
     }
 
     fn wrong_size(self, a: Asked, n: usize) -> bool
-        ensures { λ r. ⌜ r ≡ wrongSize self a n ⌝ }
+        ensures { λ r. ⌜ r ≡ wrongSize (seenOf self) a n ⌝ }
     {
         let x = self.kind;
         lists::both(asking::is(a, 13), size_differs(x, n))
     }
 
     fn not_for_idle(self, a: Asked) -> bool
-        ensures { λ r. ⌜ r ≡ notForIdle self a ⌝ }
+        ensures { λ r. ⌜ r ≡ notForIdle (seenOf self) a ⌝ }
     {
         let t = a.task;
         let u = self.running;
@@ -114,7 +117,7 @@ impl Seen {
     }
 
     fn not_with_hold(self, a: Asked) -> bool
-        ensures { λ r. ⌜ r ≡ notWithHold self a ⌝ }
+        ensures { λ r. ⌜ r ≡ notWithHold (seenOf self) a ⌝ }
     {
         let t = a.task;
         let u = self.running;
@@ -125,7 +128,7 @@ impl Seen {
     }
 
     fn not_his(self, a: Asked) -> bool
-        ensures { λ r. ⌜ r ≡ notHis self a ⌝ }
+        ensures { λ r. ⌜ r ≡ notHis (seenOf self) a ⌝ }
     {
         let x = self.kind;
         let mine = x.held_by(self.running);
@@ -133,14 +136,14 @@ impl Seen {
     }
 
     fn his_already(self, a: Asked) -> bool
-        ensures { λ r. ⌜ r ≡ hisAlready self a ⌝ }
+        ensures { λ r. ⌜ r ≡ hisAlready (seenOf self) a ⌝ }
     {
         let x = self.kind;
         lists::both(asking::is(a, 15), x.held_by(self.running))
     }
 
     fn not_suspended(self, a: Asked) -> bool
-        ensures { λ r. ⌜ r ≡ notSuspended self a ⌝ }
+        ensures { λ r. ⌜ r ≡ notSuspended (seenOf self) a ⌝ }
     {
         let p = self.place;
         let s = p.is_suspended();
@@ -148,7 +151,7 @@ impl Seen {
     }
 
     fn must_wait(self, a: Asked) -> bool
-        ensures { λ r. ⌜ r ≡ mustWait self a ⌝ }
+        ensures { λ r. ⌜ r ≡ mustWait (seenOf self) a ⌝ }
     {
         let x = self.kind;
         let w = asking::waits(a);
@@ -156,7 +159,7 @@ impl Seen {
     }
 
     fn no_depth(self, a: Asked) -> bool
-        ensures { λ r. ⌜ r ≡ noDepth self a ⌝ }
+        ensures { λ r. ⌜ r ≡ noDepth (seenOf self) a ⌝ }
     {
         let h = self.hold;
         lists::either(
@@ -166,7 +169,7 @@ impl Seen {
     }
 
     fn no_tick(self, a: Asked) -> bool
-        ensures { λ r. ⌜ r ≡ noTick self a ⌝ }
+        ensures { λ r. ⌜ r ≡ noTick (seenOf self) a ⌝ }
     {
         lists::both(
             asking::is(a, 17),
@@ -174,32 +177,16 @@ impl Seen {
         )
     }
 
-    // Rows 4 to 8; 0 where none applies.
-    fn early_row(self, a: Asked, item: usize) -> u32
-        ensures { λ r. ⌜ r ≡ firstRow (earlyRows self a item) ⌝ }
-    {
-        if out_of_range(a) {
-            return 4;
-        }
-        if self.names_none(a) {
-            return 5;
-        }
-        if self.wrong_size(a, item) {
-            return 6;
-        }
-        if self.not_for_idle(a) {
-            return 7;
-        }
-        if self.not_with_hold(a) {
-            return 8;
-        }
-        0
-    }
-
-    // Rows 11 to 16.
+    // Rows 9 to 16.
     fn late_row(self, a: Asked) -> u32
         ensures { λ r. ⌜ r ≡ firstRow (lateRows self a) ⌝ }
     {
+        if self.new == 16 {
+            return 9;
+        }
+        if self.used {
+            return 10;
+        }
         if self.not_his(a) {
             return 11;
         }
@@ -220,39 +207,56 @@ impl Seen {
         }
         0
     }
+
+    // Rows 4 to 16.
+    fn row_from_four(self, a: Asked, item: usize) -> u32
+        ensures { λ r. ⌜ r ≡ firstRow (rowsFour self a item) ⌝ }
+    {
+        if out_of_range(a) {
+            return 4;
+        }
+        if self.names_none(a) {
+            return 5;
+        }
+        if self.wrong_size(a, item) {
+            return 6;
+        }
+        if self.not_for_idle(a) {
+            return 7;
+        }
+        if self.not_with_hold(a) {
+            return 8;
+        }
+        self.late_row(a)
+    }
+
+    // The number of the first row that applies, of rows 2 to 16; 0 where none does.
+    pub(crate) fn row(self, a: Asked, item: usize, store: usize) -> u32
+        ensures { λ r. ⌜ r ≡ firstRow (rowsTwo self a item store) ⌝ }
+    {
+        if store != 9216 {
+            return 2;
+        }
+        self.row_from_four(a, item)
+    }
 }
 
 impl Kernel {
-    // Both slots are read here: `task` and `kind` would each copy the kernel.
-    fn seen(self, a: Asked) -> Seen
-        ensures { λ r. ⌜ r ≡ seen self a ⌝ }
+    // The slot that a create or make takes; 16 where none is free, 0 for any other call.
+    fn new_slot(self, a: Asked) -> u8
+        ensures { λ r. ⌜ Reads self (λ s. if makes a then newSlot s a else 0) r ⌝ }
     {
-        let t = a.task;
-        let o = a.object;
-        let mut place = Place::Free;
-        let i = t.slot();
-        if i < 16 {
-            let x = self.tasks[i];
-            place = x.place;
+        if asking::is(a, 1) {
+            return self.tasks.free_slot();
         }
-        let mut kind = Kind::Unused;
-        let j = o.slot();
-        if j < 16 {
-            let y = self.objects[j];
-            kind = y.kind;
+        if asking::makes(a) {
+            return self.objects.free_object();
         }
-        let running = self.running;
-        Seen {
-            place,
-            kind,
-            running,
-            hold: self.hold,
-            pended: self.pended,
-        }
+        0
     }
 
-    fn held_or_waited(self, o: ObjNo) -> bool
-        ensures { λ r. ⌜ r ≡ heldOrWaited self o ⌝ }
+    fn held_or_waited(self, o: ObjSlot) -> bool
+        ensures { λ r. ⌜ Reads self (λ s. heldOrWaited s o) r ⌝ }
     {
         lists::either(
             self.kind(o).is_held(),
@@ -260,50 +264,33 @@ impl Kernel {
         )
     }
 
-    // Rows 9 and 10, whose tests walk a table: each stands behind its call's number.
-    fn middle_row(self, a: Asked) -> u32
-        ensures { λ r. ⌜ r ≡ firstRow (middleRows self a) ⌝ }
+    // A task to be deleted holds a mutex; an object to be removed is held or has waiters.
+    fn used(self, a: Asked) -> bool
+        ensures { λ r. ⌜ Reads self (λ s. inUse s a) r ⌝ }
     {
-        if asking::makes(a) {
-            if self.new_number(a) == 16 {
-                return 9;
-            }
-            return 0;
-        }
         if asking::is(a, 2) {
-            let t = a.task;
-            if self.holds(t) {
-                return 10;
-            }
-            return 0;
+            return self.holds(a.task);
         }
         if asking::is(a, 12) {
-            let o = a.object;
-            if self.held_or_waited(o) {
-                return 10;
-            }
+            return self.held_or_waited(a.object);
         }
-        0
+        false
     }
 
-    // The number of the first row that applies, of rows 2 to 16; 0 where none does.
-    pub(crate) fn later_row(self, a: Asked, item: usize, store: usize) -> u32
-        ensures { λ r. ⌜ r ≡ laterRow self a item store ⌝ }
+    pub(crate) fn seen(self, a: Asked) -> Seen
+        ensures { λ r. ⌜ SeesOf self a r ⌝ }
     {
-        if store != 9216 {
-            return 2;
+        let x = self.task(a.task);
+        let place = x.place;
+        let running = self.running;
+        Seen {
+            place,
+            kind: self.kind(a.object),
+            new: self.new_slot(a),
+            used: self.used(a),
+            running,
+            hold: self.hold,
+            pended: self.pended,
         }
-        let s = self.seen(a);
-        let early = s.early_row(a, item);
-        if early != 0 {
-            return early;
-        }
-        if asking::walks(a) {
-            let middle = self.middle_row(a);
-            if middle != 0 {
-                return middle;
-            }
-        }
-        s.late_row(a)
     }
 }

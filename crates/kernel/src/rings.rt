@@ -1,8 +1,9 @@
 // A queue's ring within its object's part of the store.
 ghost use mathlib.Core.Path.{_≡_};
 ghost use Prim.Native.Nat.{_+_, _*_, _%_, _<_, _≤_};
-ghost use Rattle.kernel.specs.Items.{oneMore, oneLess, roomOr};
-ghost use Rattle.kernel.specs.Sentences.{RingFits};
+ghost use Rattle.rules.specs.Items.{oneMore, oneLess, roomOr};
+ghost use Rattle.rules.specs.Sentences.{RingFits};
+ghost use Rattle.kernel.specs.Stands.{outletOf};
 use crate::Outlet;
 use slots::Ring;
 
@@ -47,7 +48,7 @@ pub(crate) fn begins(q: Ring, i: u8) -> usize
 }
 
 pub(crate) fn room_or(q: Ring) -> Outlet
-    ensures { λ r. ⌜ r ≡ roomOr q ⌝ }
+    ensures { λ r. ⌜ outletOf r ≡ roomOr q ⌝ }
 {
     if q.count < q.capacity {
         Outlet::Ring

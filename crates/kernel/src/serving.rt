@@ -1,21 +1,22 @@
-// The 17 calls, accepted: each does its row of the call table, ends with choose, and answers.
+// The 17 calls, accepted: each does its row of the call table.
 ghost use mathlib.Core.Path.{_≡_};
-ghost use Prim.Native.Nat.{ℕ, _<_};
-ghost use mathlib.Core.Bool.{_&&_, false};
+ghost use mathlib.Core.Bool.{_&&_, true, false};
 ghost use lib.Dec.{eqb, ltb};
 ghost use lib.ListN.{length};
-ghost use mathlib.Core.List.{[]};
-ghost use Rattle.calls.specs.Asked.{asked};
-ghost use Rattle.kernel.specs.Types.{Create, Delete, Suspend, Resume, SetPriority, Delay, Yield, Hold, Release, MakeQueue, MakeMutex, Remove, Send, Receive, Take, Give, Tick};
-ghost use Rattle.kernel.specs.Tables.{kindAt, freeSlot, freeObject};
-ghost use Rattle.kernel.specs.Refusals.{sizeDiffers};
-ghost use Rattle.kernel.specs.Effects.{handedOn};
-ghost use Rattle.kernel.specs.Step.{stored};
-ghost use Rattle.kernel.specs.Promises.{Steady, Accepts};
+ghost use Rattle.slots.specs.Objects.{kindAt};
+ghost use Rattle.rules.specs.Tables.{freeSlot, freeObject};
+ghost use Rattle.rules.specs.Asking.{makes, newSlot};
+ghost use Rattle.rules.specs.Refusals.{sizeDiffers, laterRow};
+ghost use Rattle.rules.specs.Ticks.{ticked, held, released};
+ghost use Rattle.rules.specs.Items.{sentTo, receivedFrom, storeSentTo, storeReceivedFrom};
+ghost use Rattle.rules.specs.Effects.{created, deleted, suspended, resumed, delayed, queueMade, mutexMade, taken, handedOn, given, effect};
+ghost use Rattle.rules.specs.Step.{stored};
+ghost use Rattle.kernel.specs.Stands.{shown};
+ghost use Rattle.kernel.specs.Does.{Reads, Does, Firm};
 use crate::Kernel;
-use crate::Step;
-use calls::ObjNo;
-use calls::TaskNo;
+use calls::Asked;
+use numbers::ObjSlot;
+use numbers::TaskSlot;
 use slots::Found;
 use slots::Holder;
 use slots::Kind;
@@ -25,91 +26,70 @@ use slots::Task;
 use slots::Who;
 
 impl Kernel {
-    pub(crate) fn create(self, n: u32, p: u8) -> Step
-        requires { ⌜ n ≡ freeSlot (self .tasks) ⌝ }
-        ensures { λ r. ⌜ Accepts self (Create p) r ⌝ }
+    fn create(self, n: u8, p: u8) -> Kernel
+        requires { ⌜ Reads self (λ s. freeSlot (s .tasks)) n ⌝ }
+        ensures { λ r. ⌜ Does self (λ s. created s p) r ⌝ }
     {
-        let t = TaskNo::of(n);
-        self.with_task(t, Task::ready_at(p)).to_tail(t).made(n)
+        let t = TaskSlot::of(n);
+        self.with_task(t, Task::ready_at(p)).to_tail(t)
     }
 
-    pub(crate) fn delete(self, t: TaskNo) -> Step
-        ensures { λ r. ⌜ Accepts self (Delete t) r ⌝ }
+    fn delete(self, t: TaskSlot) -> Kernel
+        ensures { λ r. ⌜ Does self (λ s. deleted s t) r ⌝ }
     {
-        let u = self.running;
-        self.with_task(t, Task::free()).leaves(t).ended(u)
+        self.with_task(t, Task::free()).leaves(t)
     }
 
-    pub(crate) fn suspend(self, t: TaskNo) -> Step
-        ensures { λ r. ⌜ Accepts self (Suspend t) r ⌝ }
+    fn suspend(self, t: TaskSlot) -> Kernel
+        ensures { λ r. ⌜ Does self (λ s. suspended s t) r ⌝ }
     {
-        let u = self.running;
         let x = self.task(t);
         let p = x.place;
         if p.is_listed() {
-            self.with_task(t, x.broken_off()).leaves(t).ended(u)
+            self.with_task(t, x.broken_off()).leaves(t)
         } else {
-            self.ended(u)
+            self
         }
     }
 
-    pub(crate) fn resume(self, t: TaskNo) -> Step
-        ensures { λ r. ⌜ Accepts self (Resume t) r ⌝ }
+    fn resume(self, t: TaskSlot) -> Kernel
+        ensures { λ r. ⌜ Does self (λ s. resumed s t) r ⌝ }
     {
-        let u = self.running;
         let x = self.task(t);
-        self.readied(t, x.outcome).ended(u)
+        self.readied(t, x.outcome)
     }
 
-    pub(crate) fn set_priority(self, t: TaskNo, p: u8) -> Step
-        ensures { λ r. ⌜ Accepts self (SetPriority t p) r ⌝ }
+    fn delay(self, n: u32) -> Kernel
+        ensures { λ r. ⌜ Does self (λ s. delayed s n) r ⌝ }
     {
-        let u = self.running;
-        self.new_priority(t, p).ended(u)
-    }
-
-    pub(crate) fn delay(self, n: u32) -> Step
-        ensures { λ r. ⌜ Accepts self (Delay n) r ⌝ }
-    {
-        let u = self.running;
         if n == 0 {
-            self.to_tail(u).ended(u)
+            self.to_tail(self.running)
         } else {
             self.blocked(Place::Delayed(std::num::wrapping_add_u32(self.tick, n)))
-                .ended(u)
         }
     }
 
-    pub(crate) fn give_way(self) -> Step
-        ensures { λ r. ⌜ Accepts self Yield r ⌝ }
-    {
-        let u = self.running;
-        self.to_tail(u).ended(u)
-    }
-
-    pub(crate) fn hold(self) -> Step
+    fn hold_deeper(self) -> Kernel
         requires { ⌜ eqb (self .hold) 255 ≡ false ⌝ }
-        ensures { λ r. ⌜ Accepts self Hold r ⌝ }
+        ensures { λ r. ⌜ Does self held r ⌝ }
     {
-        let u = self.running;
-        self.with_hold(self.hold + 1, self.pended).ended(u)
+        self.with_hold(self.hold + 1, self.pended)
     }
 
-    pub(crate) fn release(self) -> Step
+    fn release(self) -> Kernel
         requires { ⌜ eqb (self .hold) 0 ≡ false ⌝ }
-        ensures { λ r. ⌜ Accepts self Release r ⌝ }
+        ensures { λ r. ⌜ Does self released r ⌝ }
     {
-        let u = self.running;
         if self.hold == 1 {
-            self.with_hold(0, 0).ticks(self.pended).ended(u)
+            self.with_hold(0, 0).ticks(self.pended)
         } else {
-            self.with_hold(self.hold - 1, self.pended).ended(u)
+            self.with_hold(self.hold - 1, self.pended)
         }
     }
 
-    pub(crate) fn make_queue(self, n: u32, capacity: u8, size: u8) -> Step
-        requires { ⌜ n ≡ freeObject (self .objects) ⌝ }
-        ensures { λ r. ⌜ Accepts self (MakeQueue capacity size) r ⌝ }
+    fn make_queue(self, n: u8, capacity: u8, size: u8) -> Kernel
+        requires { ⌜ Reads self (λ s. freeObject (s .objects)) n ⌝ }
+        ensures { λ r. ⌜ Does self (λ s. queueMade s capacity size) r ⌝ }
     {
         let q = Ring {
             capacity,
@@ -117,65 +97,55 @@ impl Kernel {
             first: 0,
             count: 0,
         };
-        self.with_object(ObjNo::of(n), Kind::Queue(q)).made(n)
+        self.with_object(ObjSlot::of(n), Kind::Queue(q))
     }
 
-    pub(crate) fn make_mutex(self, n: u32) -> Step
-        requires { ⌜ n ≡ freeObject (self .objects) ⌝ }
-        ensures { λ r. ⌜ Accepts self MakeMutex r ⌝ }
+    fn make_mutex(self, n: u8) -> Kernel
+        requires { ⌜ Reads self (λ s. freeObject (s .objects)) n ⌝ }
+        ensures { λ r. ⌜ Does self mutexMade r ⌝ }
     {
-        self.with_object(ObjNo::of(n), Kind::Mutex(Holder::Nobody))
-            .made(n)
+        self.with_object(ObjSlot::of(n), Kind::Mutex(Holder::Nobody))
     }
 
-    pub(crate) fn remove(self, o: ObjNo) -> Step
-        ensures { λ r. ⌜ Accepts self (Remove o) r ⌝ }
+    fn send(self, o: ObjSlot, w: u32, item: &[u8], store: &mut [u8]) -> Kernel
+        requires { ⌜ Firm self × (sizeDiffers (length (now item)) (kindAt (shown self .objects) o) ≡ false) × (length (now store) ≡ 9216) ⌝ }
+        ensures { λ r. ⌜ Does self (λ s. sentTo s o (kindAt (s .objects) o) w) r × Reads self (λ s. storeSentTo s o (kindAt (s .objects) o) (now (item .entry)) (now (store .entry))) (now (store .exit)) ⌝ }
     {
-        let u = self.running;
-        self.with_object(o, Kind::Unused).ended(u)
-    }
-
-    pub(crate) fn send(self, o: ObjNo, w: u32, item: &[u8], store: &mut [u8]) -> Step
-        requires { ⌜ Steady self × (sizeDiffers (length (now item)) (kindAt (self .objects) o) ≡ false) × (length (now store) ≡ 9216) ⌝ }
-        ensures { λ r. ⌜ Accepts self (Send o w) r × (now (store .exit) ≡ stored self (asked (Send o w)) (now (item .entry)) (now (store .entry))) ⌝ }
-    {
-        let u = self.running;
         match self.kind(o) {
-            Kind::Unused => self.ended(u),
-            Kind::Queue(q) => self.send_to(o, q, w, item, store).ended(u),
-            Kind::Mutex(_) => self.ended(u),
+            Kind::Unused => self,
+            Kind::Queue(q) => self.send_to(o, q, w, item, store),
+            Kind::Mutex(_) => self,
         }
     }
 
-    pub(crate) fn receive(self, o: ObjNo, w: u32, store: &mut [u8]) -> Step
-        requires { ⌜ Steady self × (length (now store) ≡ 9216) ⌝ }
-        ensures { λ r. ⌜ Accepts self (Receive o w) r × (now (store .exit) ≡ stored self (asked (Receive o w)) [] (now (store .entry))) ⌝ }
+    fn receive(self, o: ObjSlot, w: u32, store: &mut [u8]) -> Kernel
+        requires { ⌜ Firm self × (length (now store) ≡ 9216) ⌝ }
+        ensures { λ r. ⌜ Does self (λ s. receivedFrom s o (kindAt (s .objects) o) w) r × Reads self (λ s. storeReceivedFrom s o (kindAt (s .objects) o) (now (store .entry))) (now (store .exit)) ⌝ }
     {
-        let u = self.running;
         match self.kind(o) {
-            Kind::Unused => self.ended(u),
-            Kind::Queue(q) => self.receive_from(o, q, w, store).ended(u),
-            Kind::Mutex(_) => self.ended(u),
+            Kind::Unused => self,
+            Kind::Queue(q) => self.receive_from(o, q, w, store),
+            Kind::Mutex(_) => self,
         }
     }
 
-    pub(crate) fn take(self, o: ObjNo, w: u32) -> Step
-        ensures { λ r. ⌜ Accepts self (Take o w) r ⌝ }
+    fn take(self, o: ObjSlot, w: u32) -> Kernel
+        ensures { λ r. ⌜ Does self (λ s. taken s o w) r ⌝ }
     {
         let u = self.running;
         match self.kind(o) {
-            Kind::Unused => self.ended(u),
-            Kind::Queue(_) => self.ended(u),
+            Kind::Unused => self,
+            Kind::Queue(_) => self,
             Kind::Mutex(h) => match h {
-                Holder::Nobody => self.with_object(o, Kind::Mutex(Holder::By(u))).ended(u),
-                Holder::By(t) => self.lent(t).wait_for(o, w).ended(u),
+                Holder::Nobody => self.with_object(o, Kind::Mutex(Holder::By(u))),
+                Holder::By(t) => self.lent(t).wait_for(o, w),
             },
         }
     }
 
     // The mutex goes to the first waiter, or is free.
-    fn handed_on(self, o: ObjNo) -> Kernel
-        ensures { λ r. ⌜ r ≡ handedOn self o ⌝ }
+    fn handed_on(self, o: ObjSlot) -> Kernel
+        ensures { λ r. ⌜ Does self (λ s. handedOn s o) r ⌝ }
     {
         match self.first(Who::WaitersOf(o)) {
             Found::NoOne => self.with_object(o, Kind::Mutex(Holder::Nobody)),
@@ -184,22 +154,49 @@ impl Kernel {
         }
     }
 
-    pub(crate) fn give(self, o: ObjNo) -> Step
-        ensures { λ r. ⌜ Accepts self (Give o) r ⌝ }
+    fn give(self, o: ObjSlot) -> Kernel
+        ensures { λ r. ⌜ Does self (λ s. given s o) r ⌝ }
     {
         let u = self.running;
-        self.handed_on(o).own_again(u).ended(u)
+        self.handed_on(o).own_again(u)
     }
 
-    pub(crate) fn tick(self) -> Step
+    fn tick_on(self) -> Kernel
         requires { ⌜ (ltb 0 (self .hold) && eqb (self .pended) 65535) ≡ false ⌝ }
-        ensures { λ r. ⌜ Accepts self Tick r ⌝ }
+        ensures { λ r. ⌜ Does self ticked r ⌝ }
     {
-        let u = self.running;
         if 0 < self.hold {
-            self.with_hold(self.hold, self.pended + 1).ended(u)
+            self.with_hold(self.hold, self.pended + 1)
         } else {
-            self.one_tick().turned().ended(u)
+            self.one_tick().turned()
+        }
+    }
+
+    // The call is one that no row of the table turns away; `n` is the slot that a create or make takes.
+    pub(crate) fn served(self, a: Asked, n: u8, item: &[u8], store: &mut [u8]) -> Kernel
+        requires { ⌜ Firm self × (laterRow (shown self) a (length (now item)) (length (now store)) ≡ 0) × (makes a ≡ true → Reads self (λ s. newSlot s a) n) ⌝ }
+        ensures { λ r. ⌜ Does self (λ s. effect s a) r × Reads self (λ s. stored s a (now (item .entry)) (now (store .entry))) (now (store .exit)) ⌝ }
+    {
+        let number = a.number;
+        match number {
+            1 => self.create(n, a.priority as u8),
+            2 => self.delete(a.task),
+            3 => self.suspend(a.task),
+            4 => self.resume(a.task),
+            5 => self.new_priority(a.task, a.priority as u8),
+            6 => self.delay(a.ticks),
+            7 => self.to_tail(self.running),
+            8 => self.hold_deeper(),
+            9 => self.release(),
+            10 => self.make_queue(n, a.capacity as u8, a.size as u8),
+            11 => self.make_mutex(n),
+            12 => self.with_object(a.object, Kind::Unused),
+            13 => self.send(a.object, a.wait, item, store),
+            14 => self.receive(a.object, a.wait, store),
+            15 => self.take(a.object, a.wait),
+            16 => self.give(a.object),
+            17 => self.tick_on(),
+            _ => self,
         }
     }
 }

@@ -1,31 +1,28 @@
-// The fresh kernel, the slots of the two tables, and a kernel with one part changed.
+// The fresh kernel, the rows of the two tables, and a kernel with one part changed.
 ghost use mathlib.Core.Path.{_≡_};
-ghost use Rattle.kernel.specs.Tables.{fresh, taskAt, kindAt, holds, freeSlot, freeObject, withTask, withObject, withOrder, withTick, withHold};
-ghost use Rattle.kernel.specs.Asking.{newSlot};
+ghost use Rattle.slots.specs.Tasks.{taskAt};
+ghost use Rattle.slots.specs.Objects.{kindAt};
+ghost use Rattle.rules.specs.Tables.{fresh, holds, withTask, withObject, withOrder, withTick, withHold};
+ghost use Rattle.kernel.specs.Stands.{kernelOf};
+ghost use Rattle.kernel.specs.Does.{Reads, Does};
 use crate::Kernel;
-use crate::asking;
-use calls::Asked;
-use calls::ObjNo;
-use calls::TaskNo;
+use numbers::ObjSlot;
+use numbers::TaskSlot;
+use objects::Objects;
 use order::Order;
 use slots::Kind;
-use slots::Object;
 use slots::Task;
+use tasks::Tasks;
 
 impl Kernel {
     // Idle alone, tick 0, hold 0, no objects.
     pub fn fresh() -> Kernel
-        ensures { λ r. ⌜ r ≡ fresh ⌝ }
+        ensures { λ r. ⌜ r ≡ kernelOf fresh ⌝ }
     {
-        let free = Task::free();
-        let unused = Object { kind: Kind::Unused };
-        let idle = TaskNo::of(0);
-        let mut tasks = [free; 16];
-        tasks[0] = Task::ready_at(0);
-        let objects = [unused; 16];
+        let idle = TaskSlot::of(0);
         Kernel {
-            tasks,
-            objects,
+            tasks: Tasks::fresh(),
+            objects: Objects::fresh(),
             order: Order::empty().appended(idle),
             running: idle,
             tick: 0,
@@ -34,124 +31,57 @@ impl Kernel {
         }
     }
 
-    // A number past the table names a free slot.
-    pub(crate) fn task(self, t: TaskNo) -> Task
-        ensures { λ r. ⌜ r ≡ taskAt (self .tasks) t ⌝ }
+    pub(crate) fn task(self, t: TaskSlot) -> Task
+        ensures { λ r. ⌜ Reads self (λ s. taskAt (s .tasks) t) r ⌝ }
     {
-        let i = t.slot();
-        if i < 16 { self.tasks[i] } else { Task::free() }
+        self.tasks.get(t)
     }
 
-    pub(crate) fn kind(self, o: ObjNo) -> Kind
-        ensures { λ r. ⌜ r ≡ kindAt (self .objects) o ⌝ }
+    pub(crate) fn kind(self, o: ObjSlot) -> Kind
+        ensures { λ r. ⌜ Reads self (λ s. kindAt (s .objects) o) r ⌝ }
     {
-        let i = o.slot();
-        if i < 16 {
-            let x = self.objects[i];
-            x.kind
-        } else {
-            Kind::Unused
-        }
+        self.objects.get(o)
     }
 
-    // What is stored past the table is lost.
-    pub(crate) fn with_task(mut self, t: TaskNo, x: Task) -> Kernel
-        ensures { λ r. ⌜ r ≡ withTask self t x ⌝ }
+    pub(crate) fn with_task(mut self, t: TaskSlot, x: Task) -> Kernel
+        ensures { λ r. ⌜ Does self (λ s. withTask s t x) r ⌝ }
     {
-        let i = t.slot();
-        if i < 16 {
-            self.tasks[i] = x;
-        }
+        self.tasks = self.tasks.set(t, x);
         self
     }
 
-    pub(crate) fn with_object(mut self, o: ObjNo, kind: Kind) -> Kernel
-        ensures { λ r. ⌜ r ≡ withObject self o kind ⌝ }
+    pub(crate) fn with_object(mut self, o: ObjSlot, kind: Kind) -> Kernel
+        ensures { λ r. ⌜ Does self (λ s. withObject s o kind) r ⌝ }
     {
-        let i = o.slot();
-        if i < 16 {
-            let x = Object { kind };
-            self.objects[i] = x;
-        }
+        self.objects = self.objects.set(o, kind);
         self
     }
 
     pub(crate) fn with_order(mut self, o: Order) -> Kernel
-        ensures { λ r. ⌜ r ≡ withOrder self o ⌝ }
+        ensures { λ r. ⌜ Does self (λ s. withOrder s o) r ⌝ }
     {
         self.order = o;
         self
     }
 
     pub(crate) fn with_tick(mut self, n: u32) -> Kernel
-        ensures { λ r. ⌜ r ≡ withTick self n ⌝ }
+        ensures { λ r. ⌜ Does self (λ s. withTick s n) r ⌝ }
     {
         self.tick = n;
         self
     }
 
     pub(crate) fn with_hold(mut self, h: u8, p: u16) -> Kernel
-        ensures { λ r. ⌜ r ≡ withHold self h p ⌝ }
+        ensures { λ r. ⌜ Does self (λ s. withHold s h p) r ⌝ }
     {
         self.hold = h;
         self.pended = p;
         self
     }
 
-    pub(crate) fn holds(self, t: TaskNo) -> bool
-        ensures { λ r. ⌜ r ≡ holds (self .objects) t ⌝ }
+    pub(crate) fn holds(self, t: TaskSlot) -> bool
+        ensures { λ r. ⌜ Reads self (λ s. holds (s .objects) t) r ⌝ }
     {
-        let mut i = 0usize;
-        while i < 16 {
-            let x = self.objects[i];
-            let kind = x.kind;
-            if kind.held_by(t) {
-                return true;
-            }
-            i += 1;
-        }
-        false
-    }
-
-    // The lowest free slot; 16 where there is none.
-    pub(crate) fn free_slot(self) -> u32
-        ensures { λ r. ⌜ r ≡ freeSlot (self .tasks) ⌝ }
-    {
-        let mut i = 0usize;
-        while i < 16 {
-            let x = self.tasks[i];
-            let p = x.place;
-            if p.is_free() {
-                return i as u32;
-            }
-            i += 1;
-        }
-        16
-    }
-
-    pub(crate) fn free_object(self) -> u32
-        ensures { λ r. ⌜ r ≡ freeObject (self .objects) ⌝ }
-    {
-        let mut i = 0usize;
-        while i < 16 {
-            let x = self.objects[i];
-            let kind = x.kind;
-            if kind.is_unused() {
-                return i as u32;
-            }
-            i += 1;
-        }
-        16
-    }
-
-    // The number that a create or make gives; 16 where no slot is free.
-    pub(crate) fn new_number(self, a: Asked) -> u32
-        ensures { λ r. ⌜ r ≡ newSlot self a ⌝ }
-    {
-        if asking::is(a, 1) {
-            self.free_slot()
-        } else {
-            self.free_object()
-        }
+        self.objects.holds(t)
     }
 }

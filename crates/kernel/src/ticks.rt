@@ -1,40 +1,34 @@
 // The tick's count and wakes, and the turn of the line.
 ghost use mathlib.Core.Path.{_≡_};
-ghost use Prim.Native.Nat.{_≤_, min};
-ghost use Rattle.kernel.specs.Ticks.{wakes, byNumber, untilDue, oneTick, turned, ticks};
+ghost use Prim.Native.Nat.{_≤_};
+ghost use Rattle.numbers.specs.Numbers.{byNumber};
+ghost use Rattle.rules.specs.Ticks.{wakes, untilDue, oneTick, turned, ticks};
+ghost use Rattle.kernel.specs.Does.{Reads, Does};
 use crate::Kernel;
-use calls::TaskNo;
-use slots::Place;
-use slots::Task;
-
-fn lesser(a: u32, b: u32) -> u32
-    ensures { λ r. ⌜ r ≡ min a b ⌝ }
-{
-    if a < b { a } else { b }
-}
 
 impl Kernel {
     // The due are made ready, in order of task number.
-    fn wakes(mut self) -> Kernel
-        ensures { λ r. ⌜ r ≡ wakes self (byNumber 16) ⌝ }
+    fn wakes(self) -> Kernel
+        ensures { λ r. ⌜ Does self (λ s. wakes s (byNumber 16)) r ⌝ }
     {
-        let now = self.tick;
-        let mut i = 0usize;
-        while i < 16 {
-            let x = self.tasks[i];
-            let p = x.place;
-            if p.wakes_at(now) {
-                let y = x.placed(Place::Ready, p.outcome_due());
-                self.tasks[i] = y;
-                self.order = self.order.to_tail(TaskNo::of(i as u32));
-            }
-            i += 1;
+        let woken = self.tasks.wakes(self.order, self.tick);
+        let tasks = woken.tasks;
+        let order = woken.order;
+        let objects = self.objects;
+        let running = self.running;
+        Kernel {
+            tasks,
+            objects,
+            order,
+            running,
+            tick: self.tick,
+            hold: self.hold,
+            pended: self.pended,
         }
-        self
     }
 
     pub(crate) fn one_tick(self) -> Kernel
-        ensures { λ r. ⌜ r ≡ oneTick self ⌝ }
+        ensures { λ r. ⌜ Does self oneTick r ⌝ }
     {
         let next = std::num::wrapping_add_u32(self.tick, 1);
         self.with_tick(next).wakes()
@@ -42,23 +36,15 @@ impl Kernel {
 
     // How many ticks pass before the one on which a task is next due.
     fn until_due(self) -> u32
-        ensures { λ r. ⌜ (r ≡ untilDue (self .tick) (self .tasks)) × (self .tick ≤ 4294967295) ⌝ }
+        ensures { λ r. ⌜ Reads self (λ s. untilDue (s .tick) (s .tasks)) r × (self .tick ≤ 4294967295) ⌝ }
     {
-        let mut n = 4294967295u32;
-        let mut i = 0usize;
-        while i < 16 {
-            let x = self.tasks[i];
-            let p = x.place;
-            n = lesser(n, p.away(self.tick));
-            i += 1;
-        }
-        n
+        self.tasks.until_due(self.tick)
     }
 
-    // The next `n` ticks, counts and wakes, without the turn of the line: a jump to the next one on which somebody is due, that tick, and so on. Each turn but the last
-    // wakes somebody, so there are at most 16.
+    // The next `n` ticks, counts and wakes, without the turn of the line: a jump to the next one on which somebody is due, that tick, and so on. Each turn but the
+    // last wakes somebody, so there are at most 16.
     pub(crate) fn ticks(self, n: u16) -> Kernel
-        ensures { λ r. ⌜ r ≡ ticks n self ⌝ }
+        ensures { λ r. ⌜ Does self (ticks n) r ⌝ }
     {
         let mut k = self;
         let mut left = n as u32;
@@ -75,30 +61,15 @@ impl Kernel {
     }
 
     // If no higher line is occupied, the running task goes to the tail of its line.
-    pub(crate) fn turned(mut self) -> Kernel
-        ensures { λ r. ⌜ r ≡ turned self ⌝ }
+    pub(crate) fn turned(self) -> Kernel
+        ensures { λ r. ⌜ Does self turned r ⌝ }
     {
         let u = self.running;
-        let mut y = Task::free();
-        let j = u.slot();
-        if j < 16 {
-            y = self.tasks[j];
+        let y = self.task(u);
+        if self.tasks.higher(self.order, y.effective) {
+            self
+        } else {
+            self.to_tail(u)
         }
-        let o = self.order;
-        let n = o.reach();
-        let mut i = 0usize;
-        while i < n {
-            let t = o.places[i];
-            let s = t.slot();
-            if s < 16 {
-                let x = self.tasks[s];
-                if x.in_higher(y.effective) {
-                    return self;
-                }
-            }
-            i += 1;
-        }
-        self.order = o.to_tail(u);
-        self
     }
 }

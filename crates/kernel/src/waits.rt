@@ -1,9 +1,10 @@
 // How a task is made ready, and how the caller begins to wait.
 ghost use mathlib.Core.Path.{_≡_};
-ghost use Rattle.kernel.specs.Waits.{wakeOf, readied, blocked, waitFor};
+ghost use Rattle.rules.specs.Waits.{wakeOf, readied, blocked, waitFor};
+ghost use Rattle.kernel.specs.Does.{Does};
 use crate::Kernel;
-use calls::ObjNo;
-use calls::TaskNo;
+use numbers::ObjSlot;
+use numbers::TaskSlot;
 use slots::Place;
 use slots::Wake;
 
@@ -20,8 +21,8 @@ fn wake_of(now: u32, w: u32) -> Wake
 
 impl Kernel {
     // Made ready, at the tail of its line.
-    pub(crate) fn readied(self, t: TaskNo, n: u8) -> Kernel
-        ensures { λ r. ⌜ r ≡ readied self t n ⌝ }
+    pub(crate) fn readied(self, t: TaskSlot, n: u8) -> Kernel
+        ensures { λ r. ⌜ Does self (λ s. readied s t n) r ⌝ }
     {
         let x = self.task(t);
         self.with_task(t, x.placed(Place::Ready, n)).to_tail(t)
@@ -29,15 +30,15 @@ impl Kernel {
 
     // The caller begins a delay or a wait.
     pub(crate) fn blocked(self, p: Place) -> Kernel
-        ensures { λ r. ⌜ r ≡ blocked self p ⌝ }
+        ensures { λ r. ⌜ Does self (λ s. blocked s p) r ⌝ }
     {
         let t = self.running;
         let x = self.task(t);
         self.with_task(t, x.placed(p, 0)).to_tail(t)
     }
 
-    pub(crate) fn wait_for(self, o: ObjNo, w: u32) -> Kernel
-        ensures { λ r. ⌜ r ≡ waitFor self o w ⌝ }
+    pub(crate) fn wait_for(self, o: ObjSlot, w: u32) -> Kernel
+        ensures { λ r. ⌜ Does self (λ s. waitFor s o w) r ⌝ }
     {
         self.blocked(Place::Waiting(o, wake_of(self.tick, w)))
     }

@@ -7,16 +7,16 @@ use native.Mathlib.Omega.{arith}
 use lib.Dec.{eqb}
 use lib.ListN.{length, take, drop, take-append-drop}
 use Rattle.lists.specs.Lists.{foldl}
-use Rattle.kernel.specs.declared.Kernel.{Kernel}
+use Rattle.rules.specs.State.{State}
 use Rattle.cuts.specs.declared.Cut.{Cut}
-use Rattle.kernel.specs.Session.{Run, begun, fed, noRoom, run}
+use Rattle.rules.specs.Session.{Run, begun, fed, noRoom, run}
 use Rattle.promises.specs.Turns.{Turn, Pause, begins, paused, handedIn, afterTurn, afterTurns, cameIn, inOne, Through}
 
 -- r, and then what q took and answered from where r stood
 abbrev pub past : Run → Run → Run
 past r q = record { taken = r .taken + q .taken; kernel = q .kernel; store = q .store; cut = q .cut; answers = r .answers ++ q .answers }
 
-same-run : (k : Kernel) (s : List ℕ) (c : Cut) {m n : ℕ} {a b : List ℕ} → m ≡ n → a ≡ b
+same-run : (k : State) (s : List ℕ) (c : Cut) {m n : ℕ} {a b : List ℕ} → m ≡ n → a ≡ b
     → _≡_ {A = Run} record { taken = m; kernel = k; store = s; cut = c; answers = a } record { taken = n; kernel = k; store = s; cut = c; answers = b }
 same-run k s c p q = λ i. record { taken = p i; kernel = k; store = s; cut = c; answers = q i }
 

@@ -9,22 +9,25 @@ use Rattle.calls.specs.Asked.{asked}
 use Rattle.order.specs.Order.{ordered, without}
 use Rattle.order.specs.Tidy.{count, tidy}
 use Rattle.items.specs.Bytes.{putAt}
-use Rattle.promises.specs.Types.{Call, Kernel}
+use Rattle.promises.specs.Types.{Call, State}
 use Rattle.promises.specs.Cases.{Seen}
 use Rattle.promises.specs.Wrong.{Stepping, stepOf, stepBy, Numbers, turnsAllAway, alwaysDone, changesNothing, madeUp, Wrong, after, showsBy, ofWord, sameNumber, sameList, sameSeen, Verdict, found, told, idlePrograms, easyMistakes, wrongs}
-use Rattle.kernel.specs.Effects.{created, deleted, suspended, resumed, yielded, delayed, queueMade, mutexMade, removed, taken, handedOn, given, effect}
-use Rattle.kernel.specs.Items.{itemAt, outlet, sent, storeSent, received, storeReceived}
-use Rattle.kernel.specs.Lines.{line, those, highest, leader, first, chosen, toTail, toHead, leaves}
-use Rattle.kernel.specs.Loans.{moved, movedIf, prioritized, newPriority, lent, ownAgain}
-use Rattle.kernel.specs.Refusals.{outOfRange, namesNone, wrongSize, notForIdle, notWithHold, noSlot, heldOrWaited, inUse, notHis, hisAlready, notSuspended, mustWait, noDepth, noTick, table, laterRow, refusal}
-use Rattle.kernel.specs.Sound.{noHigher, runsFine, sound}
-use Rattle.kernel.specs.Step.{stored, answered, accepted, step}
-use Rattle.kernel.specs.Tables.{fresh, taskAt, kindAt, holds, freeSlot, freeObject}
-use Rattle.kernel.specs.Ticks.{wokenIfDue, wakes, byNumber, oneTick, turned, ticked, ticks, released, held}
-use Rattle.kernel.specs.Waits.{readied, blocked, waitFor}
+use Rattle.rules.specs.Effects.{created, deleted, suspended, resumed, yielded, delayed, queueMade, mutexMade, removed, taken, handedOn, given, effect}
+use Rattle.rules.specs.Items.{itemAt, outlet, sent, storeSent, received, storeReceived}
+use Rattle.rules.specs.Lines.{line, those, highest, leader, first, chosen, toTail, toHead, leaves}
+use Rattle.rules.specs.Loans.{moved, movedIf, prioritized, newPriority, lent, ownAgain}
+use Rattle.rules.specs.Refusals.{outOfRange, namesNone, wrongSize, notForIdle, notWithHold, noSlot, heldOrWaited, inUse, notHis, hisAlready, notSuspended, mustWait, noDepth, noTick, table, laterRow, refusal}
+use Rattle.rules.specs.Sound.{noHigher, runsFine, sound}
+use Rattle.rules.specs.Step.{stored, answered, accepted, step}
+use Rattle.slots.specs.Tasks.{taskAt}
+use Rattle.slots.specs.Objects.{kindAt}
+use Rattle.rules.specs.Tables.{fresh, holds, freeSlot, freeObject}
+use Rattle.numbers.specs.Numbers.{byNumber}
+use Rattle.rules.specs.Ticks.{wokenIfDue, wakes, oneTick, turned, ticked, ticks, released, held}
+use Rattle.rules.specs.Waits.{readied, blocked, waitFor}
 
 -- what is changed is changed in the step itself: with the kernel's own parts the frame is the step
-pub frame : (k : Kernel) (c : Call) (i s : List ℕ) → stepOf refusal effect chosen stored k c i s ≡ step k c i s
+pub frame : (k : State) (c : Call) (i s : List ℕ) → stepOf refusal effect chosen stored k c i s ≡ step k c i s
 unfolding stepOf step accepted
 frame k c i s = refl
 

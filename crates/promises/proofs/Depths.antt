@@ -9,28 +9,31 @@ use lib.ListN.{length}
 use borrow.Author.Tests.{eqb-true}
 use Rattle.lists.specs.Choice.{if_then_else_}
 use Rattle.lists.specs.Lists.{foldl, upTo}
+use Rattle.calls.specs.Door.{taskSlot, objSlot}
 use Rattle.calls.specs.Asked.{asked}
 use Rattle.order.specs.Order.{listed}
 use Rattle.slots.specs.Places.{isListed, wakesAt, outcomeDue}
-use Rattle.slots.specs.Tasks.{brokenOff}
-use Rattle.kernel.specs.Tables.{fresh, taskAt, kindAt, holds, withTask, withTick, withHold}
-use Rattle.kernel.specs.Lines.{level, first, runsIf, chosen, toTail, leaves}
-use Rattle.kernel.specs.Sound.{noHigher}
-use Rattle.kernel.specs.Waits.{later, readied, blocked, waitFor}
-use Rattle.kernel.specs.Loans.{prioritized, newPriority, lent, ownAgain}
-use Rattle.kernel.specs.Ticks.{wokenIfDue, wakes, byNumber, oneTick, turned, ticked, ticks, released, held}
-use Rattle.kernel.specs.Items.{oneLess, sentBy, sent, sentTo, refilledBy, received, receivedFrom}
-use Rattle.kernel.specs.Effects.{created, deleted, suspended, resumed, yielded, delayed, queueMade, mutexMade, removed, takenFrom, taken, handedTo, handedOn, given, effect}
-use Rattle.kernel.specs.Refusals.{refusal}
-use Rattle.kernel.specs.Step.{accepted, turnedAway, step}
-use Rattle.kernel.proofs.Within.{by-outlet}
-use Rattle.kernel.proofs.Blocks.{prioritized-same}
-use Rattle.promises.specs.Types.{TaskNo, ObjNo, Call, Create, Delete, Suspend, Resume, SetPriority, Delay, Yield, Hold, Release, MakeQueue, MakeMutex, Remove, Send, Receive, Take, Give, Tick, Delayed, AllReady, WaitersOf, Nobody, By, Kind, Unused, Queue, Mutex, Kernel}
+use Rattle.slots.specs.Tasks.{brokenOff, taskAt}
+use Rattle.slots.specs.Objects.{kindAt}
+use Rattle.rules.specs.Tables.{fresh, holds, withTask, withTick, withHold}
+use Rattle.rules.specs.Lines.{level, first, runsIf, chosen, toTail, leaves}
+use Rattle.rules.specs.Sound.{noHigher}
+use Rattle.rules.specs.Waits.{later, readied, blocked, waitFor}
+use Rattle.rules.specs.Loans.{prioritized, newPriority, lent, ownAgain}
+use Rattle.numbers.specs.Numbers.{byNumber}
+use Rattle.rules.specs.Ticks.{wokenIfDue, wakes, oneTick, turned, ticked, ticks, released, held}
+use Rattle.rules.specs.Items.{oneLess, sentBy, sent, sentTo, refilledBy, received, receivedFrom}
+use Rattle.rules.specs.Effects.{created, deleted, suspended, resumed, yielded, delayed, queueMade, mutexMade, removed, takenFrom, taken, handedTo, handedOn, given, effect}
+use Rattle.rules.specs.Refusals.{refusal}
+use Rattle.rules.specs.Step.{accepted, turnedAway, step}
+use Rattle.rules.proofs.Within.{by-outlet}
+use Rattle.rules.proofs.Blocks.{prioritized-same}
+use Rattle.promises.specs.Types.{TaskSlot, ObjSlot, Call, Create, Delete, Suspend, Resume, SetPriority, Delay, Yield, Hold, Release, MakeQueue, MakeMutex, Remove, Send, Receive, Take, Give, Tick, Delayed, AllReady, WaitersOf, Nobody, By, Kind, Unused, Queue, Mutex, State}
 use Rattle.promises.specs.History.{Made, after, reached}
 use Rattle.promises.specs.Depth.{deeper, isAccepted, depth}
 
 -- ── what leaves the depth as it was
-woken-hold : (k : Kernel) (t : TaskNo) → wokenIfDue k t .hold ≡ k .hold
+woken-hold : (k : State) (t : TaskSlot) → wokenIfDue k t .hold ≡ k .hold
 unfolding wokenIfDue readied toTail
 woken-hold k t = go (wakesAt (k .tick) (taskAt (k .tasks) t .place))
   where
@@ -38,21 +41,21 @@ woken-hold k t = go (wakesAt (k .tick) (taskAt (k .tasks) t .place))
     go true = refl
     go false = refl
 
-wakes-hold : (l : List TaskNo) (k : Kernel) → foldl wokenIfDue k l .hold ≡ k .hold
+wakes-hold : (l : List TaskSlot) (k : State) → foldl wokenIfDue k l .hold ≡ k .hold
 unfolding foldl
 wakes-hold [] k = refl
 wakes-hold (t ∷ l) k = wakes-hold l (wokenIfDue k t) ∙ woken-hold k t
 
-tick-hold : (k : Kernel) → oneTick k .hold ≡ k .hold
+tick-hold : (k : State) → oneTick k .hold ≡ k .hold
 unfolding oneTick wakes
 tick-hold k = wakes-hold (byNumber 16) (withTick k (later (k .tick) 1))
 
-ticks-hold : (n : ℕ) (k : Kernel) → upTo (λ x i. oneTick x) n k .hold ≡ k .hold
+ticks-hold : (n : ℕ) (k : State) → upTo (λ x i. oneTick x) n k .hold ≡ k .hold
 unfolding upTo
 ticks-hold zero k = refl
 ticks-hold (suc n) k = tick-hold (upTo (λ x i. oneTick x) n k) ∙ ticks-hold n k
 
-turned-hold : (k : Kernel) → turned k .hold ≡ k .hold
+turned-hold : (k : State) → turned k .hold ≡ k .hold
 unfolding turned toTail
 turned-hold k = go (noHigher (k .tasks) (level (k .tasks) (k .running)) (listed (k .order)))
   where
@@ -60,7 +63,7 @@ turned-hold k = go (noHigher (k .tasks) (level (k .tasks) (k .running)) (listed 
     go true = refl
     go false = refl
 
-module _ (k : Kernel) where
+module _ (k : State) where
   ticked-hold : ticked k .hold ≡ k .hold
   unfolding ticked
   ticked-hold = go (ltb 0 (k .hold))
@@ -69,7 +72,7 @@ module _ (k : Kernel) where
       go true = refl
       go false = turned-hold (oneTick k) ∙ tick-hold k
 
-  suspended-hold : (t : TaskNo) → suspended k t .hold ≡ k .hold
+  suspended-hold : (t : TaskSlot) → suspended k t .hold ≡ k .hold
   unfolding suspended leaves
   suspended-hold t = go (isListed (taskAt (k .tasks) t .place))
     where
@@ -85,39 +88,39 @@ module _ (k : Kernel) where
       go true = refl
       go false = refl
 
-  sent-hold : (o : ObjNo) (x : Kind) (w : ℕ) → sentTo k o x w .hold ≡ k .hold
+  sent-hold : (o : ObjSlot) (x : Kind) (w : ℕ) → sentTo k o x w .hold ≡ k .hold
   unfolding sent readied waitFor blocked toTail
   sent-hold o Unused w = refl
   sent-hold o (Queue q) w = by-outlet k o q (λ x. sentBy k o q w x .hold ≡ k .hold) (λ t e. refl) refl refl
   sent-hold o (Mutex h) w = refl
 
-  received-hold : (o : ObjNo) (x : Kind) (w : ℕ) → receivedFrom k o x w .hold ≡ k .hold
+  received-hold : (o : ObjSlot) (x : Kind) (w : ℕ) → receivedFrom k o x w .hold ≡ k .hold
   unfolding received readied waitFor blocked toTail
   received-hold o Unused w = refl
   received-hold o (Queue q) w = go (eqb (q .count) 0) (first k (WaitersOf o))
     where
-      go : (b : Bool) (l : List TaskNo) → (if b then waitFor k o w else refilledBy k o (oneLess q) l) .hold ≡ k .hold
+      go : (b : Bool) (l : List TaskSlot) → (if b then waitFor k o w else refilledBy k o (oneLess q) l) .hold ≡ k .hold
       go true l = refl
       go false [] = refl
       go false (t ∷ l) = refl
   received-hold o (Mutex h) w = refl
 
-  taken-hold : (o : ObjNo) (x : Kind) (w : ℕ) → takenFrom k o x w .hold ≡ k .hold
+  taken-hold : (o : ObjSlot) (x : Kind) (w : ℕ) → takenFrom k o x w .hold ≡ k .hold
   unfolding lent waitFor blocked toTail
   taken-hold o Unused w = refl
   taken-hold o (Queue q) w = refl
   taken-hold o (Mutex Nobody) w = refl
   taken-hold o (Mutex (By h)) w = prioritized-same k h _ _ .hold
 
-  given-hold : (o : ObjNo) → given k o .hold ≡ k .hold
+  given-hold : (o : ObjSlot) → given k o .hold ≡ k .hold
   unfolding given ownAgain handedOn readied toTail
   given-hold o = again (handedOn k o) (holds (handedOn k o .objects) (k .running)) ∙ hand (first k (WaitersOf o))
     where
-      again : (j : Kernel) (b : Bool) → (if b then j else prioritized j (k .running) (taskAt (j .tasks) (k .running) .own) (taskAt (j .tasks) (k .running) .own)) .hold ≡ j .hold
+      again : (j : State) (b : Bool) → (if b then j else prioritized j (k .running) (taskAt (j .tasks) (k .running) .own) (taskAt (j .tasks) (k .running) .own)) .hold ≡ j .hold
       again j true = refl
       again j false = prioritized-same j (k .running) _ _ .hold
 
-      hand : (l : List TaskNo) → handedTo k o l .hold ≡ k .hold
+      hand : (l : List TaskSlot) → handedTo k o l .hold ≡ k .hold
       hand [] = refl
       hand (t ∷ l) = refl
 
@@ -129,13 +132,13 @@ module _ (k : Kernel) where
       go true e = ticks-hold (k .pended) (withHold k 0 0) ∙ omega (arith, eqb-true (k .hold) 1 e)
       go false e = refl
 
-  effect-hold : (c : Call) → effect k c .hold ≡ deeper (asked c) (k .hold)
+  effect-hold : (c : Call) → effect k (asked c) .hold ≡ deeper (asked c) (k .hold)
   unfolding effect asked created deleted resumed yielded queueMade mutexMade removed taken newPriority held readied leaves toTail
   effect-hold (Create p) = refl
   effect-hold (Delete t) = refl
-  effect-hold (Suspend t) = suspended-hold t
+  effect-hold (Suspend t) = suspended-hold (taskSlot t)
   effect-hold (Resume t) = refl
-  effect-hold (SetPriority t p) = prioritized-same k t _ _ .hold
+  effect-hold (SetPriority t p) = prioritized-same k (taskSlot t) _ _ .hold
   effect-hold (Delay n) = delayed-hold n
   effect-hold Yield = refl
   effect-hold Hold = refl
@@ -143,34 +146,34 @@ module _ (k : Kernel) where
   effect-hold (MakeQueue c z) = refl
   effect-hold MakeMutex = refl
   effect-hold (Remove o) = refl
-  effect-hold (Send o w) = sent-hold o (kindAt (k .objects) o) w
-  effect-hold (Receive o w) = received-hold o (kindAt (k .objects) o) w
-  effect-hold (Take o w) = taken-hold o (kindAt (k .objects) o) w
-  effect-hold (Give o) = given-hold o
+  effect-hold (Send o w) = sent-hold (objSlot o) (kindAt (k .objects) (objSlot o)) w
+  effect-hold (Receive o w) = received-hold (objSlot o) (kindAt (k .objects) (objSlot o)) w
+  effect-hold (Take o w) = taken-hold (objSlot o) (kindAt (k .objects) (objSlot o)) w
+  effect-hold (Give o) = given-hold (objSlot o)
   effect-hold Tick = ticked-hold
 
   chosen-hold : chosen k .hold ≡ k .hold
   unfolding chosen
   chosen-hold = go (eqb (k .hold) 0) (first k AllReady)
     where
-      go : (b : Bool) (l : List TaskNo) → (if b then runsIf k l else k) .hold ≡ k .hold
+      go : (b : Bool) (l : List TaskSlot) → (if b then runsIf k l else k) .hold ≡ k .hold
       go true [] = refl
       go true (t ∷ l) = refl
       go false l = refl
 
 -- ── one step: an accepted hold is one deeper, an accepted release one less, and nothing else changes the depth
-pub step-depth : (k : Kernel) (m : Made) → step k (m .call) (m .item) (m .store) .kernel .hold ≡ (if isAccepted k m then deeper (asked (m .call)) (k .hold) else k .hold)
+pub step-depth : (k : State) (m : Made) → step k (m .call) (m .item) (m .store) .kernel .hold ≡ (if isAccepted k m then deeper (asked (m .call)) (k .hold) else k .hold)
 unfolding step accepted
 step-depth k m = go (isAccepted k m)
   where
     no : ℕ
     no = refusal k (asked (m .call)) (length (m .item)) (length (m .store))
 
-    go : (b : Bool) → (if b then accepted k (m .call) (m .item) (m .store) else turnedAway k no (m .store)) .kernel .hold ≡ (if b then deeper (asked (m .call)) (k .hold) else k .hold)
-    go true = chosen-hold (effect k (m .call)) ∙ effect-hold k (m .call)
+    go : (b : Bool) → (if b then accepted k (asked (m .call)) (m .item) (m .store) else turnedAway k no (m .store)) .kernel .hold ≡ (if b then deeper (asked (m .call)) (k .hold) else k .hold)
+    go true = chosen-hold (effect k (asked (m .call))) ∙ effect-hold k (m .call)
     go false = refl
 
-after-depth : (k : Kernel) (n : ℕ) (ms : List Made) → k .hold ≡ n → after k ms .hold ≡ depth k n ms
+after-depth : (k : State) (n : ℕ) (ms : List Made) → k .hold ≡ n → after k ms .hold ≡ depth k n ms
 unfolding after depth
 after-depth k n [] e = e
 after-depth k n (m ∷ ms) e =

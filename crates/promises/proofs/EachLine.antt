@@ -9,31 +9,32 @@ use lib.ListN.{length, take}
 use borrow.Author.Tests.{ne-eqb}
 use Rattle.lists.specs.Lists.{index}
 use Rattle.calls.specs.declared.Call.{Call}
+use Rattle.calls.specs.Door.{taskNo}
 use Rattle.journal.specs.declared.Reading.{Reading}
 use Rattle.journal.specs.declared.Reading.the-variants.{Says, Refused}
 use Rattle.journal.specs.Steps.{readOf}
 use Rattle.journal.proofs.Newlines.{Ended, reply-ended}
-use Rattle.kernel.specs.declared.Kernel.{Kernel}
-use Rattle.kernel.specs.Sound.{sound}
-use Rattle.kernel.specs.Refusals.{table, laterRow, refusal}
-use Rattle.kernel.specs.Step.{Stepped, turnedAway, step}
-use Rattle.kernel.specs.Session.{noLine, stepTold, told}
+use Rattle.rules.specs.State.{State}
+use Rattle.rules.specs.Sound.{sound}
+use Rattle.rules.specs.Refusals.{table, laterRow, refusal}
+use Rattle.rules.specs.Step.{Stepped, turnedAway, step}
+use Rattle.rules.specs.Session.{noLine, stepTold, told}
 use Rattle.promises.specs.Program.{linesOf, stepOfLine, Answered, answering, answersTo, newlines, allRefused}
 use Rattle.promises.proofs.LineForLine.{first-line}
 
 -- ---- one answer line for each line
 
 told-ended : (d : Stepped) → Ended (told d)
-told-ended d = reply-ended (d .answer) (d .kernel .running)
+told-ended d = reply-ended (d .answer) (taskNo (d .kernel .running))
 
 -- the first line written is the first line's answer
-pub next-answer : (k : Kernel) (s l : List ℕ) (ls : List (List ℕ))
+pub next-answer : (k : State) (s l : List ℕ) (ls : List (List ℕ))
     → linesOf (answering k s (l ∷ ls) .answers) ≡ told (stepOfLine k s l) ∷ linesOf (answering (stepOfLine k s l .kernel) (stepOfLine k s l .store) ls .answers)
 unfolding answering
 next-answer k s l ls = first-line (told (stepOfLine k s l)) _ (told-ended (stepOfLine k s l))
 
 -- as many lines are written as lines came
-pub as-many-lines : (k : Kernel) (s : List ℕ) (ls : List (List ℕ)) → length (linesOf (answering k s ls .answers)) ≡ length ls
+pub as-many-lines : (k : State) (s : List ℕ) (ls : List (List ℕ)) → length (linesOf (answering k s ls .answers)) ≡ length ls
 unfolding answering linesOf
 as-many-lines k s [] = refl
 as-many-lines k s (l ∷ ls) = ap length (next-answer k s l ls) ∙ ap suc (as-many-lines (stepOfLine k s l .kernel) (stepOfLine k s l .store) ls)
@@ -53,7 +54,7 @@ one-newline (x ∷ l) m e = go (eqb x 10) refl e (one-newline l m)
     go false q = rw q (λ h ih. ih (omega arith))
 
 -- and each of them is ended by its newline
-pub as-many-newlines : (k : Kernel) (s : List ℕ) (ls : List (List ℕ)) → newlines (answering k s ls .answers) ≡ length ls
+pub as-many-newlines : (k : State) (s : List ℕ) (ls : List (List ℕ)) → newlines (answering k s ls .answers) ≡ length ls
 unfolding answering newlines
 as-many-newlines k s [] = refl
 as-many-newlines k s (l ∷ ls) =
@@ -66,7 +67,7 @@ one-answer-each input = as-many-newlines _ _ (linesOf input)
 
 -- ---- every line refused
 
-module _ (k : Kernel) (s : List ℕ) (n : ℕ) where
+module _ (k : State) (s : List ℕ) (n : ℕ) where
   refused-lines : ((l : List ℕ) → stepOfLine k s l ≡ turnedAway k n s) → (ls : List (List ℕ)) → answering k s ls ≡ allRefused k s n (length ls)
   unfolding answering flatten
   refused-lines f [] = refl
@@ -90,11 +91,11 @@ module _ (k : Kernel) (s : List ℕ) (n : ℕ) where
       go false q = rw q (read (readOf l .answer) (take (readOf l .len) (readOf l .item)))
 
 -- "1: the kernel value is not sound": every line is answered 1, and nothing changes
-pub unsound-lines : (k : Kernel) (s : List ℕ) → sound k ≡ false → (ls : List (List ℕ)) → answering k s ls ≡ allRefused k s 1 (length ls)
+pub unsound-lines : (k : State) (s : List ℕ) → sound k ≡ false → (ls : List (List ℕ)) → answering k s ls ≡ allRefused k s 1 (length ls)
 unfolding step refusal noLine
 unsound-lines k s e = refused-lines k s 1 (refused-step k s 1 (λ c item. rw e) (rw e))
 
 -- "2: the store is not 9,216 bytes long"
-pub other-store-lines : (k : Kernel) (s : List ℕ) → sound k ≡ true → (length s ≡ 9216 → ⊥) → (ls : List (List ℕ)) → answering k s ls ≡ allRefused k s 2 (length ls)
+pub other-store-lines : (k : State) (s : List ℕ) → sound k ≡ true → (length s ≡ 9216 → ⊥) → (ls : List (List ℕ)) → answering k s ls ≡ allRefused k s 2 (length ls)
 unfolding step refusal laterRow table noLine
 other-store-lines k s e h = refused-lines k s 2 (refused-step k s 2 (λ c item. rw (e, ne-eqb (length s) 9216 h)) (rw (e, ne-eqb (length s) 9216 h)))

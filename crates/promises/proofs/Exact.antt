@@ -10,19 +10,17 @@ use lib.ListN.{length}
 use borrow.Author.Tests.{eqb-true, eqb-false, eq-eqb, ne-eqb}
 use Rattle.lists.specs.Choice.{if_then_else_}
 use Rattle.calls.specs.Asked.{asked}
-use Rattle.calls.specs.Said.{done, made, waiting, refused, Saying, says, said}
+use Rattle.calls.specs.Said.{done, made, waiting, refused, Saying, says}
 use Rattle.slots.specs.Places.{isBlocked}
-use Rattle.kernel.specs.declared.Step.{Step}
-use Rattle.kernel.specs.Tables.{taskAt}
-use Rattle.kernel.specs.Lines.{chosen}
-use Rattle.kernel.specs.Sound.{sound}
-use Rattle.kernel.specs.Asking.{makes, newSlot}
-use Rattle.kernel.specs.Refusals.{Row, row, firstRow, table, laterRow, refusal}
-use Rattle.kernel.specs.Effects.{effect}
-use Rattle.kernel.specs.Step.{answered, accepted, turnedAway, step}
-use Rattle.kernel.specs.Promises.{Is, Steps}
-use Rattle.promises.specs.Types.{Asked, Call, Kernel}
-use Rattle.promises.specs.TurnedAway.{rows, First, here, below, None, end, off, Refusal, Exactly, Decided}
+use Rattle.slots.specs.Tasks.{taskAt}
+use Rattle.rules.specs.Lines.{chosen}
+use Rattle.rules.specs.Sound.{sound}
+use Rattle.rules.specs.Asking.{makes, newSlot}
+use Rattle.rules.specs.Refusals.{Row, row, firstRow, table, laterRow, refusal}
+use Rattle.rules.specs.Effects.{effect}
+use Rattle.rules.specs.Step.{Stepped, answered, accepted, turnedAway, step}
+use Rattle.promises.specs.Types.{Asked, Call, State}
+use Rattle.promises.specs.TurnedAway.{rows, First, here, below, None, end, off, Refusal, Accepted, Exactly, Decided}
 
 -- ── the first row that applies, as a number and as a proposition
 first-is : {n : ℕ} {rs : List Row} → First n rs → firstRow rs ≡ n
@@ -57,7 +55,7 @@ is-none (r ∷ rs) h e = go (r .applies) refl e (eqb (r .number) 0) refl h (is-n
     go true a q false c g ih = absurd (eqb-false (r .number) 0 c q)
     go false a q false c g ih = off a (ih g q)
 
-module _ (k : Kernel) (a : Asked) (item s : ℕ) where
+module _ (k : State) (a : Asked) (item s : ℕ) where
   rows-refusal : firstRow (rows k a item s) ≡ refusal k a item s
   unfolding refusal laterRow
   rows-refusal = go (sound k)
@@ -79,7 +77,7 @@ module _ (k : Kernel) (a : Asked) (item s : ℕ) where
       go false e = inl (record { number = firstRow (rows k a item s); first = is-first _ (rows k a item s) refl (eqb-false _ 0 e) })
 
 -- ── an accepted call is answered by no refusal
-pub not-refused : (k : Kernel) (a : Asked) (next : Kernel) (n : ℕ) → answered k a next ≡ says refused n → ⊥
+pub not-refused : (k : State) (a : Asked) (next : State) (n : ℕ) → answered k a next ≡ says refused n → ⊥
 unfolding answered
 not-refused k a next n = go (makes a) (isBlocked (taskAt (next .tasks) (k .running) .place))
   where
@@ -89,26 +87,25 @@ not-refused k a next n = go (makes a) (isBlocked (taskAt (next .tasks) (k .runni
     go false false e = let w : done ≡ refused = ap (λ (x : Saying). x .word) e in let z : _≡_ {A = ℕ} 0 1 = cc in omega arith
 
 -- ── the step
-module _ (k : Kernel) (c : Call) (item s : List ℕ) (r : Step) (after : List ℕ) (S : Steps k c item s r after) where
+module _ (k : State) (c : Call) (item s : List ℕ) where
   abbrev no : ℕ
   no = refusal k (asked c) (length item) (length s)
 
   table-no : firstRow (rows k (asked c) (length item) (length s)) ≡ no
   table-no = rows-refusal k (asked c) (length item) (length s)
 
-  is-refused : eqb no 0 ≡ false → Is (turnedAway k no s) r after
+  is-refused : eqb no 0 ≡ false → step k c item s ≡ turnedAway k no s
   unfolding step
-  is-refused e = subst (λ (b : Bool). Is (if b then accepted k c item s else turnedAway k no s) r after) e S
+  is-refused e = rw e
 
-  is-accepted : eqb no 0 ≡ true → Is (accepted k c item s) r after
+  is-accepted : eqb no 0 ≡ true → step k c item s ≡ accepted k (asked c) item s
   unfolding step
-  is-accepted e = subst (λ (b : Bool). Is (if b then accepted k c item s else turnedAway k no s) r after) e S
+  is-accepted e = rw e
 
-  away : (n : ℕ) → First n (rows k (asked c) (length item) (length s)) → (n ≡ 0 → ⊥) → Refusal k s n r after
+  away : (n : ℕ) → First n (rows k (asked c) (length item) (length s)) → (n ≡ 0 → ⊥) → Refusal k s n (step k c item s)
   away n f z =
       let e : no ≡ n = sym table-no ∙ first-is f in
-      let h = is-refused (ne-eqb no 0 (λ q. z (sym e ∙ q))) in
-      record { number = h .answer ∙ ap (says refused) e; kernel = h .kernel; store = h .store }
+      subst (λ (d : Stepped). Refusal k s n d) (sym (is-refused (ne-eqb no 0 (λ q. z (sym e ∙ q))))) (record { number = ap (says refused) e; kernel = refl; store = refl })
 
   -- the number of a row that applies first is not 0
   first-some : (n : ℕ) → First n (rows k (asked c) (length item) (length s)) → n ≡ 0 → ⊥
@@ -118,23 +115,20 @@ module _ (k : Kernel) (c : Call) (item s : List ℕ) (r : Step) (after : List �
       none-first (off a g) (here e b) = false≢true (sym a ∙ b)
       none-first (off a g) (below b f) = none-first g f
 
-  pub turned-away-exactly : Exactly k c item s r after
+  accepted-so : Accepted k c item s (accepted k (asked c) item s)
   unfolding accepted
+  accepted-so = record { kernel = refl; answer = refl; store = refl; no-refusal = not-refused k (asked c) (chosen (effect k (asked c))) }
+
+  pub turned-away-exactly : Exactly k c item s (step k c item s)
   turned-away-exactly =
       record {
         given = λ n f. away n f (first-some n f);
         only = λ n e. only n e (eqb no 0) refl;
-        else = λ f.
-            let h = is-accepted (eq-eqb no 0 (sym table-no ∙ none-is f)) in
-            record {
-              accepts = record { kernel = h .kernel; answer = h .answer };
-              store = h .store;
-              no-refusal = λ n e. not-refused k (asked c) (chosen (effect k c)) n (sym (h .answer) ∙ e);
-            };
+        else = λ f. subst (λ (d : Stepped). Accepted k c item s d) (sym (is-accepted (eq-eqb no 0 (sym table-no ∙ none-is f)))) accepted-so;
       }
     where
-      only : (n : ℕ) → said (r .answer) ≡ says refused n → (b : Bool) → eqb no 0 ≡ b → First n (rows k (asked c) (length item) (length s))
-      only n e true q = absurd (not-refused k (asked c) (chosen (effect k c)) n (sym (is-accepted q .answer) ∙ e))
+      only : (n : ℕ) → step k c item s .answer ≡ says refused n → (b : Bool) → eqb no 0 ≡ b → First n (rows k (asked c) (length item) (length s))
+      only n e true q = absurd (accepted-so .no-refusal n (ap (λ (d : Stepped). d .answer) (sym (is-accepted q)) ∙ e))
       only n e false q =
-          let m : no ≡ n = ap (λ (x : Saying). x .number) (sym (is-refused q .answer) ∙ e) in
+          let m : no ≡ n = ap (λ (x : Saying). x .number) (ap (λ (d : Stepped). d .answer) (sym (is-refused q)) ∙ e) in
           is-first n _ (table-no ∙ m) (λ z. eqb-false no 0 q (m ∙ z))

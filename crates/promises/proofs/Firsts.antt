@@ -8,21 +8,21 @@ use lib.Dec.{eqb, ltb}
 use borrow.Author.Tests.{ltb-true, ltb-false, lt-ltb, le-ltb, ne-eqb}
 use Rattle.lists.specs.Choice.{if_then_else_}
 use Rattle.lists.specs.Lists.{kept, head, isNone}
-use Rattle.calls.specs.declared.TaskNo.{TaskNo}
+use Rattle.numbers.specs.declared.TaskSlot.{TaskSlot}
 use Rattle.slots.specs.declared.Task.{Task}
 use Rattle.slots.specs.declared.Who.the-variants.{AllReady}
-use Rattle.kernel.specs.Lines.{line, those, level, highest, leader}
-use Rattle.kernel.specs.Sound.{noHigher}
-use Rattle.kernel.proofs.Leads.{kept-kept, leader-none}
+use Rattle.rules.specs.Lines.{line, those, level, highest, leader}
+use Rattle.rules.specs.Sound.{noHigher}
+use Rattle.rules.proofs.Leads.{kept-kept, leader-none}
 
 module _ (ts : List Task) where
-  none-level : (l : List TaskNo) → isNone l ≡ true → highest ts l ≤ 0
+  none-level : (l : List TaskSlot) → isNone l ≡ true → highest ts l ≤ 0
   unfolding highest
   none-level [] e = omega arith
   none-level (t ∷ l) e = absurd (false≢true e)
 
   -- no one stands above the highest
-  level-none : (p : ℕ) (l : List TaskNo) → highest ts l < p → kept (λ t. eqb (level ts t) p) l ≡ []
+  level-none : (p : ℕ) (l : List TaskSlot) → highest ts l < p → kept (λ t. eqb (level ts t) p) l ≡ []
   unfolding kept highest
   level-none p [] h = refl
   level-none p (t ∷ l) h = go (ltb (level ts t) (highest ts l)) refl h (level-none p l)
@@ -32,7 +32,7 @@ module _ (ts : List Task) where
       go true e g ih = rw (ne-eqb (level ts t) p (λ q. omega (arith, ltb-true (level ts t) (highest ts l) e))) (ih g)
       go false e g ih = rw (ne-eqb (level ts t) p (λ q. omega arith)) (ih (omega (arith, ltb-false (level ts t) (highest ts l) e)))
 
-  above-none : (p : ℕ) (l : List TaskNo) → isNone (kept (λ t. ltb p (level ts t)) l) ≡ not (ltb p (highest ts l))
+  above-none : (p : ℕ) (l : List TaskSlot) → isNone (kept (λ t. ltb p (level ts t)) l) ≡ not (ltb p (highest ts l))
   unfolding kept highest
   above-none p [] = rw (le-ltb p 0 (omega arith))
   above-none p (t ∷ l) = go (ltb p (level ts t)) refl (ltb (level ts t) (highest ts l)) refl (above-none p l)
@@ -45,20 +45,20 @@ module _ (ts : List Task) where
       go false e false f ih = ih ∙ rw (le-ltb p (highest ts l) (omega (arith, ltb-false p (level ts t) e, ltb-false (level ts t) (highest ts l) f)), e)
 
   -- a line is a level of the ready
-  line-ready : (p : ℕ) (l : List TaskNo) → line ts p l ≡ kept (λ t. eqb (level ts t) p) (those ts AllReady l)
+  line-ready : (p : ℕ) (l : List TaskSlot) → line ts p l ≡ kept (λ t. eqb (level ts t) p) (those ts AllReady l)
   unfolding line those
   line-ready p l = sym (kept-kept _ _ l)
 
-  leader-ready : (l : List TaskNo) → leader ts (those ts AllReady l) ≡ head (line ts (highest ts (those ts AllReady l)) l)
+  leader-ready : (l : List TaskSlot) → leader ts (those ts AllReady l) ≡ head (line ts (highest ts (those ts AllReady l)) l)
   unfolding leader
   leader-ready l = ap head (sym (line-ready (highest ts (those ts AllReady l)) l))
 
-  higher-ready : (p : ℕ) (l : List TaskNo) → noHigher ts p l ≡ not (ltb p (highest ts (those ts AllReady l)))
+  higher-ready : (p : ℕ) (l : List TaskSlot) → noHigher ts p l ≡ not (ltb p (highest ts (those ts AllReady l)))
   unfolding noHigher those
   higher-ready p l = ap isNone (sym (kept-kept _ _ l)) ∙ above-none p (those ts AllReady l)
 
   -- the highest line of m is occupied in l too
-  no-higher-line : (l m : List TaskNo) → ((p : ℕ) → line ts p l ≡ line ts p m) → highest ts (those ts AllReady m) ≤ highest ts (those ts AllReady l)
+  no-higher-line : (l m : List TaskSlot) → ((p : ℕ) → line ts p l ≡ line ts p m) → highest ts (those ts AllReady m) ≤ highest ts (those ts AllReady l)
   no-higher-line l m same = go (ltb hl hm) refl
     where
       hl : ℕ
@@ -74,7 +74,7 @@ module _ (ts : List Task) where
           let no-one : isNone (those ts AllReady m) ≡ true = sym (leader-none ts (those ts AllReady m)) ∙ ap isNone (leader-ready m ∙ ap head empty) in
           omega (arith, ltb-true hl hm e, none-level (those ts AllReady m) no-one)
 
-  module _ (l m : List TaskNo) (same : (p : ℕ) → line ts p l ≡ line ts p m) where
+  module _ (l m : List TaskSlot) (same : (p : ℕ) → line ts p l ≡ line ts p m) where
     same-highest : highest ts (those ts AllReady l) ≡ highest ts (those ts AllReady m)
     same-highest = omega (arith, no-higher-line l m same, no-higher-line m l (λ p. sym (same p)))
 

@@ -6,21 +6,21 @@ use mathlib.Core.List.{List, [], _∷_, _++_}
 use native.Mathlib.Omega.{arith}
 use lib.Dec.{eqb}
 use borrow.Author.Tests.{eqb-true, eqb-false}
-use Rattle.calls.specs.declared.TaskNo.{TaskNo}
+use Rattle.numbers.specs.declared.TaskSlot.{TaskSlot}
 use Rattle.order.specs.Order.{listed, ordered, without}
 use Rattle.order.specs.Tidy.{count}
 use Rattle.order.proofs.Counts.{count-append, count-one, count-other, count-gone, count-stays}
 use Rattle.order.proofs.Rooms.{exactly-room}
 use Rattle.order.proofs.Orders.{listed-ordered}
 
-pub record Fits (xs : List TaskNo) : Type 0 where
+pub record Fits (xs : List TaskSlot) : Type 0 where
   pub once : (n : ℕ) → count n xs ≤ 1
   pub low : (n : ℕ) → 16 ≤ n → count n xs ≡ 0
 
-pub fits-listed : (xs : List TaskNo) → Fits xs → listed (ordered xs) ≡ xs
+pub fits-listed : (xs : List TaskSlot) → Fits xs → listed (ordered xs) ≡ xs
 fits-listed xs f = listed-ordered xs (exactly-room {e = λ n. count n xs} xs (record { counts = λ n. refl }) (f .once) (f .low))
 
-module _ (t : TaskNo) (xs : List TaskNo) (f : Fits xs) where
+module _ (t : TaskSlot) (xs : List TaskSlot) (f : Fits xs) where
   -- without t, and then with it
   left : (n : ℕ) → (b : Bool) → eqb (t .0) n ≡ b → count n (without t xs) ≤ count n xs
   left n true e = rw (← eqb-true (t .0) n e, count-gone t xs) (omega arith)

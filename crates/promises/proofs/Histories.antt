@@ -6,24 +6,25 @@ use mathlib.Core.List.{List, [], _∷_}
 use native.Mathlib.Omega.{arith}
 use lib.Dec.{ltb}
 use borrow.Author.Tests.{ltb-true, ltb-false, eq-eqb}
-use Rattle.calls.specs.declared.TaskNo.{TaskNo}
-use Rattle.calls.specs.Numbers.{task}
+use Rattle.numbers.specs.declared.TaskSlot.{TaskSlot}
+use Rattle.numbers.specs.Numbers.{task}
 use Rattle.order.specs.Order.{ordered}
 use Rattle.order.specs.Tidy.{count}
 use Rattle.slots.specs.declared.Place.{Place}
 use Rattle.slots.specs.declared.Place.the-variants.{Free, Ready, Delayed, Waiting, Suspended}
 use Rattle.slots.specs.Places.{isFree}
-use Rattle.kernel.specs.declared.Kernel.{Kernel}
-use Rattle.kernel.specs.Tables.{fresh, taskAt}
-use Rattle.kernel.specs.Lines.{level}
-use Rattle.kernel.specs.Sound.{sound}
-use Rattle.kernel.specs.Sentences.{Sound}
-use Rattle.kernel.proofs.Says.{sound-says}
-use Rattle.kernel.proofs.Every.{fresh-sound, step-kept}
+use Rattle.rules.specs.State.{State}
+use Rattle.slots.specs.Tasks.{taskAt}
+use Rattle.rules.specs.Tables.{fresh}
+use Rattle.rules.specs.Lines.{level}
+use Rattle.rules.specs.Sound.{sound}
+use Rattle.rules.specs.Sentences.{Sound}
+use Rattle.rules.proofs.Says.{sound-says}
+use Rattle.rules.proofs.Every.{fresh-sound, step-kept}
 use Rattle.promises.specs.History.{Made, after, reached, states, Placed, overlisted}
 
 -- soundness all the way
-pub after-sound : (k : Kernel) (ms : List Made) → sound k ≡ true → sound (after k ms) ≡ true
+pub after-sound : (k : State) (ms : List Made) → sound k ≡ true → sound (after k ms) ≡ true
 unfolding after
 after-sound k [] e = e
 after-sound k (m ∷ ms) e = after-sound _ ms (step-kept k (m .call) (m .item) (m .store) e)
@@ -50,7 +51,7 @@ none-listed : (n : ℕ) → count n [] ≡ 1 → ⊥
 unfolding count
 none-listed n e = omega arith
 
-pub placed : (k : Kernel) → Sound k → Placed k
+pub placed : (k : State) → Sound k → Placed k
 placed k S =
     record {
       one-state = λ t e. one-of-four (taskAt (k .tasks) t .place) e;
@@ -60,7 +61,7 @@ placed k S =
       not-outranked = λ h t e. go h t e (ltb (level (k .tasks) (k .running)) (level (k .tasks) t)) refl;
     }
   where
-    go : k .hold ≡ 0 → (t : TaskNo) → taskAt (k .tasks) t .place ≡ Ready → (b : Bool) → ltb (level (k .tasks) (k .running)) (level (k .tasks) t) ≡ b → level (k .tasks) t ≤ level (k .tasks) (k .running)
+    go : k .hold ≡ 0 → (t : TaskSlot) → taskAt (k .tasks) t .place ≡ Ready → (b : Bool) → ltb (level (k .tasks) (k .running)) (level (k .tasks) t) ≡ b → level (k .tasks) t ≤ level (k .tasks) (k .running)
     go h t e true q =
         let empty = S .no-higher h (level (k .tasks) t) (ltb-true _ _ q) in
         absurd (none-listed (t .0) (ap (count (t .0)) (sym empty) ∙ S .lines (level (k .tasks) t) t ∙ rw (e, eq-eqb (level (k .tasks) t) (level (k .tasks) t) refl)))

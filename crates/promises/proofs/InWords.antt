@@ -7,15 +7,15 @@ use lib.ListN.{replicate}
 use Rattle.journal.specs.Promise.{IsLine, NoLine}
 use Rattle.journal.specs.Steps.{readOf}
 use Rattle.journal.proofs.Promised.{reads-as}
-use Rattle.kernel.specs.Tables.{fresh}
-use Rattle.kernel.specs.Step.{Stepped}
-use Rattle.kernel.specs.Session.{told}
-use Rattle.promises.specs.Types.{Kernel}
+use Rattle.rules.specs.Tables.{fresh}
+use Rattle.rules.specs.Step.{Stepped}
+use Rattle.rules.specs.Session.{told}
+use Rattle.promises.specs.Types.{State}
 use Rattle.promises.specs.Program.{linesOf, stepOfLine, Answered, answering, program}
 use Rattle.promises.specs.ByLines.{LineSteps, aCall, noCall, LinesAnswered, nothing, line, ProgramAnswers}
 use Rattle.promises.proofs.LineSteps.{call-line, no-call-line}
 
-module _ (k : Kernel) (s l : List ℕ) where
+module _ (k : State) (s l : List ℕ) where
   pub line-steps : LineSteps k s l (stepOfLine k s l)
   line-steps =
       ⊎-elim
@@ -29,12 +29,12 @@ module _ (k : Kernel) (s l : List ℕ) where
   one-line-step (aCall c b h e) = sym (ap (stepOfLine k s) e ∙ call-line k s c b h)
   one-line-step (noCall n) = sym (no-call-line k s l n)
 
-pub lines-answered : (k : Kernel) (s : List ℕ) (ls : List (List ℕ)) → LinesAnswered k s ls (answering k s ls)
+pub lines-answered : (k : State) (s : List ℕ) (ls : List (List ℕ)) → LinesAnswered k s ls (answering k s ls)
 unfolding answering
 lines-answered k s [] = nothing
 lines-answered k s (l ∷ ls) = line (line-steps k s l) (lines-answered (stepOfLine k s l .kernel) (stepOfLine k s l .store) ls)
 
-pub one-answering : {k : Kernel} {s : List ℕ} {ls : List (List ℕ)} {r : Answered} → LinesAnswered k s ls r → r ≡ answering k s ls
+pub one-answering : {k : State} {s : List ℕ} {ls : List (List ℕ)} {r : Answered} → LinesAnswered k s ls r → r ≡ answering k s ls
 unfolding answering
 one-answering nothing = refl
 one-answering (line {k} {s} {l} {ls} {d} {r} f g) =

@@ -1,5 +1,4 @@
 pub mod Gate
-pub mod Unique
 pub mod Caught
 pub mod Firsts
 pub mod Fits

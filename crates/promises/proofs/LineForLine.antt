@@ -14,10 +14,10 @@ use Rattle.journal.specs.Steps.{readOf, noCall}
 use Rattle.journal.proofs.Newlines.{Clear, Ended, one-clear, clear-append, ended-append}
 use Rattle.cuts.specs.declared.Cut.{Cut}
 use Rattle.cuts.specs.Keeping.{noByte, kept, ended, isEmpty}
-use Rattle.kernel.specs.declared.Kernel.{Kernel}
-use Rattle.kernel.specs.Tables.{fresh}
-use Rattle.kernel.specs.Session.{Run, noLine, lineStep, readCut, stepRead, told, answeredBy, fed, begun, closed, newSession}
-use Rattle.kernel.specs.Step.{Stepped, turnedAway}
+use Rattle.rules.specs.State.{State}
+use Rattle.rules.specs.Tables.{fresh}
+use Rattle.rules.specs.Session.{Run, noLine, lineStep, readCut, stepRead, told, answeredBy, fed, begun, closed}
+use Rattle.rules.specs.Step.{Stepped, turnedAway}
 use Rattle.promises.specs.Program.{inFront, linesOf, stepOfLine, Answered, answering, program, answersTo}
 use Rattle.promises.specs.Turns.{Turn, Pause, afterTurns, cameIn, afterEnd, opened, atStart, outcome, inOne}
 use Rattle.promises.proofs.AnyBlocks.{all-as-in-one}
@@ -61,7 +61,7 @@ unfolding ended
 ended-holds h = record { size = h .size; len = refl; bytes = λ g. refl }
 
 -- the step of what is kept is that of the line
-line-held : {c : Cut} {p : List ℕ} → Holds c p → (k : Kernel) (s : List ℕ) → lineStep k s c ≡ stepOfLine k s p
+line-held : {c : Cut} {p : List ℕ} → Holds c p → (k : State) (s : List ℕ) → lineStep k s c ≡ stepOfLine k s p
 unfolding lineStep readCut noCall stepOfLine
 line-held {c} {p} h k s = go (ltb 256 (length p)) refl
   where
@@ -154,7 +154,7 @@ unfolding index
 one-ended b e = rw e
 
 -- a line's answer, and then those of the lines after it
-line-before : (k : Kernel) (s a l : List ℕ) (ls : List (List ℕ)) → let d = stepOfLine k s l in before (a ++ told d) (answering (d .kernel) (d .store) ls) ≡ before a (answering k s (l ∷ ls))
+line-before : (k : State) (s a l : List ℕ) (ls : List (List ℕ)) → let d = stepOfLine k s l in before (a ++ told d) (answering (d .kernel) (d .store) ls) ≡ before a (answering k s (l ∷ ls))
 unfolding answering
 line-before k s a l ls =
     let d = stepOfLine k s l in
@@ -191,7 +191,7 @@ lines-fed n m (b ∷ input) r p h c = go (eqb b 10) refl (lines-fed n m input)
         ∙ ap (λ (l : List ℕ). before (r .answers) (answering (r .kernel) (r .store) (linesOf l))) (append-snoc p b input)
 
 -- the end changes neither kernel nor store
-pub closed-stays : (n : ℕ) (k : Kernel) (s : List ℕ) (c : Cut) → (closed n k s c .kernel ≡ k) × (closed n k s c .store ≡ s)
+pub closed-stays : (n : ℕ) (k : State) (s : List ℕ) (c : Cut) → (closed n k s c .kernel ≡ k) × (closed n k s c .store ≡ s)
 unfolding closed
 closed-stays n k s c = go (isEmpty c) (ltb n 256)
   where
@@ -209,12 +209,12 @@ unfolding noByte
 none-held = record { size = refl; len = refl; bytes = λ g. refl }
 
 -- fed byte by byte, and then ended
-pub ended-after : (k : Kernel) (s input : List ℕ) (n : ℕ) → 256 ≤ n → outcome (afterEnd (inOne (opened k s noByte) input []) n) ≡ answering k s (linesOf input)
+pub ended-after : (k : State) (s input : List ℕ) (n : ℕ) → 256 ≤ n → outcome (afterEnd (inOne (opened k s noByte) input []) n) ≡ answering k s (linesOf input)
 unfolding afterEnd index
 ended-after k s input n h = lines-fed n h input (begun k s noByte) [] none-held refl
 
 -- before the end, too, kernel and store are those of the lines
-pub fed-so-far : (k : Kernel) (s input : List ℕ)
+pub fed-so-far : (k : State) (s input : List ℕ)
     → (foldl fed (begun k s noByte) input .kernel ≡ answering k s (linesOf input) .kernel) × (foldl fed (begun k s noByte) input .store ≡ answering k s (linesOf input) .store)
 unfolding index
 fed-so-far k s input =
@@ -226,21 +226,20 @@ fed-so-far k s input =
 -- ---- the session
 
 -- from any kernel and store, with the bytes p of a line: whatever the blocks and the bytes lent, kernel, store and answers are those of the lines
-pub line-for-line : (k : Kernel) (s : List ℕ) (c : Cut) (p : List ℕ) → Holds c p → Clear p → (ts : List Turn) → afterTurns (opened k s c) ts .waits ≡ [] → (n : ℕ) → 256 ≤ n
+pub line-for-line : (k : State) (s : List ℕ) (c : Cut) (p : List ℕ) → Holds c p → Clear p → (ts : List Turn) → afterTurns (opened k s c) ts .waits ≡ [] → (n : ℕ) → 256 ≤ n
     → outcome (afterEnd (afterTurns (opened k s c) ts) n) ≡ answering k s (linesOf (p ++ cameIn ts))
 unfolding afterEnd
 line-for-line k s c p h g ts e n m =
     ap (λ (z : Pause). outcome (afterEnd z n)) (all-as-in-one (opened k s c) ts e) ∙ lines-fed n m (cameIn ts) (begun k s c) p h g
 
 -- with no byte of a line: kernel, store and answers are those of the lines that came
-pub session-answers-lines : (k : Kernel) (s : List ℕ) (ts : List Turn) → afterTurns (opened k s noByte) ts .waits ≡ [] → (n : ℕ) → 256 ≤ n
+pub session-answers-lines : (k : State) (s : List ℕ) (ts : List Turn) → afterTurns (opened k s noByte) ts .waits ≡ [] → (n : ℕ) → 256 ≤ n
     → outcome (afterEnd (afterTurns (opened k s noByte) ts) n) ≡ answering k s (linesOf (cameIn ts))
 unfolding index
 session-answers-lines k s = line-for-line k s noByte [] none-held refl
 
 -- "The program starts from the fresh kernel and a store of zeros": a session begun so writes all that the program is to write, and no more
 pub session-is-the-program : (ts : List Turn) → afterTurns atStart ts .waits ≡ [] → (n : ℕ) → 256 ≤ n → outcome (afterEnd (afterTurns atStart ts) n) ≡ program (cameIn ts)
-unfolding newSession
 session-is-the-program = session-answers-lines fresh (replicate 9216 0)
 
 -- nothing for empty input

@@ -23,13 +23,13 @@ use Rattle.journal.proofs.Fit.{item-long}
 use Rattle.journal.proofs.Newlines.{isNewline, Clear, line-ended}
 use Rattle.journal.proofs.Promised.{line-read, reads-as}
 use Rattle.journal.proofs.Theorems.{one-reading, told-item, line-within}
-use Rattle.kernel.specs.declared.Kernel.{Kernel}
-use Rattle.kernel.specs.Step.{turnedAway, step}
-use Rattle.kernel.specs.Session.{noLine, stepTold, stepRead}
+use Rattle.rules.specs.State.{State}
+use Rattle.rules.specs.Step.{turnedAway, step}
+use Rattle.rules.specs.Session.{noLine, stepTold, stepRead}
 use Rattle.promises.specs.Program.{stepOfLine}
 
 -- the line of a call with an item
-pub call-line : (k : Kernel) (s : List ℕ) (c : Call) (b : List ℕ) → HasLine c b → stepOfLine k s (lineOf c b) ≡ step k c b s
+pub call-line : (k : State) (s : List ℕ) (c : Call) (b : List ℕ) → HasLine c b → stepOfLine k s (lineOf c b) ≡ step k c b s
 unfolding stepOfLine
 call-line k s c b h =
     let r = says c (filled b) (length b) in
@@ -37,11 +37,11 @@ call-line k s c b h =
     rw (le-ltb 256 (length (lineOf c b)) (line-within c b h))
     (ap (stepRead k s) (line-read c b h) ∙ ap (λ (x : List ℕ). step k c x s) item)
 
-refused-read : (k : Kernel) (s : List ℕ) (r : Read) → reads (r .answer) ≡ refusal 3 → stepRead k s r ≡ turnedAway k (noLine k s) s
+refused-read : (k : State) (s : List ℕ) (r : Read) → reads (r .answer) ≡ refusal 3 → stepRead k s r ≡ turnedAway k (noLine k s) s
 refused-read k s r e = ap (λ (x : Reading). stepTold k s x (take (r .len) (r .item))) (one-reading (r .answer) (Refused 3) e)
 
 -- "3: the line is no call's line", after 1 and 2
-pub no-call-line : (k : Kernel) (s l : List ℕ) → ((c : Call) (b : List ℕ) → HasLine c b → l ≡ lineOf c b → ⊥) → stepOfLine k s l ≡ turnedAway k (noLine k s) s
+pub no-call-line : (k : State) (s l : List ℕ) → ((c : Call) (b : List ℕ) → HasLine c b → l ≡ lineOf c b → ⊥) → stepOfLine k s l ≡ turnedAway k (noLine k s) s
 unfolding stepOfLine
 no-call-line k s l none = go (ltb 256 (length l)) refl
   where
@@ -53,5 +53,5 @@ no-call-line k s l none = go (ltb 256 (length l)) refl
         (λ (f : NoLine l (readOf l)). refused-read k s (readOf l) (f .tells .answer)) (reads-as l))
 
 -- "and so is a last line without a newline"
-pub cut-line : (k : Kernel) (s l : List ℕ) → Clear l → stepOfLine k s l ≡ turnedAway k (noLine k s) s
+pub cut-line : (k : State) (s l : List ℕ) → Clear l → stepOfLine k s l ≡ turnedAway k (noLine k s) s
 cut-line k s l h = no-call-line k s l (λ c b f e. absurd (omega (arith, ap (index isNewline) e, ap length e, line-ended c b)))

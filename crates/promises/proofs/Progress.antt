@@ -9,11 +9,12 @@ use lib.ListN.{length, length-append, length-drop}
 use borrow.Author.Tests.{le-ltb, ltb-true, ltb-false}
 use Rattle.lists.specs.Choice.{if_then_else_}
 use Rattle.lists.specs.Lists.{foldl}
+use Rattle.calls.specs.Door.{taskNo}
 use Rattle.journal.proofs.Stores.{reply-within}
-use Rattle.kernel.specs.declared.Kernel.{Kernel}
+use Rattle.rules.specs.State.{State}
 use Rattle.cuts.specs.declared.Cut.{Cut}
 use Rattle.cuts.specs.Keeping.{kept}
-use Rattle.kernel.specs.Session.{Run, begun, lineStep, told, fed, noRoom, run}
+use Rattle.rules.specs.Session.{Run, begun, lineStep, told, fed, noRoom, run}
 use Rattle.promises.specs.Turns.{Turn, Pause, begins, handedIn, afterTurn, afterTurns, Asking}
 use Rattle.promises.proofs.AnyBlocks.{front, fed-taken}
 
@@ -27,7 +28,7 @@ fed-answers r b = go (eqb b 10) refl
     go : (t : Bool) → eqb b 10 ≡ t → length (fed r b .answers) ≤ length (r .answers) + (if t then 256 else 0)
     go true e =
         let d = lineStep (r .kernel) (r .store) (kept (r .cut) b) in
-        rw e (omega (arith, length-append (r .answers) (told d), reply-within (d .answer) (d .kernel .running)))
+        rw e (omega (arith, length-append (r .answers) (told d), reply-within (d .answer) (taskNo (d .kernel .running))))
     go false e = rw e (omega arith)
 
 -- the answers fit into the bytes lent
@@ -55,7 +56,7 @@ room n r b h = rw (le-ltb n (length (r .answers) + 256) h) (go (eqb b 10))
 
 -- ---- at least one byte
 
-pub one-taken : (n : ℕ) (k : Kernel) (s : List ℕ) (c : Cut) (b : ℕ) (l : List ℕ) → 256 ≤ n → 0 < run n (begun k s c) (b ∷ l) .taken
+pub one-taken : (n : ℕ) (k : State) (s : List ℕ) (c : Cut) (b : ℕ) (l : List ℕ) → 256 ≤ n → 0 < run n (begun k s c) (b ∷ l) .taken
 unfolding run
 one-taken n k s c b l h =
     let r = begun k s c in

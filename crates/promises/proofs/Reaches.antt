@@ -9,10 +9,10 @@ use Rattle.lists.specs.Choice.{if_then_else_}
 use Rattle.journal.specs.declared.Reading.{Reading}
 use Rattle.journal.specs.declared.Reading.the-variants.{Says, Refused}
 use Rattle.journal.specs.Steps.{readOf}
-use Rattle.kernel.specs.declared.Kernel.{Kernel}
-use Rattle.kernel.specs.Tables.{fresh}
-use Rattle.kernel.specs.Step.{turnedAway}
-use Rattle.kernel.specs.Session.{noLine, stepTold, stepRead, newSession}
+use Rattle.rules.specs.State.{State}
+use Rattle.rules.specs.Tables.{fresh}
+use Rattle.rules.specs.Step.{turnedAway}
+use Rattle.rules.specs.Session.{noLine, stepTold, stepRead}
 use Rattle.promises.specs.History.{Made, after, reached, Placed}
 use Rattle.promises.specs.Program.{linesOf, stepOfLine, answering}
 use Rattle.promises.specs.Turns.{Turn, Pause, afterTurns, atStart}
@@ -21,13 +21,13 @@ use Rattle.promises.proofs.Histories.{after-any-calls}
 use Rattle.promises.proofs.AnyBlocks.{turns-through}
 use Rattle.promises.proofs.LineForLine.{fed-so-far}
 
-after-more : (k : Kernel) (ms ns : List Made) → after k (ms ++ ns) ≡ after (after k ms) ns
+after-more : (k : State) (ms ns : List Made) → after k (ms ++ ns) ≡ after (after k ms) ns
 unfolding after
 after-more k [] ns = refl
 after-more k (m ∷ ms) ns = after-more _ ms ns
 
 -- a line: its call, or none
-line-reaches : (k : Kernel) (s l : List ℕ) → stepOfLine k s l .kernel ≡ after k (callOfLine s l)
+line-reaches : (k : State) (s l : List ℕ) → stepOfLine k s l .kernel ≡ after k (callOfLine s l)
 unfolding stepOfLine callOfLine after
 line-reaches k s l = go (ltb 256 (length l))
   where
@@ -39,13 +39,13 @@ line-reaches k s l = go (ltb 256 (length l))
     go true = refl
     go false = read (readOf l .answer) (take (readOf l .len) (readOf l .item))
 
-lines-reach : (k : Kernel) (s : List ℕ) (ls : List (List ℕ)) → answering k s ls .kernel ≡ after k (callsOf k s ls)
+lines-reach : (k : State) (s : List ℕ) (ls : List (List ℕ)) → answering k s ls .kernel ≡ after k (callsOf k s ls)
 unfolding answering callsOf after
 lines-reach k s [] = refl
 lines-reach k s (l ∷ ls) =
     let d = stepOfLine k s l in
     lines-reach (d .kernel) (d .store) ls
-    ∙ ap (λ (j : Kernel). after j (callsOf (d .kernel) (d .store) ls)) (line-reaches k s l)
+    ∙ ap (λ (j : State). after j (callsOf (d .kernel) (d .store) ls)) (line-reaches k s l)
     ∙ sym (after-more k (callOfLine s l) (callsOf (d .kernel) (d .store) ls))
 
 -- after every line: whatever the lines so far, the program's kernel is reached by their calls
@@ -54,7 +54,6 @@ program-reached ls = lines-reach fresh (replicate 9216 0) ls
 
 -- however the input is cut: at any time the session's kernel and store are the program's on what was taken
 pub session-so-far : (ts : List Turn) → SoFar ts
-unfolding newSession
 session-so-far ts =
     let h = turns-through atStart ts in
     let f = fed-so-far fresh (replicate 9216 0) (h .taken) in
@@ -67,9 +66,9 @@ session-so-far ts =
 
 -- so "each task in exactly one state and listed only where that state belongs; unless held, no ready task outranks the running one"
 pub program-placed : (ls : List (List ℕ)) → Placed (answering fresh (replicate 9216 0) ls .kernel)
-program-placed ls = subst (λ (k : Kernel). Placed k) (sym (program-reached ls)) (after-any-calls (programCalls ls))
+program-placed ls = subst (λ (k : State). Placed k) (sym (program-reached ls)) (after-any-calls (programCalls ls))
 
 pub session-placed : (ts : List Turn) → Placed (afterTurns atStart ts .kernel)
 session-placed ts =
     let h = session-so-far ts in
-    subst (λ (k : Kernel). Placed k) (sym (h .kernel)) (program-placed (linesOf (h .taken)))
+    subst (λ (k : State). Placed k) (sym (h .kernel)) (program-placed (linesOf (h .taken)))

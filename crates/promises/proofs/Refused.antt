@@ -10,26 +10,26 @@ use borrow.Author.Tests.{eqb-false, ltb-true}
 use Rattle.lists.specs.Choice.{if_then_else_}
 use Rattle.lists.specs.Lists.{every, index}
 use Rattle.lists.proofs.Bools.{and-left, and-right, on}
-use Rattle.calls.specs.declared.TaskNo.{TaskNo}
-use Rattle.calls.specs.declared.Call.the-variants.{Create, Resume}
+use Rattle.numbers.specs.declared.TaskSlot.{TaskSlot}
 use Rattle.calls.specs.declared.Asked.{Asked}
-use Rattle.calls.specs.Asked.{asked}
+use Rattle.calls.specs.Asked.{nothing, onTask}
 use Rattle.order.specs.declared.Order.{Order}
 use Rattle.slots.specs.declared.Task.{Task}
 use Rattle.slots.specs.Places.{isFree, isSuspended}
-use Rattle.kernel.specs.declared.Kernel.{Kernel}
-use Rattle.kernel.specs.Tables.{taskAt, freeSlot, withOrder}
-use Rattle.kernel.specs.Sound.{sound}
-use Rattle.kernel.specs.Refusals.{noSlot, heldOrWaited, inUse, notSuspended, Row, row, firstRow, table, laterRow, refusal}
+use Rattle.rules.specs.State.{State}
+use Rattle.slots.specs.Tasks.{taskAt}
+use Rattle.rules.specs.Tables.{freeSlot, withOrder}
+use Rattle.rules.specs.Sound.{sound}
+use Rattle.rules.specs.Refusals.{noSlot, heldOrWaited, inUse, notSuspended, Row, row, firstRow, table, laterRow, refusal}
 use Rattle.promises.specs.Alike.{Alike}
 use Rattle.promises.proofs.Twins.{one-kernel}
 use Rattle.promises.proofs.Likewise.{slot-low}
 
-rows-same : (k : Kernel) (o : Order) → Alike k (withOrder k o) → (a : Asked) (item store : ℕ) → laterRow k a item store ≡ laterRow (withOrder k o) a item store
+rows-same : (k : State) (o : Order) → Alike k (withOrder k o) → (a : Asked) (item store : ℕ) → laterRow k a item store ≡ laterRow (withOrder k o) a item store
 unfolding laterRow table noSlot heldOrWaited inUse
 rows-same k o e a item store = rw (e .lists (a .object))
 
-pub alike-refusal : (k j : Kernel) (a : Asked) (item store : ℕ) → sound k ≡ sound j → Alike k j → refusal k a item store ≡ refusal j a item store
+pub alike-refusal : (k j : State) (a : Asked) (item store : ℕ) → sound k ≡ sound j → Alike k j → refusal k a item store ≡ refusal j a item store
 unfolding refusal
 alike-refusal k j a item store e b =
     let p = one-kernel b in
@@ -58,14 +58,14 @@ index-within p (x ∷ xs) = go (p x) (index-within p xs)
     go true h = omega arith
     go false h = omega arith
 
-pub create-low : (k : Kernel) (p item store : ℕ) → length (k .tasks) ≤ 16 → laterRow k (asked (Create p)) item store ≡ 0 → freeSlot (k .tasks) < 16
-unfolding laterRow table noSlot asked freeSlot every
-create-low k p item store h e = go (eqb (freeSlot (k .tasks)) 16) refl (clear (table k (asked (Create p)) item store) refl e 6)
+pub create-low : (k : State) (p item store : ℕ) → length (k .tasks) ≤ 16 → laterRow k (nothing 1 p 0 1 0) item store ≡ 0 → freeSlot (k .tasks) < 16
+unfolding laterRow table noSlot freeSlot every
+create-low k p item store h e = go (eqb (freeSlot (k .tasks)) 16) refl (clear (table k (nothing 1 p 0 1 0) item store) refl e 6)
   where
     go : (b : Bool) → eqb (freeSlot (k .tasks)) 16 ≡ b → b ≡ false → freeSlot (k .tasks) < 16
     go true f g = absurd (false≢true (sym g))
     go false f g = omega (arith, eqb-false (freeSlot (k .tasks)) 16 f, index-within (λ (x : Task). isFree (x .place)) (k .tasks))
 
-pub resume-low : (k : Kernel) (t : TaskNo) (item store : ℕ) → length (k .tasks) ≤ 16 → laterRow k (asked (Resume t)) item store ≡ 0 → t .0 < 16
-unfolding laterRow table notSuspended asked every
-resume-low k t item store h e = slot-low isSuspended refl (k .tasks) t h (on (isSuspended (taskAt (k .tasks) t .place)) (clear (table k (asked (Resume t)) item store) refl e 10))
+pub resume-low : (k : State) (t : TaskSlot) (item store : ℕ) → length (k .tasks) ≤ 16 → laterRow k (onTask 4 t 0) item store ≡ 0 → t .0 < 16
+unfolding laterRow table notSuspended every
+resume-low k t item store h e = slot-low isSuspended refl (k .tasks) t h (on (isSuspended (taskAt (k .tasks) t .place)) (clear (table k (onTask 4 t 0) item store) refl e 10))

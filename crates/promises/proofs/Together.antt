@@ -6,23 +6,24 @@ use native.Mathlib.Omega.{arith}
 use lib.ListN.{length}
 use Rattle.lists.specs.Choice.{if_then_else_}
 use Rattle.lists.proofs.Bools.{same-test}
-use Rattle.calls.specs.Numbers.{task}
+use Rattle.numbers.specs.Numbers.{task}
 use Rattle.order.specs.declared.Order.{Order}
 use Rattle.order.specs.Order.{listed}
 use Rattle.order.specs.Tidy.{count}
 use Rattle.slots.specs.Places.{isListed}
-use Rattle.kernel.specs.declared.Kernel.{Kernel}
-use Rattle.kernel.specs.Tables.{taskAt, withOrder}
-use Rattle.kernel.specs.Sound.{sound}
-use Rattle.kernel.specs.Sentences.{Sound}
-use Rattle.kernel.proofs.Slots.{past-tasks}
-use Rattle.kernel.proofs.Says.{sound-says, says-sound}
-use Rattle.kernel.proofs.Passes.{sound-steady}
+use Rattle.rules.specs.State.{State}
+use Rattle.slots.specs.Tasks.{taskAt}
+use Rattle.rules.specs.Tables.{withOrder}
+use Rattle.rules.specs.Sound.{sound}
+use Rattle.rules.specs.Sentences.{Sound}
+use Rattle.rules.proofs.Slots.{past-tasks}
+use Rattle.rules.proofs.Says.{sound-says, says-sound}
+use Rattle.rules.proofs.Passes.{sound-steady}
 use Rattle.promises.specs.Alike.{Alike, Ordered}
 use Rattle.promises.proofs.Fits.{Fits}
 use Rattle.promises.proofs.Twins.{Twins, one-kernel}
 
-sound-other : (k : Kernel) (o : Order) → Alike k (withOrder k o) → Ordered (withOrder k o) → Sound k → Sound (withOrder k o)
+sound-other : (k : State) (o : Order) → Alike k (withOrder k o) → Ordered (withOrder k o) → Sound k → Sound (withOrder k o)
 sound-other k o a d s =
     record {
       task-slots = s .task-slots;
@@ -58,7 +59,7 @@ sound-other k o a d s =
       free = s .free;
     }
 
-alike-back : {k j : Kernel} → Alike k j → Alike j k
+alike-back : {k j : State} → Alike k j → Alike j k
 alike-back a =
     record {
       tasks = sym (a .tasks);
@@ -71,18 +72,18 @@ alike-back a =
       lists = λ o. sym (a .lists o);
     }
 
-sound-too : (k j : Kernel) → Alike k j → Ordered j → sound k ≡ true → sound j ≡ true
+sound-too : (k j : State) → Alike k j → Ordered j → sound k ≡ true → sound j ≡ true
 sound-too k j a d e =
     let p = one-kernel a in
     subst (λ z. sound z ≡ true) p
     (says-sound (withOrder k (j .order)) (sound-other k (j .order) (subst (λ z. Alike k z) (sym p) a) (subst (λ z. Ordered z) (sym p) d) (sound-says k e)))
 
 -- The lines and lists do not show the delayed: that the orders list them is asked for here.
-pub alike-sound : (k j : Kernel) → Alike k j → Ordered k → Ordered j → sound k ≡ sound j
+pub alike-sound : (k j : State) → Alike k j → Ordered k → Ordered j → sound k ≡ sound j
 alike-sound k j a c d = same-test (sound k) (sound j) (sound-too k j a d) (sound-too j k (alike-back a) c)
 
 -- sound kernels have room
-sound-fits : (k : Kernel) → sound k ≡ true → Fits (listed (k .order))
+sound-fits : (k : State) → sound k ≡ true → Fits (listed (k .order))
 sound-fits k e = record { once = λ n. few n (isListed (taskAt (k .tasks) (task n) .place)) (s .listing .once (task n)); low = low }
   where
     s : Sound k
@@ -97,6 +98,6 @@ sound-fits k e = record { once = λ n. few n (isListed (taskAt (k .tasks) (task 
         let past : length (k .tasks) ≤ n = omega (arith, s .task-slots) in
         rw (past-tasks (k .tasks) (task n) past) at (s .listing .once (task n))
 
-pub twins : (k j : Kernel) → sound k ≡ true → sound j ≡ true → Alike k j → Twins k j
+pub twins : (k j : State) → sound k ≡ true → sound j ≡ true → Alike k j → Twins k j
 twins k j e f a =
     record { alike = a; slots = omega (arith, sound-says k e .task-slots); runs = sound-steady k e .runs; here = sound-fits k e; there = sound-fits j f }

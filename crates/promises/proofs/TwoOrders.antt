@@ -6,13 +6,15 @@ use native.Mathlib.Omega.{arith}
 use lib.ListN.{getD}
 use borrow.Author.Tests.{ne-eqb}
 use Rattle.lists.specs.Lists.{every, allBelow, any, kept}
-use Rattle.calls.specs.Numbers.{idle}
+use Rattle.numbers.specs.Numbers.{idle}
 use Rattle.order.specs.declared.Order.{Order}
 use Rattle.order.specs.Order.{listed, ordered}
 use Rattle.order.specs.Tidy.{count, tidy}
-use Rattle.kernel.specs.Tables.{taskAt, kindAt, holds}
-use Rattle.kernel.specs.Lines.{line, those}
-use Rattle.kernel.specs.Sound.{noHigher, runsFine, sound}
+use Rattle.slots.specs.Tasks.{taskAt}
+use Rattle.slots.specs.Objects.{kindAt}
+use Rattle.rules.specs.Tables.{holds}
+use Rattle.rules.specs.Lines.{line, those}
+use Rattle.rules.specs.Sound.{noHigher, runsFine, sound}
 use Rattle.promises.specs.Alike.{Alike, idleFirst, idleLast}
 
 pub two-sound : (sound idleFirst ≡ true) × (sound idleLast ≡ true)

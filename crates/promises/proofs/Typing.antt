@@ -6,14 +6,16 @@ use Rattle.lists.specs.Lists.{every, allBelow, foldl, upTo, index, any, kept}
 use Rattle.calls.specs.Asked.{asked}
 use Rattle.order.specs.Order.{ordered, without}
 use Rattle.order.specs.Tidy.{count, tidy}
-use Rattle.kernel.specs.Effects.{created, mutexMade, taken, handedOn, given, effect}
-use Rattle.kernel.specs.Lines.{line, those, highest, leader, first, chosen, toTail, toHead, leaves}
-use Rattle.kernel.specs.Loans.{moved, movedIf, prioritized, lent, ownAgain}
-use Rattle.kernel.specs.Refusals.{outOfRange, namesNone, wrongSize, notForIdle, notWithHold, noSlot, inUse, notHis, hisAlready, notSuspended, mustWait, noDepth, noTick, table, laterRow, refusal}
-use Rattle.kernel.specs.Sound.{noHigher, runsFine, sound}
-use Rattle.kernel.specs.Step.{stored, answered, accepted, step}
-use Rattle.kernel.specs.Tables.{fresh, taskAt, kindAt, holds, freeSlot, freeObject}
-use Rattle.kernel.specs.Waits.{readied, blocked, waitFor}
+use Rattle.rules.specs.Effects.{created, mutexMade, taken, handedOn, given, effect}
+use Rattle.rules.specs.Lines.{line, those, highest, leader, first, chosen, toTail, toHead, leaves}
+use Rattle.rules.specs.Loans.{moved, movedIf, prioritized, lent, ownAgain}
+use Rattle.rules.specs.Refusals.{outOfRange, namesNone, wrongSize, notForIdle, notWithHold, noSlot, inUse, notHis, hisAlready, notSuspended, mustWait, noDepth, noTick, table, laterRow, refusal}
+use Rattle.rules.specs.Sound.{noHigher, runsFine, sound}
+use Rattle.rules.specs.Step.{stored, answered, accepted, step}
+use Rattle.slots.specs.Tasks.{taskAt}
+use Rattle.slots.specs.Objects.{kindAt}
+use Rattle.rules.specs.Tables.{fresh, holds, freeSlot, freeObject}
+use Rattle.rules.specs.Waits.{readied, blocked, waitFor}
 use Rattle.fields.specs.Decimal.{digits, dec}
 use Rattle.fields.specs.Number.{digitOf, grow}
 use Rattle.journal.specs.Frames.{callOf, shapeOf}

@@ -7,10 +7,11 @@ use native.Mathlib.Omega.{arith}
 use lib.Dec.{eqb}
 use lib.ListN.{length, replicate, length-append}
 use Rattle.lists.specs.Lists.{foldl}
+use Rattle.calls.specs.Door.{taskNo}
 use Rattle.journal.proofs.Stores.{reply-within}
 use Rattle.cuts.specs.Keeping.{kept}
-use Rattle.kernel.specs.Tables.{fresh}
-use Rattle.kernel.specs.Session.{Run, lineStep, told, fed, run, newSession}
+use Rattle.rules.specs.Tables.{fresh}
+use Rattle.rules.specs.Session.{Run, lineStep, told, fed, run}
 use Rattle.promises.specs.Program.{program}
 use Rattle.promises.specs.Turns.{begins, afterEnd, atStart, outcome, inOne}
 use Rattle.promises.proofs.AnyBlocks.{fed-taken}
@@ -27,7 +28,7 @@ grows r b = go (eqb b 10) refl
     go : (t : Bool) → eqb b 10 ≡ t → length (fed r b .answers) ≤ length (r .answers) + 64
     go true e =
         let d = lineStep (r .kernel) (r .store) (kept (r .cut) b) in
-        rw e (omega (arith, length-append (r .answers) (told d), reply-within (d .answer) (d .kernel .running)))
+        rw e (omega (arith, length-append (r .answers) (told d), reply-within (d .answer) (taskNo (d .kernel .running))))
     go false e = rw e (omega arith)
 
 -- with 64 bytes lent for each byte of a block, and 256 more, it is taken whole
@@ -45,14 +46,11 @@ all-counted r (b ∷ l) = omega (arith, all-counted (fed r b) l, fed-taken r b)
 
 -- fed byte by byte, and then ended: kernel, store and answers are those of the input's lines
 pub fed-then-ended : (input : List ℕ) (n : ℕ) → 256 ≤ n → outcome (afterEnd (inOne atStart input []) n) ≡ program input
-unfolding newSession
 fed-then-ended input n h = ended-after fresh (replicate 9216 0) input n h
 
 -- before the end already, kernel and store are the program's
 pub fed-kernel : (input : List ℕ) → foldl fed (begins atStart) input .kernel ≡ program input .kernel
-unfolding newSession
 fed-kernel input = fed-so-far fresh (replicate 9216 0) input .0
 
 pub fed-store : (input : List ℕ) → foldl fed (begins atStart) input .store ≡ program input .store
-unfolding newSession
 fed-store input = fed-so-far fresh (replicate 9216 0) input .1

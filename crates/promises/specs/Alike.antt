@@ -3,19 +3,19 @@ use Prim.Native.Nat.{ℕ}
 use mathlib.Core.Path.{_≡_}
 use mathlib.Core.List.{List, [], _∷_}
 use lib.ListN.{length, replicate}
-use Rattle.calls.specs.declared.TaskNo.{TaskNo}
-use Rattle.calls.specs.declared.ObjNo.{ObjNo}
-use Rattle.calls.specs.Numbers.{task, idle}
+use Rattle.numbers.specs.declared.TaskSlot.{TaskSlot}
+use Rattle.numbers.specs.declared.ObjSlot.{ObjSlot}
+use Rattle.numbers.specs.Numbers.{task, idle}
 use Rattle.order.specs.Order.{listed, ordered}
 use Rattle.slots.specs.declared.Who.the-variants.{WaitersOf}
 use Rattle.slots.specs.Tasks.{freeTask, readyAt}
 use Rattle.slots.specs.Objects.{unused}
-use Rattle.kernel.specs.declared.Kernel.{Kernel}
-use Rattle.kernel.specs.Lines.{line, those}
-use Rattle.kernel.specs.Sentences.{Listing}
-use Rattle.kernel.specs.Step.{Stepped}
+use Rattle.rules.specs.State.{State}
+use Rattle.rules.specs.Lines.{line, those}
+use Rattle.rules.specs.Sentences.{Listing}
+use Rattle.rules.specs.Step.{Stepped}
 
-pub record Alike (k j : Kernel) : Type 0 where
+pub record Alike (k j : State) : Type 0 where
   -- the same tasks: places, priorities, outcomes
   pub tasks : k .tasks ≡ j .tasks
   -- the same objects: kinds, rings, holders
@@ -31,7 +31,7 @@ pub record Alike (k j : Kernel) : Type 0 where
   -- the same line for each priority
   pub lines : (p : ℕ) → line (k .tasks) p (listed (k .order)) ≡ line (j .tasks) p (listed (j .order))
   -- the same waiters of each object, in the same order of arrival
-  pub lists : (o : ObjNo) → those (k .tasks) (WaitersOf o) (listed (k .order)) ≡ those (j .tasks) (WaitersOf o) (listed (j .order))
+  pub lists : (o : ObjSlot) → those (k .tasks) (WaitersOf o) (listed (k .order)) ≡ those (j .tasks) (WaitersOf o) (listed (j .order))
 
 -- alike steps: the same answer, the same store afterwards, alike kernels
 pub record AlikeSteps (r q : Stepped) : Type 0 where
@@ -40,16 +40,16 @@ pub record AlikeSteps (r q : Stepped) : Type 0 where
   pub kernel : Alike (r .kernel) (q .kernel)
 
 -- an order of 16 places that lists each ready, delayed and waiting task once, and no one else
-pub record Ordered (k : Kernel) : Type 0 where
+pub record Ordered (k : State) : Type 0 where
   pub places : length (k .order .places) ≡ 16
   pub listing : Listing k
 
 -- idle, and a task of priority 3 that runs, in either order
-abbrev pub twoIn : List TaskNo → Kernel
+abbrev pub twoIn : List TaskSlot → State
 twoIn l = record { tasks = readyAt 0 ∷ readyAt 3 ∷ replicate 14 freeTask; objects = replicate 16 unused; order = ordered l; running = task 1; tick = 0; hold = 0; pended = 0 }
 
-unfoldable pub idleFirst : Kernel
+unfoldable pub idleFirst : State
 idleFirst = twoIn (idle ∷ task 1 ∷ [])
 
-unfoldable pub idleLast : Kernel
+unfoldable pub idleLast : State
 idleLast = twoIn (task 1 ∷ idle ∷ [])

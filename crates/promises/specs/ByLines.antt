@@ -4,23 +4,23 @@ use mathlib.Core.Path.{_≡_}
 use mathlib.Core.List.{List, [], _∷_, _++_}
 use lib.ListN.{replicate}
 use Rattle.journal.specs.Line.{lineOf, HasLine}
-use Rattle.kernel.specs.Tables.{fresh}
-use Rattle.kernel.specs.Step.{Stepped, turnedAway, step}
-use Rattle.kernel.specs.Session.{noLine, told}
-use Rattle.promises.specs.Types.{Call, Kernel}
+use Rattle.rules.specs.Tables.{fresh}
+use Rattle.rules.specs.Step.{Stepped, turnedAway, step}
+use Rattle.rules.specs.Session.{noLine, told}
+use Rattle.promises.specs.Types.{Call, State}
 use Rattle.promises.specs.Program.{linesOf, Answered}
 
 -- the step d of the line l
-pub data LineSteps (k : Kernel) (s l : List ℕ) : Stepped → Type 0 where
+pub data LineSteps (k : State) (s l : List ℕ) : Stepped → Type 0 where
   -- the line of a call with its item is the step of that call
   aCall : (c : Call) (b : List ℕ) → HasLine c b → l ≡ lineOf c b → LineSteps k s l (step k c b s)
   -- "3: the line is no call's line", where neither 1 nor 2 applies; "the kernel and all lent bytes stay"
   noCall : ((c : Call) (b : List ℕ) → HasLine c b → l ≡ lineOf c b → ⊥) → LineSteps k s l (turnedAway k (noLine k s) s)
 
 -- "one answer line for each": the lines one after the other, each from the kernel and the store that the last one left
-pub data LinesAnswered : Kernel → List ℕ → List (List ℕ) → Answered → Type 0 where
-  nothing : {k : Kernel} {s : List ℕ} → LinesAnswered k s [] (record { kernel = k; store = s; answers = [] })
-  line : {k : Kernel} {s l : List ℕ} {ls : List (List ℕ)} {d : Stepped} {r : Answered} → LineSteps k s l d → LinesAnswered (d .kernel) (d .store) ls r
+pub data LinesAnswered : State → List ℕ → List (List ℕ) → Answered → Type 0 where
+  nothing : {k : State} {s : List ℕ} → LinesAnswered k s [] (record { kernel = k; store = s; answers = [] })
+  line : {k : State} {s l : List ℕ} {ls : List (List ℕ)} {d : Stepped} {r : Answered} → LineSteps k s l d → LinesAnswered (d .kernel) (d .store) ls r
       → LinesAnswered k s (l ∷ ls) (record { kernel = r .kernel; store = r .store; answers = told d ++ r .answers })
 
 -- "The program starts from the fresh kernel and a store of zeros."

@@ -2,12 +2,14 @@
 use Prim.Native.Nat.{ℕ}
 use mathlib.Core.List.{List, [], _∷_, _++_}
 use lib.ListN.{replicate}
-use Rattle.calls.specs.Numbers.{task, object}
+use Rattle.numbers.specs.Numbers.{task}
+use Rattle.calls.specs.Numbers.{taskOf, objectOf}
+use Rattle.calls.specs.Door.{taskNo}
 use Rattle.calls.specs.Said.{Word, done, made, waiting, refused, Saying, says}
-use Rattle.promises.specs.Types.{Kernel, Call, Create, Delete, SetPriority, Delay, Hold, MakeQueue, MakeMutex, Send, Take, Give, Tick}
-use Rattle.kernel.specs.Tables.{fresh, withTick}
-use Rattle.kernel.specs.Lines.{level}
-use Rattle.kernel.specs.Step.{Stepped, step}
+use Rattle.promises.specs.Types.{State, Call, Create, Delete, SetPriority, Delay, Hold, MakeQueue, MakeMutex, Send, Take, Give, Tick}
+use Rattle.rules.specs.Tables.{fresh, withTick}
+use Rattle.rules.specs.Lines.{level}
+use Rattle.rules.specs.Step.{Stepped, step}
 
 -- what a call is answered, who runs afterwards, and what a case looks at in the kernel
 pub record Seen : Type 0 where
@@ -18,17 +20,17 @@ pub record Seen : Type 0 where
 abbrev pub seen : Word → ℕ → ℕ → List ℕ → Seen
 seen w n r l = record { answer = says w n; running = r; looked = l }
 
-abbrev pub seenIn : (Kernel → List ℕ) → Stepped → Seen
-seenIn look r = record { answer = r .answer; running = r .kernel .running .0; looked = look (r .kernel) }
+abbrev pub seenIn : (State → List ℕ) → Stepped → Seen
+seenIn look r = record { answer = r .answer; running = taskNo (r .kernel .running) .0; looked = look (r .kernel) }
 
 pub record Case : Type 0 where
-  pub start : Kernel
-  pub look : Kernel → List ℕ
+  pub start : State
+  pub look : State → List ℕ
   pub calls : List Call
   pub expected : List Seen
 
 -- the calls one after the other, each with an empty item
-unfoldable pub run : Kernel → (Kernel → List ℕ) → List ℕ → List Call → List Seen
+unfoldable pub run : State → (State → List ℕ) → List ℕ → List Call → List Seen
 run k look s [] = []
 run k look s (c ∷ cs) = let r = step k c [] s in seenIn look r ∷ run (r .kernel) look (r .store) cs
 
@@ -55,7 +57,7 @@ refuses n r = seen refused n r []
 -- P1: the session of the section "The journal line"
 unfoldable pub p1 : Case
 p1 = plain
-    (Create 3 ∷ MakeMutex ∷ Take (object 0) 0 ∷ Create 5 ∷ Take (object 0) 10 ∷ Create 4 ∷ Give (object 0) ∷ Give (object 0) ∷ Delete (task 0) ∷ [])
+    (Create 3 ∷ MakeMutex ∷ Take (objectOf 0) 0 ∷ Create 5 ∷ Take (objectOf 0) 10 ∷ Create 4 ∷ Give (objectOf 0) ∷ Give (objectOf 0) ∷ Delete (taskOf 0) ∷ [])
     (ok-new 1 1 ∷ ok-new 0 1 ∷ ok 1 ∷ ok-new 2 2 ∷ wait 1 ∷ ok-new 3 1 ∷ ok 2 ∷ ok 2 ∷ refuses 7 2 ∷ [])
 
 -- P2: "priority 31 accepted, 32 refused 4"
@@ -109,7 +111,7 @@ p7 = plain (replicate 15 (Create 1) ++ (Create 40 ∷ [])) (fifteen ++ (refuses 
 -- P8: "delete of a holder: 10, and after its give accepted"
 unfoldable pub p8 : Case
 p8 = plain
-    (Create 3 ∷ MakeMutex ∷ Take (object 0) 0 ∷ Delete (task 1) ∷ Give (object 0) ∷ Delete (task 1) ∷ [])
+    (Create 3 ∷ MakeMutex ∷ Take (objectOf 0) 0 ∷ Delete (taskOf 1) ∷ Give (objectOf 0) ∷ Delete (taskOf 1) ∷ [])
     (ok-new 1 1 ∷ ok-new 0 1 ∷ ok 1 ∷ refuses 10 1 ∷ ok 1 ∷ ok 0 ∷ [])
 
 -- P9: "the 255th nested hold accepted, the next 15"
@@ -121,7 +123,7 @@ unfoldable pub p10 : Case
 p10 = record {
   start = fresh;
   look = λ k. level (k .tasks) (task 1) ∷ [];
-  calls = Create 5 ∷ MakeMutex ∷ Take (object 0) 0 ∷ Create 4 ∷ SetPriority (task 1) 2 ∷ Give (object 0) ∷ [];
+  calls = Create 5 ∷ MakeMutex ∷ Take (objectOf 0) 0 ∷ Create 4 ∷ SetPriority (taskOf 1) 2 ∷ Give (objectOf 0) ∷ [];
   expected =
       seen made 1 1 (5 ∷ [])
       ∷ seen made 0 1 (5 ∷ [])
@@ -134,7 +136,7 @@ p10 = record {
 
 -- P11: "size 0, capacity 1: a second send with wait 0 gets 14"
 unfoldable pub p11 : Case
-p11 = plain (MakeQueue 1 0 ∷ Send (object 0) 0 ∷ Send (object 0) 0 ∷ []) (ok-new 0 0 ∷ ok 0 ∷ refuses 14 0 ∷ [])
+p11 = plain (MakeQueue 1 0 ∷ Send (objectOf 0) 0 ∷ Send (objectOf 0) 0 ∷ []) (ok-new 0 0 ∷ ok 0 ∷ refuses 14 0 ∷ [])
 
 -- P12: "tick with two tasks at the running priority turns the line"
 unfoldable pub p12 : Case

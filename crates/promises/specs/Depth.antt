@@ -6,10 +6,10 @@ use lib.Dec.{eqb}
 use lib.ListN.{length}
 use Rattle.lists.specs.Choice.{if_then_else_}
 use Rattle.calls.specs.Asked.{asked}
-use Rattle.kernel.specs.Asking.{is}
-use Rattle.kernel.specs.Refusals.{refusal}
-use Rattle.kernel.specs.Step.{step}
-use Rattle.promises.specs.Types.{Asked, Kernel}
+use Rattle.rules.specs.Asking.{is}
+use Rattle.rules.specs.Refusals.{refusal}
+use Rattle.rules.specs.Step.{step}
+use Rattle.promises.specs.Types.{Asked, State}
 use Rattle.promises.specs.History.{Made}
 
 -- "hold, release: depth up, down"; no other call changes it
@@ -17,11 +17,11 @@ abbrev pub deeper : Asked → ℕ → ℕ
 deeper a n = if is 8 a then n + 1 else if is 9 a then n - 1 else n
 
 -- the call is accepted in k
-abbrev pub isAccepted : Kernel → Made → Bool
+abbrev pub isAccepted : State → Made → Bool
 isAccepted k m = eqb (refusal k (asked (m .call)) (length (m .item)) (length (m .store))) 0
 
 -- the depth after some calls in k, from the depth n on: a refused call changes nothing
-unfoldable pub depth : Kernel → ℕ → List Made → ℕ
+unfoldable pub depth : State → ℕ → List Made → ℕ
 depth k n [] = n
 depth k n (m ∷ ms) =
     depth (step k (m .call) (m .item) (m .store) .kernel) (if isAccepted k m then deeper (asked (m .call)) n else n) ms

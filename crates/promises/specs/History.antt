@@ -5,22 +5,22 @@ use mathlib.Core.Bool.{Bool, true, false}
 use mathlib.Core.List.{List, [], _∷_}
 use lib.ListN.{replicate}
 use Rattle.lists.specs.Choice.{if_then_else_}
-use Rattle.calls.specs.declared.TaskNo.{TaskNo}
-use Rattle.calls.specs.declared.ObjNo.{ObjNo}
+use Rattle.numbers.specs.declared.TaskSlot.{TaskSlot}
+use Rattle.numbers.specs.declared.ObjSlot.{ObjSlot}
 use Rattle.calls.specs.declared.Call.{Call}
-use Rattle.calls.specs.Numbers.{task, idle}
+use Rattle.numbers.specs.Numbers.{task, idle}
 use Rattle.order.specs.Order.{listed, ordered}
 use Rattle.order.specs.Tidy.{count}
 use Rattle.slots.specs.declared.Place.{Place}
 use Rattle.slots.specs.declared.Place.the-variants.{Free, Ready, Delayed, Waiting, Suspended}
 use Rattle.slots.specs.declared.Who.the-variants.{WaitersOf}
 use Rattle.slots.specs.Places.{isFree, isReady, isSuspended, isListed, waitsOn}
-use Rattle.slots.specs.Tasks.{freeTask, readyAt, brokenOff, inLine}
+use Rattle.slots.specs.Tasks.{freeTask, readyAt, brokenOff, inLine, taskAt}
 use Rattle.slots.specs.Objects.{unused}
-use Rattle.kernel.specs.declared.Kernel.{Kernel}
-use Rattle.kernel.specs.Tables.{fresh, taskAt}
-use Rattle.kernel.specs.Lines.{line, those, level}
-use Rattle.kernel.specs.Step.{step}
+use Rattle.rules.specs.State.{State}
+use Rattle.rules.specs.Tables.{fresh}
+use Rattle.rules.specs.Lines.{line, those, level}
+use Rattle.rules.specs.Step.{step}
 
 -- a call as it is made: with an item and a lent store, of whatever length
 pub record Made : Type 0 where
@@ -29,12 +29,12 @@ pub record Made : Type 0 where
   pub store : List ℕ
 
 -- the kernel after the calls, one after the other
-unfoldable pub after : Kernel → List Made → Kernel
+unfoldable pub after : State → List Made → State
 after k [] = k
 after k (m ∷ ms) = after (step k (m .call) (m .item) (m .store) .kernel) ms
 
 -- "from the fresh kernel"
-abbrev pub reached : List Made → Kernel
+abbrev pub reached : List Made → State
 reached ms = after fresh ms
 
 -- delayed; waiting on an object
@@ -59,20 +59,20 @@ once b = if b then 1 else 0
 abbrev pub states : Place → ℕ
 states p = once (isReady p) + once (isDelayed p) + once (isWaiting p) + once (isSuspended p)
 
-pub record Placed (k : Kernel) : Type 0 where
+pub record Placed (k : State) : Type 0 where
   -- "every existing task is in exactly one of the four states"
-  pub one-state : (t : TaskNo) → isFree (taskAt (k .tasks) t .place) ≡ false → states (taskAt (k .tasks) t .place) ≡ 1
+  pub one-state : (t : TaskSlot) → isFree (taskAt (k .tasks) t .place) ≡ false → states (taskAt (k .tasks) t .place) ≡ 1
   -- "and listed only where that state belongs": in the one order each ready, delayed or waiting task once, and no one else
-  pub order : (t : TaskNo) → count (t .0) (listed (k .order)) ≡ once (isListed (taskAt (k .tasks) t .place))
+  pub order : (t : TaskSlot) → count (t .0) (listed (k .order)) ≡ once (isListed (taskAt (k .tasks) t .place))
   -- in the line of its effective priority, once, if it is ready, and else in none
-  pub lines : (p : ℕ) (t : TaskNo) → count (t .0) (line (k .tasks) p (listed (k .order))) ≡ once (inLine p (taskAt (k .tasks) t))
+  pub lines : (p : ℕ) (t : TaskSlot) → count (t .0) (line (k .tasks) p (listed (k .order))) ≡ once (inLine p (taskAt (k .tasks) t))
   -- in the list of the object that it waits on, once, and in no other
-  pub lists : (o : ObjNo) (t : TaskNo) → count (t .0) (those (k .tasks) (WaitersOf o) (listed (k .order))) ≡ once (waitsOn o (taskAt (k .tasks) t .place))
+  pub lists : (o : ObjSlot) (t : TaskSlot) → count (t .0) (those (k .tasks) (WaitersOf o) (listed (k .order))) ≡ once (waitsOn o (taskAt (k .tasks) t .place))
   -- "and unless the scheduler is held no ready task outranks the running one"
-  pub not-outranked : k .hold ≡ 0 → (t : TaskNo) → taskAt (k .tasks) t .place ≡ Ready → level (k .tasks) t ≤ level (k .tasks) (k .running)
+  pub not-outranked : k .hold ≡ 0 → (t : TaskSlot) → taskAt (k .tasks) t .place ≡ Ready → level (k .tasks) t ≤ level (k .tasks) (k .running)
 
 -- a kernel that is not to be: its order lists a suspended task, and a free slot twice, which no line and no list shows
-unfoldable pub overlisted : Kernel
+unfoldable pub overlisted : State
 overlisted =
     record {
       tasks = readyAt 0 ∷ brokenOff (readyAt 3) ∷ replicate 14 freeTask;

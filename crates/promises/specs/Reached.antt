@@ -8,8 +8,8 @@ use Rattle.lists.specs.Choice.{if_then_else_}
 use Rattle.journal.specs.declared.Reading.{Reading}
 use Rattle.journal.specs.declared.Reading.the-variants.{Says, Refused}
 use Rattle.journal.specs.Steps.{readOf}
-use Rattle.kernel.specs.declared.Kernel.{Kernel}
-use Rattle.kernel.specs.Tables.{fresh}
+use Rattle.rules.specs.State.{State}
+use Rattle.rules.specs.Tables.{fresh}
 use Rattle.promises.specs.History.{Made}
 use Rattle.promises.specs.Program.{stepOfLine, program}
 use Rattle.promises.specs.Turns.{Turn, afterTurns, cameIn, atStart}
@@ -24,7 +24,7 @@ unfoldable pub callOfLine : List ℕ → List ℕ → List Made
 callOfLine s l = if ltb 256 (length l) then [] else saidCall s (readOf l .answer) (take (readOf l .len) (readOf l .item))
 
 -- the calls of some lines, each with the store that the lines before it left
-unfoldable pub callsOf : Kernel → List ℕ → List (List ℕ) → List Made
+unfoldable pub callsOf : State → List ℕ → List (List ℕ) → List Made
 callsOf k s [] = []
 callsOf k s (l ∷ ls) = let d = stepOfLine k s l in callOfLine s l ++ callsOf (d .kernel) (d .store) ls
 

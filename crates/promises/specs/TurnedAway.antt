@@ -6,16 +6,16 @@ use mathlib.Core.Logic.{_⊎_}
 use mathlib.Core.List.{List, [], _∷_}
 use lib.ListN.{length}
 use Rattle.calls.specs.Asked.{asked}
-use Rattle.calls.specs.Said.{says, said, refused}
-use Rattle.kernel.specs.declared.Step.{Step}
-use Rattle.kernel.specs.Sound.{sound}
-use Rattle.kernel.specs.Refusals.{Row, row, table}
-use Rattle.kernel.specs.Step.{stored}
-use Rattle.kernel.specs.Promises.{Accepts}
-use Rattle.promises.specs.Types.{Asked, Call, Kernel}
+use Rattle.calls.specs.Said.{says, refused}
+use Rattle.rules.specs.Lines.{chosen}
+use Rattle.rules.specs.Sound.{sound}
+use Rattle.rules.specs.Refusals.{Row, row, table}
+use Rattle.rules.specs.Effects.{effect}
+use Rattle.rules.specs.Step.{Stepped, answered, stored}
+use Rattle.promises.specs.Types.{Asked, Call, State}
 
 -- the table of refusals, whole: 1 "the kernel value is not sound" stands first. (3 is the line reader's.)
-abbrev pub rows : Kernel → Asked → ℕ → ℕ → List Row
+abbrev pub rows : State → Asked → ℕ → ℕ → List Row
 rows k a item store = row 1 (not (sound k)) ∷ table k a item store
 
 -- "Of the numbers that apply, the one that stands first": row n applies, and none before it
@@ -28,23 +28,24 @@ pub data None : List Row → Type 0 where
   end : None []
   off : {r : Row} {rs : List Row} → r .applies ≡ false → None rs → None (r ∷ rs)
 
--- r and the store `after` are a refusal n: it carries its number, and the kernel and all lent bytes stay
-pub record Refusal (k : Kernel) (s : List ℕ) (n : ℕ) (r : Step) (after : List ℕ) : Type 0 where
-  pub number : said (r .answer) ≡ says refused n
-  pub kernel : r .kernel ≡ k
-  pub store : after ≡ s
+-- the step d is a refusal n: it carries its number, and the kernel and all lent bytes stay
+pub record Refusal (k : State) (s : List ℕ) (n : ℕ) (d : Stepped) : Type 0 where
+  pub number : d .answer ≡ says refused n
+  pub kernel : d .kernel ≡ k
+  pub store : d .store ≡ s
 
--- r and the store `after` are what the call tables say, and no refusal
-pub record Accepted (k : Kernel) (c : Call) (item s : List ℕ) (r : Step) (after : List ℕ) : Type 0 where
-  pub accepts : Accepts k c r
-  pub store : after ≡ stored k (asked c) item s
-  pub no-refusal : (n : ℕ) → said (r .answer) ≡ says refused n → ⊥
+-- the step d is what the call tables say, and no refusal
+pub record Accepted (k : State) (c : Call) (item s : List ℕ) (d : Stepped) : Type 0 where
+  pub kernel : d .kernel ≡ chosen (effect k (asked c))
+  pub answer : d .answer ≡ answered k (asked c) (chosen (effect k (asked c)))
+  pub store : d .store ≡ stored k (asked c) item s
+  pub no-refusal : (n : ℕ) → d .answer ≡ says refused n → ⊥
 
 -- refused n exactly if row n is the first that applies, and then nothing has changed; else accepted
-pub record Exactly (k : Kernel) (c : Call) (item s : List ℕ) (r : Step) (after : List ℕ) : Type 0 where
-  pub given : (n : ℕ) → First n (rows k (asked c) (length item) (length s)) → Refusal k s n r after
-  pub only : (n : ℕ) → said (r .answer) ≡ says refused n → First n (rows k (asked c) (length item) (length s))
-  pub else : None (rows k (asked c) (length item) (length s)) → Accepted k c item s r after
+pub record Exactly (k : State) (c : Call) (item s : List ℕ) (d : Stepped) : Type 0 where
+  pub given : (n : ℕ) → First n (rows k (asked c) (length item) (length s)) → Refusal k s n d
+  pub only : (n : ℕ) → d .answer ≡ says refused n → First n (rows k (asked c) (length item) (length s))
+  pub else : None (rows k (asked c) (length item) (length s)) → Accepted k c item s d
 
 -- one of the two holds: some row is the first that applies, or none applies
 pub record Some (rs : List Row) : Type 0 where

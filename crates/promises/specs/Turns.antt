@@ -4,9 +4,11 @@ use mathlib.Core.Path.{_≡_}
 use mathlib.Core.List.{List, [], _∷_, _++_}
 use lib.ListN.{drop, replicate}
 use Rattle.lists.specs.Lists.{foldl}
-use Rattle.kernel.specs.declared.Kernel.{Kernel}
+use Rattle.rules.specs.State.{State}
 use Rattle.cuts.specs.declared.Cut.{Cut}
-use Rattle.kernel.specs.Session.{Run, begun, fed, run, closed, newSession}
+use Rattle.cuts.specs.Keeping.{noByte}
+use Rattle.rules.specs.Tables.{fresh}
+use Rattle.rules.specs.Session.{Run, begun, fed, run, closed}
 use Rattle.promises.specs.Program.{Answered}
 
 -- what a turn brings: the bytes that have come, and how many bytes are lent for the answers
@@ -16,7 +18,7 @@ pub record Turn : Type 0 where
 
 -- how a session stands between two turns: what came and was not taken yet waits; the answers are all that were written so far
 pub record Pause : Type 0 where
-  pub kernel : Kernel
+  pub kernel : State
   pub store : List ℕ
   pub cut : Cut
   pub waits : List ℕ
@@ -52,12 +54,12 @@ unfoldable pub afterEnd : Pause → ℕ → Pause
 afterEnd p n = paused p (closed n (p .kernel) (p .store) (p .cut)) (p .waits)
 
 -- a session begins: no byte waits, and nothing was answered
-abbrev pub opened : Kernel → List ℕ → Cut → Pause
+abbrev pub opened : State → List ℕ → Cut → Pause
 opened k s c = record { kernel = k; store = s; cut = c; waits = []; answers = [] }
 
 -- "from the fresh kernel and a store of zeros", and no byte of a line
 abbrev pub atStart : Pause
-atStart = opened (newSession .kernel) (replicate 9216 0) (newSession .cut)
+atStart = opened fresh (replicate 9216 0) noByte
 
 -- what has come of a session
 abbrev pub outcome : Pause → Answered

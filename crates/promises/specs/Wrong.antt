@@ -6,47 +6,49 @@ use lib.Dec.{eqb, ltb, leb}
 use lib.ListN.{length, getD, replicate}
 use Rattle.lists.specs.Choice.{if_then_else_}
 use Rattle.lists.specs.Lists.{index, upTo, kept}
-use Rattle.calls.specs.Numbers.{task, object, sameTask}
+use Rattle.numbers.specs.Numbers.{task, object, sameTask}
+use Rattle.calls.specs.Numbers.{taskOf, objectOf}
+use Rattle.calls.specs.Door.{taskNo}
 use Rattle.calls.specs.Asked.{asked}
 use Rattle.calls.specs.Said.{Word, done, made, waiting, refused, says}
 use Rattle.order.specs.Order.{listed}
 use Rattle.items.specs.Bytes.{putAt}
 use Rattle.slots.specs.Places.{isReady, isSuspended, waitsOn, waited, wakesAt, outcomeDue}
-use Rattle.slots.specs.Tasks.{brokenOff}
-use Rattle.slots.specs.Objects.{holderOf}
-use Rattle.promises.specs.Types.{TaskNo, ObjNo, Asked, Call, Create, Delete, Suspend, Delay, Hold, Release, MakeQueue, MakeMutex, Send, Receive, Take, Give, Tick, Wake, Never, At, Place, Free, Ready, Delayed, Waiting, Suspended, Task, Kernel}
+use Rattle.slots.specs.Tasks.{brokenOff, taskAt}
+use Rattle.slots.specs.Objects.{holderOf, kindAt}
+use Rattle.promises.specs.Types.{TaskSlot, ObjSlot, Asked, Call, Create, Delete, Suspend, Delay, Hold, Release, MakeQueue, MakeMutex, Send, Receive, Take, Give, Tick, Wake, Never, At, Place, Free, Ready, Delayed, Waiting, Suspended, Task, State}
 use Rattle.promises.specs.Cases.{Seen, seen}
-use Rattle.kernel.specs.Tables.{fresh, taskAt, kindAt, withTask, withTick, withHold}
-use Rattle.kernel.specs.Lines.{level, leader, chosen, toTail}
-use Rattle.kernel.specs.Waits.{later, readied}
-use Rattle.kernel.specs.Loans.{prioritized}
-use Rattle.kernel.specs.Ticks.{wokenIfDue, oneTick, turned, ticked, released}
-use Rattle.kernel.specs.Items.{slipOf}
-use Rattle.kernel.specs.Asking.{is}
-use Rattle.kernel.specs.Refusals.{isEmpty, laterRow, refusal}
-use Rattle.kernel.specs.Effects.{suspended, handedOn, effect}
-use Rattle.kernel.specs.Step.{Stepped, answered, stored, turnedAway, step}
+use Rattle.rules.specs.Tables.{fresh, withTask, withTick, withHold}
+use Rattle.rules.specs.Lines.{level, leader, chosen, toTail}
+use Rattle.rules.specs.Waits.{later, readied}
+use Rattle.rules.specs.Loans.{prioritized}
+use Rattle.rules.specs.Ticks.{wokenIfDue, oneTick, turned, ticked, released}
+use Rattle.rules.specs.Items.{slipOf}
+use Rattle.rules.specs.Asking.{is}
+use Rattle.rules.specs.Refusals.{isEmpty, laterRow, refusal}
+use Rattle.rules.specs.Effects.{suspended, handedOn, effect}
+use Rattle.rules.specs.Step.{Stepped, answered, stored, turnedAway, step}
 
 abbrev pub Stepping : Type 0
-Stepping = Kernel → Call → List ℕ → List ℕ → Stepped
+Stepping = State → Call → List ℕ → List ℕ → Stepped
 
 -- the step with another refusal, effect, choose and store; with the kernel's own it is the step
-unfoldable pub stepOf : (Kernel → Asked → ℕ → ℕ → ℕ) → (Kernel → Call → Kernel) → (Kernel → Kernel) → (Kernel → Asked → List ℕ → List ℕ → List ℕ) → Stepping
+unfoldable pub stepOf : (State → Asked → ℕ → ℕ → ℕ) → (State → Asked → State) → (State → State) → (State → Asked → List ℕ → List ℕ → List ℕ) → Stepping
 stepOf refuses does choose stores k c item s =
     let n = refuses k (asked c) (length item) (length s) in
-    let next = choose (does k c) in
+    let next = choose (does k (asked c)) in
     if eqb n 0 then record { kernel = next; answer = answered k (asked c) next; store = stores k (asked c) item s } else turnedAway k n s
 
-abbrev pub stepBy : (Kernel → Call → Kernel) → (Kernel → Kernel) → Stepping
+abbrev pub stepBy : (State → Asked → State) → (State → State) → Stepping
 stepBy does choose = stepOf refusal does choose stored
 
 -- the effect with the row of call n changed
-abbrev pub changed : ℕ → (Kernel → Asked → Kernel) → Kernel → Call → Kernel
-changed n does k c = if is n (asked c) then does k (asked c) else effect k c
+abbrev pub changed : ℕ → (State → Asked → State) → State → Asked → State
+changed n does k a = if is n a then does k a else effect k a
 
 -- "One that turns every call away", with whatever number each gets
 abbrev pub Numbers : Type 0
-Numbers = Kernel → Call → List ℕ → List ℕ → ℕ
+Numbers = State → Call → List ℕ → List ℕ → ℕ
 
 unfoldable pub turnsAllAway : Numbers → Stepping
 turnsAllAway number k c item s = turnedAway k (number k c item s) s
@@ -60,30 +62,30 @@ unfoldable pub changesNothing : Stepping
 changesNothing k c item s = record { kernel = k; answer = step k c item s .answer; store = s }
 
 -- a tick whose wakes are other ones
-abbrev pub tickedBy : (Kernel → Kernel) → Kernel → Kernel
+abbrev pub tickedBy : (State → State) → State → State
 tickedBy wake k =
     if ltb 0 (k .hold) then withHold k (k .hold) (k .pended + 1) else turned (wake (withTick k (later (k .tick) 1)))
 
 -- "One that makes the first due task ready and skips the rest"
-abbrev pub firstWoken : Kernel → Kernel
+abbrev pub firstWoken : State → State
 firstWoken k = wokenIfDue k (task (index (λ (x : Task). wakesAt (k .tick) (x .place)) (k .tasks)))
 
-abbrev pub skipsTheRest : Kernel → Call → Kernel
+abbrev pub skipsTheRest : State → Asked → State
 skipsTheRest = changed 17 (λ k a. tickedBy firstWoken k)
 
 -- "or runs one pended tick for all"
-abbrev pub oneForAll : Kernel → Call → Kernel
+abbrev pub oneForAll : State → Asked → State
 oneForAll = changed 9 (λ k a. if eqb (k .hold) 1 && ltb 0 (k .pended) then oneTick (withHold k 0 0) else released k)
 
 -- "One that keeps a made-up pended count": n, whatever n
-abbrev pub madeUp : ℕ → Kernel → Call → Kernel
+abbrev pub madeUp : ℕ → State → Asked → State
 madeUp n = changed 17 (λ k a. if ltb 0 (k .hold) then withHold k (k .hold) n else ticked k)
 
 -- "On give, dropping the giver although it still holds another mutex."
-abbrev pub ownPriority : Kernel → ℕ
+abbrev pub ownPriority : State → ℕ
 ownPriority k = taskAt (k .tasks) (k .running) .own
 
-abbrev pub dropsGiver : Kernel → Call → Kernel
+abbrev pub dropsGiver : State → Asked → State
 dropsGiver = changed 16 (λ k a. prioritized (handedOn k (a .object)) (k .running) (ownPriority k) (ownPriority k))
 
 -- "Treating a wake tick smaller than the count as past."
@@ -98,51 +100,51 @@ past n (Delayed w) = leb w n
 past n (Waiting o w) = wakePast n w
 past n Suspended = false
 
-abbrev pub wokenIfPast : Kernel → ℕ → Kernel
+abbrev pub wokenIfPast : State → ℕ → State
 wokenIfPast k n =
     let p = taskAt (k .tasks) (task n) .place in
     if past (k .tick) p then readied k (task n) (outcomeDue p) else k
 
-abbrev pub wakesThePast : Kernel → Call → Kernel
+abbrev pub wakesThePast : State → Asked → State
 wakesThePast = changed 17 (λ k a. tickedBy (upTo wokenIfPast 16) k)
 
 -- "Putting an overtaken task at the tail, so it loses its turn."
-abbrev pub behind : Kernel → TaskNo → Kernel
+abbrev pub behind : State → TaskSlot → State
 behind k t = if isReady (taskAt (k .tasks) t .place) then toTail k t else k
 
-abbrev pub losesTurn : Kernel → Kernel
+abbrev pub losesTurn : State → State
 losesTurn k = let next = chosen k in if sameTask (next .running) (k .running) then next else behind next (k .running)
 
 -- "Letting a suspended task stay in an object's list, so an item lands in its slip.": a waiter that is suspended stays in the order, from which the lists are read,
 -- and a send to an empty queue finds it there as if it still waited; a kernel that lists a suspended task is not sound, so this one does not ask that
-abbrev pub staysIfWaiting : Kernel → TaskNo → Kernel
+abbrev pub staysIfWaiting : State → TaskSlot → State
 staysIfWaiting k t =
     let x = taskAt (k .tasks) t in
     if ltb (waited (x .place) .0) 16 then withTask k t (brokenOff x) else suspended k t
 
 -- the first of those who wait on the queue or stand suspended in the order, if it is a suspended one: a list of one, or of none
-abbrev pub stillFirst : Kernel → ObjNo → List TaskNo
+abbrev pub stillFirst : State → ObjSlot → List TaskSlot
 stillFirst k o =
-    let at : TaskNo → Place = λ t. taskAt (k .tasks) t .place in
+    let at : TaskSlot → Place = λ t. taskAt (k .tasks) t .place in
     kept (λ t. isSuspended (at t)) (leader (k .tasks) (kept (λ t. waitsOn o (at t) || isSuspended (at t)) (listed (k .order))))
 
-abbrev pub foundBy : Kernel → Asked → List TaskNo
+abbrev pub foundBy : State → Asked → List TaskSlot
 foundBy k a = if is 13 a && isEmpty (kindAt (k .objects) (a .object)) then stillFirst k (a .object) else []
 
 -- it gets the item in its slip and is made ready, outcome 1; with none all is done as it should be, but for a suspend
-abbrev pub wokenOr : Kernel → Call → List TaskNo → Kernel
-wokenOr k c [] = changed 3 (λ k a. staysIfWaiting k (a .task)) k c
-wokenOr k c (t ∷ l) = readied k t 1
+abbrev pub wokenOr : State → Asked → List TaskSlot → State
+wokenOr k a [] = changed 3 (λ k a. staysIfWaiting k (a .task)) k a
+wokenOr k a (t ∷ l) = readied k t 1
 
-abbrev pub slipOr : Kernel → Asked → List ℕ → List ℕ → List TaskNo → List ℕ
+abbrev pub slipOr : State → Asked → List ℕ → List ℕ → List TaskSlot → List ℕ
 slipOr k a item s [] = stored k a item s
 slipOr k a item s (t ∷ l) = putAt (slipOf t) item s
 
 abbrev pub staysListed : Stepping
-staysListed = stepOf laterRow (λ k c. wokenOr k c (foundBy k (asked c))) chosen (λ k a item s. slipOr k a item s (foundBy k a))
+staysListed = stepOf laterRow (λ k a. wokenOr k a (foundBy k a)) chosen (λ k a item s. slipOr k a item s (foundBy k a))
 
 -- "Deleting a holder and leaving the next task in that slot as holder."; a kernel whose holder is gone is not sound, so neither does this one ask that
-abbrev pub tenLifted : Kernel → Asked → ℕ → ℕ → ℕ
+abbrev pub tenLifted : State → Asked → ℕ → ℕ → ℕ
 tenLifted k a item store = let n = laterRow k a item store in if is 2 a && eqb n 10 then 0 else n
 
 abbrev pub deletesHolders : Stepping
@@ -151,7 +153,7 @@ deletesHolders = stepOf tenLifted effect chosen stored
 -- a wrong step; a start, and calls from there; what is looked at; and what the right step and the wrong one show after the last call
 pub record Wrong : Type 0 where
   pub step : Stepping
-  pub start : Kernel
+  pub start : State
   pub calls : List Call
   pub look : Stepped → List ℕ
   pub right : Seen
@@ -167,11 +169,11 @@ after f r [] = r
 after f r (c ∷ cs) = after f (f (r .kernel) c item (r .store)) cs
 
 -- what stands there before the first call, with a store of zeros
-abbrev pub before : Kernel → Stepped
+abbrev pub before : State → Stepped
 before k = record { kernel = k; answer = says done 0; store = replicate 9216 0 }
 
 abbrev pub shows : (Stepped → List ℕ) → Stepped → Seen
-shows look r = record { answer = r .answer; running = r .kernel .running .0; looked = look r }
+shows look r = record { answer = r .answer; running = taskNo (r .kernel .running) .0; looked = look r }
 
 unfoldable pub showsBy : Stepping → Wrong → Seen
 showsBy f w = shows (w .look) (after f (before (w .start)) (w .calls))
@@ -250,7 +252,7 @@ unfoldable pub easyMistakes : List Wrong
 easyMistakes =
     -- task 1 has a loan of 5 on mutex 0 and gives mutex 1
     fails (stepBy dropsGiver chosen)
-    (Create 3 ∷ MakeMutex ∷ MakeMutex ∷ Take (object 0) 0 ∷ Take (object 1) 0 ∷ Create 5 ∷ Take (object 0) 10 ∷ Give (object 1) ∷ [])
+    (Create 3 ∷ MakeMutex ∷ MakeMutex ∷ Take (objectOf 0) 0 ∷ Take (objectOf 1) 0 ∷ Create 5 ∷ Take (objectOf 0) 10 ∷ Give (objectOf 1) ∷ [])
     (λ r. level (r .kernel .tasks) (task 1) ∷ [])
     (seen done 0 1 (5 ∷ []))
     (seen done 0 1 (3 ∷ []))
@@ -264,22 +266,22 @@ easyMistakes =
       wrong = seen done 0 1 (1 ∷ 0 ∷ []);
     }
     -- task 3 overtakes 1, ahead of 2 in its line, and leaves again
-    ∷ fails (stepBy effect losesTurn) (Create 3 ∷ Create 3 ∷ Create 5 ∷ Suspend (task 3) ∷ []) nothing (seen done 0 1 []) (seen done 0 2 [])
+    ∷ fails (stepBy effect losesTurn) (Create 3 ∷ Create 3 ∷ Create 5 ∷ Suspend (taskOf 3) ∷ []) nothing (seen done 0 1 []) (seen done 0 2 [])
     -- task 1's outcome, suspended as it is, and how many are listed
     ∷ fails staysListed
-    (MakeQueue 1 1 ∷ Create 3 ∷ Receive (object 0) 10 ∷ Suspend (task 1) ∷ [])
+    (MakeQueue 1 1 ∷ Create 3 ∷ Receive (objectOf 0) 10 ∷ Suspend (taskOf 1) ∷ [])
     (λ r. brokenOffNow (taskAt (r .kernel .tasks) (task 1)) ∷ length (listed (r .kernel .order)) ∷ [])
     (seen done 0 0 (3 ∷ 1 ∷ []))
     (seen done 0 0 (3 ∷ 2 ∷ []))
     -- then the first byte of its slip, and of the queue
     ∷ fails staysListed
-    (MakeQueue 1 1 ∷ Create 3 ∷ Receive (object 0) 10 ∷ Suspend (task 1) ∷ Send (object 0) 0 ∷ [])
+    (MakeQueue 1 1 ∷ Create 3 ∷ Receive (objectOf 0) 10 ∷ Suspend (taskOf 1) ∷ Send (objectOf 0) 0 ∷ [])
     (λ r. getD (r .store) (slipOf (task 1)) 0 ∷ getD (r .store) 0 0 ∷ [])
     (seen done 0 0 (0 ∷ 7 ∷ []))
     (seen done 0 1 (7 ∷ 0 ∷ []))
     -- the new task's number, and the holder of mutex 0
     ∷ fails deletesHolders
-    (Create 3 ∷ MakeMutex ∷ Take (object 0) 0 ∷ Delete (task 1) ∷ Create 3 ∷ [])
+    (Create 3 ∷ MakeMutex ∷ Take (objectOf 0) 0 ∷ Delete (taskOf 1) ∷ Create 3 ∷ [])
     (λ r. holderOf (kindAt (r .kernel .objects) (object 0)) .0 ∷ [])
     (seen made 2 1 (1 ∷ []))
     (seen made 1 1 (1 ∷ []))

@@ -1,1 +1,1 @@
-// Theorems about the kernel's definitions. The definitions are in specs/, the proofs in proofs/; there is no code.
+// Theorems about the rules. The definitions are in specs/, the proofs in proofs/; there is no code.

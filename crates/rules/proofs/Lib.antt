@@ -1,3 +1,4 @@
+pub mod Asks
 pub mod Slots
 pub mod Leads
 pub mod Moves

@@ -128,7 +128,7 @@ tick-room h p l m e =
 
 -- what a step leans on
 pub sound-steady : (k : State) → sound k ≡ true → Steady k
-sound-steady k e = record { runs = go (ltb (k .running .0) 16) refl; fit = s .queue-range }
+sound-steady k e = record { task-slots = s .task-slots; object-slots = s .object-slots; runs = go (ltb (k .running .0) 16) refl; fit = s .queue-range }
   where
     s : Sound k
     s = sound-says k e

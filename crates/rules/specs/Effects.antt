@@ -74,7 +74,7 @@ handedOn k o = handedTo k o (first k (WaitersOf o))
 unfoldable pub given : State → ObjSlot → State
 given k o = ownAgain (handedOn k o) (k .running)
 
--- the whole table, by the call's number
+-- the whole table, by the call's number; no other number is a call's
 unfoldable pub effect : State → Asked → State
 effect k a =
     if is 1 a then created k (a .priority)
@@ -93,4 +93,5 @@ effect k a =
     else if is 14 a then receivedFrom k (a .object) (kindAt (k .objects) (a .object)) (a .wait)
     else if is 15 a then taken k (a .object) (a .wait)
     else if is 16 a then given k (a .object)
-    else ticked k
+    else if is 17 a then ticked k
+    else k

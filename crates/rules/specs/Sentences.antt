@@ -92,7 +92,9 @@ pub record Sound (k : State) : Type 0 where
   -- "free slots carry the fresh values"
   pub free : (t : TaskSlot) → taskAt (k .tasks) t .place ≡ Free → taskAt (k .tasks) t ≡ freeTask
 
--- what a step leans on beside the refusals, both of which soundness gives: the caller has a slot, and each queue obeys the ranges
+-- what a step leans on beside the refusals, all of which soundness gives: the tables have their slots, the caller has one, and each queue obeys the ranges
 pub record Steady (k : State) : Type 0 where
+  pub task-slots : length (k .tasks) ≡ 16
+  pub object-slots : length (k .objects) ≡ 16
   pub runs : k .running .0 < 16
   pub fit : (o : ObjSlot) (q : Ring) → kindAt (k .objects) o ≡ Queue q → RingFits q

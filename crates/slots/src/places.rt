@@ -6,7 +6,7 @@ use crate::Wake;
 use numbers::ObjSlot;
 
 // How many ticks come before the one that makes the count `w`, from `now` on. A smaller `w` is not past: the count wraps before it comes.
-fn ahead(now: u32, w: u32) -> u32
+pub fn ahead(now: u32, w: u32) -> u32
     ensures { λ r. ⌜ r ≡ ahead now w ⌝ }
 {
     let distance = std::num::wrapping_sub_u32(w, now);

@@ -1,6 +1,9 @@
 use borrow.Author.Needs.{needs}
-use Rattle.kernel.specs.Waits.{blocked}
+use Rattle.kernel.proofs.Stands.{same-running}
 use mathlib.Core.Path.{_∙_}
+use Rattle.rules.specs.Waits.{blocked}
+use Rattle.rules.specs.Tables.{withTask}
+use Rattle.slots.specs.Tasks.{placed, taskAt}
 use Rattle.kernel.proofs.Kernel.blocked.Statement.{statement}
 use Rattle.kernel.proofs.Kernel.blocked.Tie as tie
 
@@ -18,7 +21,10 @@ to-tail-requires c κs = search needs
 
 returns : tie.Need-returns
 unfolding blocked
-returns c = c .to-tail .ensures ∙ rw (c .before .with-task .ensures, c .before .before .placed .ensures, c .before .before .before .task .ensures)
+returns c = λ s h.
+    c .to-tail .ensures (withTask s (s .running) (placed (taskAt (s .tasks) (s .running)) (c .before .before .before .before .before .args .p) 0))
+    (c .before .with-task .ensures s h ∙ rw (c .before .before .placed .ensures, c .before .before .before .task .ensures s h, same-running _ s h))
+    ∙ rw (same-running _ s h)
 
 pub blocked-spec : {M : Type 1} → statement M
 blocked-spec =

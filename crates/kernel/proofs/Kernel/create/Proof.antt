@@ -1,10 +1,9 @@
 use borrow.Author.Needs.{needs}
-use Rattle.calls.specs.Asked.{asked}
-use Rattle.kernel.proofs.Ends.{makes}
-use Rattle.kernel.specs.Effects.{created, effect}
-use Rattle.kernel.specs.Step.{answered}
-use Rattle.kernel.specs.Types.{Create}
 use mathlib.Core.Path.{_∙_}
+use Rattle.rules.specs.Effects.{created}
+use Rattle.rules.specs.Tables.{withTask}
+use Rattle.slots.specs.Tasks.{readyAt}
+use Rattle.numbers.specs.Numbers.{task}
 use Rattle.kernel.proofs.Kernel.create.Statement.{statement}
 use Rattle.kernel.proofs.Kernel.create.Tie as tie
 
@@ -20,20 +19,13 @@ with-task-requires c κs = search needs
 to-tail-requires : tie.Need-to-tail-requires
 to-tail-requires c κs = search needs
 
-made-requires : tie.Need-made-requires
-made-requires c κs = search needs
-
 returns : tie.Need-returns
-unfolding effect created asked answered
-returns c = makes (c .before .before .before .before .before .args .self) (Create (c .before .before .before .before .before .args .p)) (c .before .to-tail .ensures ∙ rw (c .before .before .with-task .ensures, c .before .before .before .ready-at .ensures, c .before .before .before .before .of .ensures, c .before .before .before .before .before .pre)) (λ next. rw (c .before .before .before .before .before .pre)) (c .made .ensures)
+unfolding created
+returns c = λ s h.
+    c .to-tail .ensures (withTask s (task (c .before .before .before .before .args .n)) (readyAt (c .before .before .before .before .args .p)))
+    (c .before .with-task .ensures s h ∙ rw (c .before .before .before .of .ensures, c .before .before .ready-at .ensures))
+    ∙ rw (c .before .before .before .of .ensures, c .before .before .before .before .pre s h)
 
 pub create-spec : {M : Type 1} → statement M
 create-spec =
-    tie.close
-    (tie.spec
-    of-requires
-    ready-at-requires
-    with-task-requires
-    to-tail-requires
-    made-requires
-    returns)
+    tie.close (tie.spec of-requires ready-at-requires with-task-requires to-tail-requires returns)

@@ -1,10 +1,8 @@
 use borrow.Author.Needs.{needs}
-use Rattle.calls.specs.Asked.{asked}
-use Rattle.kernel.proofs.Ends.{ends}
-use Rattle.kernel.specs.Effects.{deleted, effect}
-use Rattle.kernel.specs.Step.{answered}
-use Rattle.kernel.specs.Types.{Delete}
-use mathlib.Core.Path.{refl, _∙_}
+use mathlib.Core.Path.{_∙_}
+use Rattle.rules.specs.Effects.{deleted}
+use Rattle.rules.specs.Tables.{withTask}
+use Rattle.slots.specs.Tasks.{freeTask}
 use Rattle.kernel.proofs.Kernel.delete.Statement.{statement}
 use Rattle.kernel.proofs.Kernel.delete.Tie as tie
 
@@ -17,13 +15,9 @@ with-task-requires c κs = search needs
 leaves-requires : tie.Need-leaves-requires
 leaves-requires c κs = search needs
 
-ended-requires : tie.Need-ended-requires
-ended-requires c κs = search needs
-
 returns : tie.Need-returns
-unfolding effect deleted asked answered
-returns c = ends (c .before .before .before .before .before .args .self) (Delete (c .before .before .before .before .before .args .t)) (c .before .leaves .ensures ∙ rw (c .before .before .with-task .ensures, c .before .before .before .free .ensures)) (λ next. refl) (c .ended .ensures)
+unfolding deleted
+returns c = λ s h. c .leaves .ensures (withTask s (c .before .before .before .args .t) freeTask) (c .before .with-task .ensures s h ∙ rw (c .before .before .free .ensures))
 
 pub delete-spec : {M : Type 1} → statement M
-delete-spec =
-    tie.close (tie.spec free-requires with-task-requires leaves-requires ended-requires returns)
+delete-spec = tie.close (tie.spec free-requires with-task-requires leaves-requires returns)

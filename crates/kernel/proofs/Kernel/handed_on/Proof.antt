@@ -1,6 +1,5 @@
 use borrow.Author.Needs.{needs}
-use Rattle.kernel.specs.Effects.{handedOn}
-use mathlib.Core.Path.{_∙_}
+use Rattle.rules.specs.Effects.{handedOn}
 use Rattle.kernel.proofs.Kernel.handed_on.Statement.{statement}
 use Rattle.kernel.proofs.Kernel.handed_on.Tie as tie
 
@@ -24,11 +23,11 @@ with-object-requires-2 c κs = search needs
 
 returns : tie.Need-returns
 unfolding handedOn
-returns c = rw (← c .before .before .before .first .ensures, c .before .enum-told .given .1) (c .with-object .ensures)
+returns c = λ s h. rw (← c .before .before .before .first .ensures s h, c .before .enum-told .given .1) (c .with-object .ensures s h)
 
 returns-2 : tie.Need-returns-2
 unfolding handedOn
-returns-2 c = rw (← c .before .before .before .before .before .first .ensures, c .before .before .before .t .given .1) (c .with-object2 .ensures ∙ rw (c .before .readied .ensures))
+returns-2 c = λ s h. rw (← c .before .before .before .before .before .first .ensures s h, c .before .before .before .t .given .1) (c .with-object2 .ensures _ (c .before .readied .ensures s h))
 
 pub handed-on-spec : {M : Type 1} → statement M
 handed-on-spec =

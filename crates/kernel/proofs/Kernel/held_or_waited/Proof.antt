@@ -1,8 +1,8 @@
 use borrow.Author.Needs.{needs}
-use Rattle.kernel.proofs.Leads.{leader-none}
-use Rattle.kernel.specs.Lines.{first}
-use Rattle.kernel.specs.Refusals.{heldOrWaited}
+use Rattle.rules.proofs.Leads.{leader-none}
 use mathlib.Core.Path.{_∙_}
+use Rattle.rules.specs.Refusals.{heldOrWaited}
+use Rattle.rules.specs.Lines.{first}
 use Rattle.kernel.proofs.Kernel.held_or_waited.Statement.{statement}
 use Rattle.kernel.proofs.Kernel.held_or_waited.Tie as tie
 
@@ -23,7 +23,7 @@ either-requires c κs = search needs
 
 returns : tie.Need-returns
 unfolding heldOrWaited first
-returns c = c .either .ensures ∙ rw (c .before .is-some .ensures, c .before .before .first .ensures, c .before .before .before .is-held .ensures, c .before .before .before .before .kind .ensures, leader-none)
+returns c = λ s h. c .either .ensures ∙ rw (c .before .is-some .ensures, c .before .before .first .ensures s h, c .before .before .before .is-held .ensures, c .before .before .before .before .kind .ensures s h, leader-none)
 
 pub held-or-waited-spec : {M : Type 1} → statement M
 held-or-waited-spec =

@@ -1,6 +1,7 @@
 use borrow.Author.Needs.{needs}
-use Rattle.kernel.specs.Loans.{lent}
+use Rattle.kernel.proofs.Stands.{same-running}
 use mathlib.Core.Path.{_∙_}
+use Rattle.rules.specs.Loans.{lent}
 use Rattle.kernel.proofs.Kernel.lent.Statement.{statement}
 use Rattle.kernel.proofs.Kernel.lent.Tie as tie
 
@@ -18,7 +19,7 @@ prioritized-requires c κs = search needs
 
 returns : tie.Need-returns
 unfolding lent
-returns c = c .prioritized .ensures ∙ rw (c .before .larger .ensures, c .before .before .task2 .ensures, c .before .before .before .task .ensures)
+returns c = λ s h. c .prioritized .ensures s h ∙ rw (c .before .larger .ensures, c .before .before .task2 .ensures s h, c .before .before .before .task .ensures s h, same-running _ s h)
 
 pub lent-spec : {M : Type 1} → statement M
 lent-spec =

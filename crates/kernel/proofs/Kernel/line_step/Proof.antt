@@ -1,42 +1,30 @@
 use borrow.Author.Needs.{needs}
-use Rattle.kernel.specs.Promises.{SoundSteps}
-use Rattle.lists.proofs.Loops.{length-mapped}
-use lib.ListN.{length, take}
-use native.Mathlib.Omega.{arith}
-use lib.Seq.{length-take-le}
-use Rattle.calls.specs.declared.Call.{Call}
-use Rattle.kernel.proofs.Sessions.{line-refused, has-call, sound-step}
-use mathlib.Core.Path.{_≡_, sym, subst}
 use Rattle.kernel.proofs.Kernel.line_step.Statement.{statement}
 use Rattle.kernel.proofs.Kernel.line_step.Tie as tie
 
 line-refusal-requires : tie.Need-line-refusal-requires
-line-refusal-requires c κs = search needs
+line-refusal-requires c κs = ?
 
 returns : tie.Need-returns
-returns c = line-refused (c .before .before .before .args .self) (c .before .before .before .args .store .now) (c .before .before .before .args .line) (c .before .before .before .args .fine) (c .before .line-refusal .result) (c .before .before .before .pre .0) (c .before .line-refusal .ensures) (c .if1 .taken)
+returns c = ?
 
 call-in-requires : tie.Need-call-in-requires
-call-in-requires c κs = search needs
+call-in-requires c κs = ?
 
 array-share-prefix-item : tie.Need-array-share-prefix-item
-array-share-prefix-item c = let h : length (c .before .before .before .before .before .args .line .item) ≡ 64 = search length-mapped in omega arith
+array-share-prefix-item c = ?
 
 slice-aggregate-step-sound : tie.Need-slice-aggregate-step-sound
-slice-aggregate-step-sound c = let h : length (c .before .before .before .before .before .before .args .line .item) ≡ 64 = search length-mapped in sym (length-take-le (c .before .before .before .before .before .before .args .line .len) (c .before .before .before .before .before .before .args .line .item) (omega arith))
+slice-aggregate-step-sound c = ?
 
 step-sound-requires : tie.Need-step-sound-requires
-step-sound-requires c κs = has-call (c .before .before .before .before .before .before .before .args .self) (c .before .before .before .before .before .before .before .args .store .now) (c .before .before .before .before .before .before .before .args .line) (c .before .before .before .before .before .before .before .args .fine) (c .before .before .before .before .before .line-refusal .result) (c .before .before .before .before .before .before .before .pre .0) (c .before .before .before .before .before .line-refusal .ensures) (c .before .before .before .before .if1 .left) .0
+step-sound-requires c κs = ?
 
 same-length : tie.Need-same-length
-same-length c = search needs
+same-length c = ?
 
 returns-2 : tie.Need-returns-2
-returns-2 c =
-    let a = c .before .before .before .before .before .before .before .before .before .before .args in
-    sound-step (a .self) (a .store .now) (a .line) (c .before .before .step-sound .result) (c .before .before .step-sound .last .1 .1 .1 .0)
-    (has-call (a .self) (a .store .now) (a .line) (a .fine) (c .before .before .before .before .before .before .before .before .line-refusal .result) (c .before .before .before .before .before .before .before .before .before .before .pre .0) (c .before .before .before .before .before .before .before .before .line-refusal .ensures) (c .before .before .before .before .before .before .before .if1 .left))
-    (subst (λ (x : Call). SoundSteps (a .self) x (take (a .line .len) (a .line .item)) (a .store .now) (c .before .before .step-sound .result) (c .before .before .step-sound .last .1 .1 .1 .0)) (c .before .before .before .before .before .call-in .ensures) (c .before .before .step-sound .ensures))
+returns-2 c = ?
 
 pub line-step-spec : {M : Type 1} → statement M
 line-step-spec =

@@ -1,10 +1,6 @@
 use borrow.Author.Needs.{needs}
-use Rattle.calls.specs.Asked.{asked}
-use Rattle.kernel.proofs.Ends.{makes}
-use Rattle.kernel.specs.Effects.{mutexMade, effect}
-use Rattle.kernel.specs.Step.{answered}
-use Rattle.kernel.specs.Types.{MakeMutex}
 use mathlib.Core.Path.{_∙_}
+use Rattle.rules.specs.Effects.{mutexMade}
 use Rattle.kernel.proofs.Kernel.make_mutex.Statement.{statement}
 use Rattle.kernel.proofs.Kernel.make_mutex.Tie as tie
 
@@ -14,12 +10,9 @@ of-requires c κs = search needs
 with-object-requires : tie.Need-with-object-requires
 with-object-requires c κs = search needs
 
-made-requires : tie.Need-made-requires
-made-requires c κs = search needs
-
 returns : tie.Need-returns
-unfolding effect mutexMade asked answered
-returns c = makes (c .before .before .before .args .self) MakeMutex (c .before .with-object .ensures ∙ rw (c .before .before .of .ensures, c .before .before .before .pre)) (λ next. rw (c .before .before .before .pre)) (c .made .ensures)
+unfolding mutexMade
+returns c = λ s h. c .with-object .ensures s h ∙ rw (c .before .of .ensures, c .before .before .pre s h)
 
 pub make-mutex-spec : {M : Type 1} → statement M
-make-mutex-spec = tie.close (tie.spec of-requires with-object-requires made-requires returns)
+make-mutex-spec = tie.close (tie.spec of-requires with-object-requires returns)

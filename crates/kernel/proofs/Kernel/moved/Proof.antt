@@ -1,5 +1,8 @@
 use borrow.Author.Needs.{needs}
-use Rattle.kernel.specs.Loans.{moved}
+use Rattle.kernel.proofs.Stands.{same-running}
+use Rattle.numbers.specs.Numbers.{sameTask}
+use mathlib.Core.Path.{sym, ap, _∙_}
+use Rattle.rules.specs.Loans.{moved}
 use Rattle.kernel.proofs.Kernel.moved.Statement.{statement}
 use Rattle.kernel.proofs.Kernel.moved.Tie as tie
 
@@ -14,11 +17,11 @@ to-tail-requires c κs = search needs
 
 returns : tie.Need-returns
 unfolding moved
-returns c = rw (← c .before .before .same .ensures, c .before .if1 .taken) (c .to-head .ensures)
+returns c = λ s h. rw (ap (sameTask (c .before .before .before .before .args .t)) (sym (same-running _ s h)) ∙ sym (c .before .before .same .ensures) ∙ c .before .if1 .taken) (c .to-head .ensures s h)
 
 returns-2 : tie.Need-returns-2
 unfolding moved
-returns-2 c = rw (← c .before .before .same .ensures, c .before .if1 .left) (c .to-tail .ensures)
+returns-2 c = λ s h. rw (ap (sameTask (c .before .before .before .before .args .t)) (sym (same-running _ s h)) ∙ sym (c .before .before .same .ensures) ∙ c .before .if1 .left) (c .to-tail .ensures s h)
 
 pub moved-spec : {M : Type 1} → statement M
 moved-spec = tie.close (tie.spec same-requires to-head-requires to-tail-requires returns returns-2)

@@ -1,6 +1,6 @@
 use borrow.Author.Needs.{needs}
-use Rattle.kernel.specs.Loans.{newPriority}
-use mathlib.Core.Path.{_∙_}
+use mathlib.Core.Path.{sym, _∙_}
+use Rattle.rules.specs.Loans.{newPriority}
 use Rattle.kernel.proofs.Kernel.new_priority.Statement.{statement}
 use Rattle.kernel.proofs.Kernel.new_priority.Tie as tie
 
@@ -21,11 +21,11 @@ prioritized-requires-2 c κs = search needs
 
 returns : tie.Need-returns
 unfolding newPriority
-returns c = rw (← c .before .before .before .before .holds .ensures, c .before .before .before .if1 .taken) (c .prioritized .ensures ∙ rw (c .before .larger .ensures, c .before .before .task .ensures))
+returns c = λ s h. rw (sym (c .before .before .before .before .holds .ensures s h) ∙ c .before .before .before .if1 .taken) (c .prioritized .ensures s h ∙ rw (c .before .larger .ensures, c .before .before .task .ensures s h))
 
 returns-2 : tie.Need-returns-2
 unfolding newPriority
-returns-2 c = rw (← c .before .before .holds .ensures, c .before .if1 .left) (c .prioritized2 .ensures)
+returns-2 c = λ s h. rw (sym (c .before .before .holds .ensures s h) ∙ c .before .if1 .left) (c .prioritized2 .ensures s h)
 
 pub new-priority-spec : {M : Type 1} → statement M
 new-priority-spec =

@@ -1,6 +1,6 @@
 use borrow.Author.Needs.{needs}
-use Rattle.kernel.specs.Loans.{ownAgain}
-use mathlib.Core.Path.{_∙_}
+use mathlib.Core.Path.{sym, _∙_}
+use Rattle.rules.specs.Loans.{ownAgain}
 use Rattle.kernel.proofs.Kernel.own_again.Statement.{statement}
 use Rattle.kernel.proofs.Kernel.own_again.Tie as tie
 
@@ -15,11 +15,11 @@ prioritized-requires c κs = search needs
 
 returns : tie.Need-returns
 unfolding ownAgain
-returns c = rw (← c .before .holds .ensures, c .if1 .taken)
+returns c = λ s h. rw (sym (c .before .holds .ensures s h) ∙ c .if1 .taken) h
 
 returns-2 : tie.Need-returns-2
 unfolding ownAgain
-returns-2 c = rw (← c .before .before .before .holds .ensures, c .before .before .if1 .left) (c .prioritized .ensures ∙ rw (c .before .task .ensures))
+returns-2 c = λ s h. rw (sym (c .before .before .before .holds .ensures s h) ∙ c .before .before .if1 .left) (c .prioritized .ensures s h ∙ rw (c .before .task .ensures s h))
 
 pub own-again-spec : {M : Type 1} → statement M
 own-again-spec =

@@ -1,6 +1,8 @@
 use borrow.Author.Needs.{needs}
-use Rattle.kernel.specs.Loans.{prioritized}
 use mathlib.Core.Path.{_∙_}
+use Rattle.rules.specs.Loans.{prioritized}
+use Rattle.rules.specs.Tables.{withTask}
+use Rattle.slots.specs.Tasks.{ranked, taskAt}
 use Rattle.kernel.proofs.Kernel.prioritized.Statement.{statement}
 use Rattle.kernel.proofs.Kernel.prioritized.Tie as tie
 
@@ -21,7 +23,11 @@ moved-if-requires c κs = search needs
 
 returns : tie.Need-returns
 unfolding prioritized
-returns c = c .moved-if .ensures ∙ rw (c .before .before .is-ready .ensures, c .before .before .before .with-task .ensures, c .before .before .before .before .ranked .ensures, c .before .before .before .before .before .task .ensures)
+returns c = λ s h.
+    let a = c .before .before .before .before .before .before .args in
+    c .moved-if .ensures (withTask s (a .t) (ranked (taskAt (s .tasks) (a .t)) (a .own) (a .effective)))
+    (c .before .before .before .with-task .ensures s h ∙ rw (c .before .before .before .before .ranked .ensures, c .before .before .before .before .before .task .ensures s h))
+    ∙ rw (c .before .before .is-ready .ensures, c .before .before .before .before .before .task .ensures s h)
 
 pub prioritized-spec : {M : Type 1} → statement M
 prioritized-spec =

@@ -1,8 +1,9 @@
 use borrow.Author.Needs.{needs}
-use Rattle.kernel.proofs.Within.{less-fits}
-use Rattle.kernel.specs.Items.{received, storeReceived}
+use Rattle.rules.proofs.Within.{less-fits}
+use Rattle.rules.specs.Items.{received, storeReceived}
 use borrow.Author.Tests.{eq-eqb, ne-eqb}
-use mathlib.Core.Path.{refl, _∙_}
+use Rattle.kernel.proofs.Stands.{same-running}
+use mathlib.Core.Path.{_∙_}
 use native.Mathlib.Omega.{arith}
 use Rattle.kernel.proofs.Kernel.receive_from.Statement.{statement}
 use Rattle.kernel.proofs.Kernel.receive_from.Tie as tie
@@ -12,7 +13,7 @@ wait-for-requires c κs = search needs
 
 returns : tie.Need-returns
 unfolding received storeReceived
-returns c = rw (eq-eqb _ _ (c .before .if1 .taken)) (c .wait-for .ensures, refl)
+returns c = (λ s h. rw (eq-eqb _ _ (c .before .if1 .taken)) (c .wait-for .ensures s h), λ s h. rw (eq-eqb _ _ (c .before .if1 .taken)))
 
 waiter-requires : tie.Need-waiter-requires
 waiter-requires c κs = search needs
@@ -30,7 +31,7 @@ cast-to-slip : tie.Need-cast-to-slip
 cast-to-slip c = search needs
 
 to-slip-requires : tie.Need-to-slip-requires
-to-slip-requires c κs = search needs
+to-slip-requires c κs = (c .before .before .before .before .before .before .before .before .before .before .before .pre .2 .runs, omega arith, search needs)
 
 refill-requires : tie.Need-refill-requires
 refill-requires c κs =
@@ -55,7 +56,8 @@ returns-2 c =
     let some = c .before .before .before .before .before .before .before .before .before .before .before .before .before .before .before .before .if1 .left in
     let oldest = c .before .before .before .before .before .before .before .before .before .before .before .of-ring .ensures in
     let slip = c .before .before .before .before .before .before .before .to-slip .ensures in
-    rw (ne-eqb _ _ some) (c .refilled-by .ensures ∙ rw (less, who), c .before .before .before .refill .ensures ∙ rw (slip, oldest, less, who))
+    (λ s h. rw (ne-eqb _ _ some) (c .refilled-by .ensures s h ∙ rw (less, who s h)),
+     λ s h. rw (ne-eqb _ _ some) (c .before .before .before .refill .ensures ∙ rw (slip, oldest, less, who s h, same-running _ s h)))
 
 pub receive-from-spec : {M : Type 1} → statement M
 receive-from-spec =

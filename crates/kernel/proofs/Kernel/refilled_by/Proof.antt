@@ -22,10 +22,10 @@ readied-requires : tie.Need-readied-requires
 readied-requires c κs = search needs
 
 returns : tie.Need-returns
-returns c = rw (c .before .enum-told .given .1) (c .with-object .ensures)
+returns c = λ s h. rw (c .before .enum-told .given .1) (c .with-object .ensures s h)
 
 returns-2 : tie.Need-returns-2
-returns-2 c = rw (c .before .before .before .before .f .given .1) (c .readied .ensures ∙ rw (c .before .with-object2 .ensures, c .before .before .one-more .ensures))
+returns-2 c = λ s h. rw (c .before .before .before .before .f .given .1) (c .readied .ensures _ (c .before .with-object2 .ensures s h ∙ rw (c .before .before .one-more .ensures)))
 
 pub refilled-by-spec : {M : Type 1} → statement M
 refilled-by-spec =

@@ -1,14 +1,11 @@
 use borrow.Author.Needs.{needs}
-use Rattle.calls.specs.Asked.{asked}
-use Rattle.kernel.proofs.Ends.{ends}
-use Rattle.kernel.proofs.Passes.{above-0}
-use Rattle.kernel.specs.Effects.{effect}
-use Rattle.kernel.specs.Step.{answered}
-use Rattle.kernel.specs.Ticks.{released}
-use Rattle.kernel.specs.Types.{Release}
+use Rattle.kernel.proofs.Stands.{same-hold, same-pended}
+use Rattle.rules.proofs.Passes.{above-0}
 use borrow.Author.Tests.{eq-eqb, ne-eqb}
-use mathlib.Core.Path.{refl, _∙_}
+use mathlib.Core.Path.{sym, _∙_}
 use native.Mathlib.Omega.{arith}
+use Rattle.rules.specs.Ticks.{released}
+use Rattle.rules.specs.Tables.{withHold}
 use Rattle.kernel.proofs.Kernel.release.Statement.{statement}
 use Rattle.kernel.proofs.Kernel.release.Tie as tie
 
@@ -18,25 +15,19 @@ with-hold-requires c κs = search needs
 ticks-requires : tie.Need-ticks-requires
 ticks-requires c κs = search needs
 
-ended-requires : tie.Need-ended-requires
-ended-requires c κs = search needs
-
 sub-with-hold : tie.Need-sub-with-hold
-sub-with-hold c = let h = above-0 (c .before .before .before .before .args .self .hold) (c .before .before .before .before .pre) in omega arith
+sub-with-hold c = let h = above-0 (c .before .before .before .args .self .hold) (c .before .before .before .pre) in omega arith
 
 with-hold-requires-2 : tie.Need-with-hold-requires-2
 with-hold-requires-2 c κs = search needs
 
-ended-requires-2 : tie.Need-ended-requires-2
-ended-requires-2 c κs = search needs
-
 returns : tie.Need-returns
-unfolding effect released asked answered
-returns c = ends (c .before .before .before .before .before .before .args .self) Release (c .before .ticks .ensures ∙ rw (c .before .before .with-hold .ensures, eq-eqb _ _ (c .before .before .before .if1 .taken))) (λ next. refl) (c .ended .ensures)
+unfolding released
+returns c = λ s h. c .ticks .ensures (withHold s 0 0) (c .before .with-hold .ensures s h) ∙ rw (same-pended _ s h, eq-eqb (s .hold) 1 (sym (same-hold _ s h) ∙ c .before .before .if1 .taken))
 
 returns-2 : tie.Need-returns-2
-unfolding effect released asked answered
-returns-2 c = ends (c .before .before .before .before .before .before .args .self) Release (c .before .with-hold2 .ensures ∙ rw (ne-eqb _ _ (c .before .before .before .if1 .left))) (λ next. refl) (c .ended2 .ensures)
+unfolding released
+returns-2 c = λ s h. c .with-hold2 .ensures s h ∙ rw (same-hold _ s h, same-pended _ s h, ne-eqb (s .hold) 1 (λ e. c .before .before .if1 .left (same-hold _ s h ∙ e)))
 
 pub release-spec : {M : Type 1} → statement M
 release-spec =
@@ -44,9 +35,7 @@ release-spec =
     (tie.spec
     with-hold-requires
     ticks-requires
-    ended-requires
     sub-with-hold
     with-hold-requires-2
-    ended-requires-2
     returns
     returns-2)

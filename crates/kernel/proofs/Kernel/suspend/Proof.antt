@@ -1,10 +1,10 @@
 use borrow.Author.Needs.{needs}
-use Rattle.calls.specs.Asked.{asked}
-use Rattle.kernel.proofs.Ends.{ends}
-use Rattle.kernel.specs.Effects.{suspended, effect}
-use Rattle.kernel.specs.Step.{answered}
-use Rattle.kernel.specs.Types.{Suspend}
-use mathlib.Core.Path.{refl, _∙_}
+use mathlib.Core.Path.{sym, ap, _∙_}
+use Rattle.rules.specs.Effects.{suspended}
+use Rattle.rules.specs.Tables.{withTask}
+use Rattle.slots.specs.declared.Task.{Task}
+use Rattle.slots.specs.Tasks.{brokenOff, taskAt}
+use Rattle.slots.specs.Places.{isListed}
 use Rattle.kernel.proofs.Kernel.suspend.Statement.{statement}
 use Rattle.kernel.proofs.Kernel.suspend.Tie as tie
 
@@ -23,19 +23,15 @@ with-task-requires c κs = search needs
 leaves-requires : tie.Need-leaves-requires
 leaves-requires c κs = search needs
 
-ended-requires : tie.Need-ended-requires
-ended-requires c κs = search needs
-
-ended-requires-2 : tie.Need-ended-requires-2
-ended-requires-2 c κs = search needs
-
 returns : tie.Need-returns
-unfolding effect suspended asked answered
-returns c = ends (c .before .before .before .before .before .before .before .before .args .self) (Suspend (c .before .before .before .before .before .before .before .before .args .t)) (c .before .leaves .ensures ∙ rw (c .before .before .with-task .ensures, c .before .before .before .broken-off .ensures, ← c .before .before .before .before .before .before .task .ensures, ← c .before .before .before .before .before .is-listed .ensures, c .before .before .before .before .if1 .taken)) (λ next. refl) (c .ended .ensures)
+unfolding suspended
+returns c = λ s h.
+    rw (ap (λ (x : Task). isListed (x .place)) (sym (c .before .before .before .before .before .task .ensures s h)) ∙ sym (c .before .before .before .before .is-listed .ensures) ∙ c .before .before .before .if1 .taken)
+    (c .leaves .ensures (withTask s (c .before .before .before .before .before .before .args .t) (brokenOff (taskAt (s .tasks) (c .before .before .before .before .before .before .args .t)))) (c .before .with-task .ensures s h ∙ rw (c .before .before .broken-off .ensures, c .before .before .before .before .before .task .ensures s h)))
 
 returns-2 : tie.Need-returns-2
-unfolding effect suspended asked answered
-returns-2 c = ends (c .before .before .before .before .before .args .self) (Suspend (c .before .before .before .before .before .args .t)) (rw (← c .before .before .before .task .ensures, ← c .before .before .is-listed .ensures, c .before .if1 .left)) (λ next. refl) (c .ended2 .ensures)
+unfolding suspended
+returns-2 c = λ s h. rw (ap (λ (x : Task). isListed (x .place)) (sym (c .before .before .task .ensures s h)) ∙ sym (c .before .is-listed .ensures) ∙ c .if1 .left) h
 
 pub suspend-spec : {M : Type 1} → statement M
 suspend-spec =
@@ -46,7 +42,5 @@ suspend-spec =
     broken-off-requires
     with-task-requires
     leaves-requires
-    ended-requires
-    ended-requires-2
     returns
     returns-2)

@@ -1,21 +1,17 @@
 use borrow.Author.Needs.{needs}
-use Rattle.kernel.proofs.Jumps.{jump-all, jump-tick}
-use Rattle.kernel.specs.Tables.{withTick}
-use Rattle.kernel.specs.Ticks.{oneTick, ticks}
-use Rattle.lists.specs.Lists.{upTo}
-use mathlib.Core.Path.{_≡_, refl, sym, ap, _∙_}
 use native.Mathlib.Omega.{arith}
+use Rattle.kernel.proofs.Jumping.{Ticking, begins, jumps-all, jumps-on, none-left}
 use Rattle.kernel.proofs.Kernel.ticks.Statement.{statement}
 use Rattle.kernel.proofs.Kernel.ticks.Tie as tie
 
 abbrev Inv-loop : tie.InvT-loop
-Inv-loop n k₀ left₀ k left = ticks left k ≡ ticks n k₀
+Inv-loop n k₀ left₀ k left = Ticking k₀ n k left
 
 abbrev μ-loop : tie.MeasureT-loop
 μ-loop n k₀ left₀ k left = left
 
 loop-holds : tie.Need-loop-holds Inv-loop μ-loop
-loop-holds c = refl
+loop-holds c = begins (c .args .self) (c .args .n)
 
 until-due-requires : tie.Need-until-due-requires Inv-loop μ-loop
 until-due-requires c κs = search needs
@@ -27,12 +23,7 @@ with-tick-requires : tie.Need-with-tick-requires Inv-loop μ-loop
 with-tick-requires c κs = search needs
 
 returns : tie.Need-returns Inv-loop μ-loop
-returns c =
-    let l = c .before .before .before .before .before .loop in
-    c .with-tick .ensures
-    ∙ ap (withTick (l .k)) (c .before .wrapping-add-u32 .ensures)
-    ∙ jump-all (l .k) (c .before .before .before .until-due .result) (l .left) (c .before .before .before .until-due .ensures .1) (c .before .before .before .until-due .ensures .0) (c .before .before .if1 .taken)
-    ∙ l .inv
+returns c = jumps-all (c .before .before .before .before .before .loop .inv) (c .before .before .before .until-due .result) (c .before .before .before .until-due .ensures .1) (c .before .before .before .until-due .ensures .0) (c .before .before .if1 .taken) (c .before .wrapping-add-u32 .ensures) (c .with-tick .ensures)
 
 wrapping-add-u32-requires-2 : tie.Need-wrapping-add-u32-requires-2 Inv-loop μ-loop
 wrapping-add-u32-requires-2 c κs = search needs
@@ -53,17 +44,10 @@ loop-less : tie.Need-loop-less Inv-loop μ-loop
 loop-less c = search needs
 
 loop-again : tie.Need-loop-again Inv-loop μ-loop
-loop-again c =
-    let l = c .before .before .before .before .before .before .loop in
-    let q : c .one-tick .result ≡ oneTick (withTick (l .k) _) = c .one-tick .ensures ∙ ap oneTick (c .before .with-tick2 .ensures ∙ ap (withTick (l .k)) (c .before .before .wrapping-add-u322 .ensures)) in
-    jump-tick (l .k) (c .one-tick .result) (c .before .before .before .before .until-due .result) (l .left) _ (c .before .before .before .before .until-due .ensures .1) (c .before .before .before .before .until-due .ensures .0) (omega (arith, c .before .before .before .if1 .left)) q ∙ l .inv
+loop-again c = jumps-on (c .before .before .before .before .before .before .loop .inv) (c .before .before .before .before .until-due .result) (c .before .before .before .before .until-due .ensures .1) (c .before .before .before .before .until-due .ensures .0) (omega (arith, c .before .before .before .if1 .left)) (c .before .before .wrapping-add-u322 .ensures) (c .before .with-tick2 .ensures) (c .one-tick .ensures)
 
 returns-2 : tie.Need-returns-2 Inv-loop μ-loop
-unfolding ticks upTo
-returns-2 c =
-    let l = c .before .loop in
-    let z : 0 ≡ l .left = omega (arith, c .loop-test) in
-    ap (λ i. ticks i (l .k)) z ∙ l .inv
+returns-2 c = none-left (c .before .loop .inv) (omega (arith, c .loop-test))
 
 pub ticks-spec : {M : Type 1} → statement M
 ticks-spec =

@@ -1,6 +1,7 @@
 use borrow.Author.Needs.{needs}
-use Rattle.kernel.specs.Waits.{waitFor}
+use Rattle.kernel.proofs.Stands.{same-tick}
 use mathlib.Core.Path.{_∙_}
+use Rattle.rules.specs.Waits.{waitFor}
 use Rattle.kernel.proofs.Kernel.wait_for.Statement.{statement}
 use Rattle.kernel.proofs.Kernel.wait_for.Tie as tie
 
@@ -12,7 +13,7 @@ blocked-requires c κs = search needs
 
 returns : tie.Need-returns
 unfolding waitFor
-returns c = c .blocked .ensures ∙ rw (c .before .wake-of .ensures)
+returns c = λ s h. c .blocked .ensures s h ∙ rw (c .before .wake-of .ensures, same-tick _ s h)
 
 pub wait-for-spec : {M : Type 1} → statement M
 wait-for-spec = tie.close (tie.spec wake-of-requires blocked-requires returns)

@@ -1,10 +1,9 @@
 use borrow.Author.Needs.{needs}
-use Rattle.kernel.proofs.Within.{first-within}
-use Rattle.kernel.specs.Types.{WaitersOf}
-use Rattle.lists.proofs.Loops.{length-mapped}
-use lib.ListN.{length}
-use mathlib.Core.Path.{_≡_, sym, _∙_}
+use mathlib.Core.Path.{sym, _∙_}
 use native.Mathlib.Omega.{arith}
+use Rattle.rules.proofs.Within.{first-within}
+use Rattle.kernel.specs.Stands.{shown}
+use Rattle.slots.specs.declared.Who.the-variants.{WaitersOf}
 use Rattle.kernel.proofs.Kernel.waiter.Statement.{statement}
 use Rattle.kernel.proofs.Kernel.waiter.Tie as tie
 
@@ -12,9 +11,11 @@ first-requires : tie.Need-first-requires
 first-requires c κs = search needs
 
 returns : tie.Need-returns
-returns c =
-    let lt : length (c .before .args .self .tasks) ≡ 16 = search length-mapped in
-    (c .first .ensures, λ t e. let v = first-within (c .before .args .self) (WaitersOf (c .before .args .o)) t (sym (c .first .ensures) ∙ e) in omega arith)
+returns c = (λ s h. c .first .ensures s h,
+    λ t e.
+    let k = shown (c .before .args .self) in
+    let w = first-within k (WaitersOf (c .before .args .o)) t (sym (c .first .ensures k (c .before .pre .stands)) ∙ e) in
+    omega (arith, w, c .before .pre .steady .task-slots))
 
 pub waiter-spec : {M : Type 1} → statement M
 waiter-spec = tie.close (tie.spec first-requires returns)

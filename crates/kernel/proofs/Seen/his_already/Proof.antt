@@ -1,5 +1,5 @@
 use borrow.Author.Needs.{needs}
-use Rattle.kernel.specs.Refusals.{hisAlready}
+use Rattle.rules.specs.Refusals.{hisAlready}
 use mathlib.Core.Path.{_∙_}
 use Rattle.kernel.proofs.Seen.his_already.Statement.{statement}
 use Rattle.kernel.proofs.Seen.his_already.Tie as tie

@@ -1,5 +1,5 @@
 use borrow.Author.Needs.{needs}
-use Rattle.kernel.specs.Refusals.{mustWait}
+use Rattle.rules.specs.Refusals.{mustWait}
 use mathlib.Core.Path.{_∙_}
 use Rattle.kernel.proofs.Seen.must_wait.Statement.{statement}
 use Rattle.kernel.proofs.Seen.must_wait.Tie as tie

@@ -1,5 +1,5 @@
 use borrow.Author.Needs.{needs}
-use Rattle.kernel.specs.Refusals.{namesNone}
+use Rattle.rules.specs.Refusals.{namesNone}
 use Rattle.kernel.proofs.Seen.names_none.Statement.{statement}
 use Rattle.kernel.proofs.Seen.names_none.Tie as tie
 

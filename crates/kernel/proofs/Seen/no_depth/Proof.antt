@@ -1,5 +1,5 @@
 use borrow.Author.Needs.{needs}
-use Rattle.kernel.specs.Refusals.{noDepth}
+use Rattle.rules.specs.Refusals.{noDepth}
 use mathlib.Core.Path.{_∙_}
 use Rattle.kernel.proofs.Seen.no_depth.Statement.{statement}
 use Rattle.kernel.proofs.Seen.no_depth.Tie as tie

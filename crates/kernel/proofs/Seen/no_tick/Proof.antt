@@ -1,5 +1,5 @@
 use borrow.Author.Needs.{needs}
-use Rattle.kernel.specs.Refusals.{noTick}
+use Rattle.rules.specs.Refusals.{noTick}
 use mathlib.Core.Path.{_∙_}
 use Rattle.kernel.proofs.Seen.no_tick.Statement.{statement}
 use Rattle.kernel.proofs.Seen.no_tick.Tie as tie

@@ -1,5 +1,5 @@
 use borrow.Author.Needs.{needs}
-use Rattle.kernel.specs.Refusals.{notForIdle}
+use Rattle.rules.specs.Refusals.{notForIdle}
 use mathlib.Core.Path.{_∙_}
 use Rattle.kernel.proofs.Seen.not_for_idle.Statement.{statement}
 use Rattle.kernel.proofs.Seen.not_for_idle.Tie as tie

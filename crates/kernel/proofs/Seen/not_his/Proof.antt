@@ -1,5 +1,5 @@
 use borrow.Author.Needs.{needs}
-use Rattle.kernel.specs.Refusals.{notHis}
+use Rattle.rules.specs.Refusals.{notHis}
 use mathlib.Core.Path.{_∙_}
 use Rattle.kernel.proofs.Seen.not_his.Statement.{statement}
 use Rattle.kernel.proofs.Seen.not_his.Tie as tie

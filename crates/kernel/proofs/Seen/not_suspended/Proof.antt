@@ -1,5 +1,5 @@
 use borrow.Author.Needs.{needs}
-use Rattle.kernel.specs.Refusals.{notSuspended}
+use Rattle.rules.specs.Refusals.{notSuspended}
 use mathlib.Core.Path.{_∙_}
 use Rattle.kernel.proofs.Seen.not_suspended.Statement.{statement}
 use Rattle.kernel.proofs.Seen.not_suspended.Tie as tie

@@ -1,5 +1,5 @@
 use borrow.Author.Needs.{needs}
-use Rattle.kernel.specs.Refusals.{notWithHold}
+use Rattle.rules.specs.Refusals.{notWithHold}
 use mathlib.Core.Path.{_∙_}
 use Rattle.kernel.proofs.Seen.not_with_hold.Statement.{statement}
 use Rattle.kernel.proofs.Seen.not_with_hold.Tie as tie

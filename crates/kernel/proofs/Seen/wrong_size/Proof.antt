@@ -1,5 +1,5 @@
 use borrow.Author.Needs.{needs}
-use Rattle.kernel.specs.Refusals.{wrongSize}
+use Rattle.rules.specs.Refusals.{wrongSize}
 use mathlib.Core.Path.{_∙_}
 use Rattle.kernel.proofs.Seen.wrong_size.Statement.{statement}
 use Rattle.kernel.proofs.Seen.wrong_size.Tie as tie

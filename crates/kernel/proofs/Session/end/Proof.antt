@@ -1,5 +1,4 @@
 use borrow.Author.Needs.{needs}
-use Rattle.kernel.proofs.Sessions.{none-left, last-told}
 use Rattle.kernel.proofs.Session.end.Statement.{statement}
 use Rattle.kernel.proofs.Session.end.Tie as tie
 
@@ -10,13 +9,16 @@ either-requires : tie.Need-either-requires
 either-requires c κs = search needs
 
 returns : tie.Need-returns
-returns c = none-left (c .before .before .before .before .before .before .args .self .kernel) (c .before .before .before .before .before .before .args .store .now) (c .before .before .before .before .before .before .args .self .cut) (c .before .before .before .before .before .before .args .out .now) (c .before .before .is-empty .result) (c .before .either .result) (c .before .before .is-empty .ensures) (c .before .either .ensures) (c .if1 .taken)
+returns c = ?
 
 sound-requires : tie.Need-sound-requires
 sound-requires c κs = search needs
 
 line-refusal-requires : tie.Need-line-refusal-requires
 line-refusal-requires c κs = search needs
+
+of-slot-requires : tie.Need-of-slot-requires
+of-slot-requires c κs = search needs
 
 put-answer-requires : tie.Need-put-answer-requires
 put-answer-requires c κs = search needs
@@ -25,10 +27,7 @@ same-length : tie.Need-same-length
 same-length c = search needs
 
 returns-2 : tie.Need-returns-2
-returns-2 c =
-    let a = c .before .before .before .before .before .before .before .before .before .before .before .before .before .args in
-    last-told (a .self .kernel) (a .store .now) (a .self .cut) (a .out .now) (c .before .before .before .before .before .before .before .before .before .is-empty .result) (c .before .before .before .before .before .before .before .before .either .result) (c .before .before .before .before .before .before .sound .result) (c .before .before .before .before .before .line-refusal .result) (c .before .before .before .put-answer .result) (c .before .before .before .put-answer .last .0)
-    (c .before .before .before .before .before .before .before .before .before .is-empty .ensures) (c .before .before .before .before .before .before .before .before .either .ensures) (c .before .before .before .before .before .before .before .if1 .left) (c .before .before .before .before .before .before .sound .ensures) (c .before .before .before .before .before .line-refusal .ensures) (c .before .before .before .put-answer .ensures)
+returns-2 c = ?
 
 pub end-spec : {M : Type 1} → statement M
 end-spec =
@@ -39,6 +38,7 @@ end-spec =
     returns
     sound-requires
     line-refusal-requires
+    of-slot-requires
     put-answer-requires
     same-length
     returns-2)

@@ -1,5 +1,4 @@
 use borrow.Author.Needs.{needs}
-use Rattle.kernel.specs.Session.{newSession}
 use Rattle.kernel.proofs.Session.fresh.Statement.{statement}
 use Rattle.kernel.proofs.Session.fresh.Tie as tie
 
@@ -10,8 +9,7 @@ none-requires : tie.Need-none-requires
 none-requires c κs = search needs
 
 returns : tie.Need-returns
-unfolding newSession
-returns c = rw (c .before .fresh .ensures, c .none .ensures)
+returns c = ?
 
 pub fresh-spec : {M : Type 1} → statement M
 fresh-spec = tie.close (tie.spec fresh-requires none-requires returns)

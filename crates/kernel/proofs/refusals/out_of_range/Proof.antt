@@ -1,5 +1,5 @@
 use Prim.Native.Nat.{_*_, _≤_}
-use Rattle.kernel.specs.Refusals.{outOfRange}
+use Rattle.rules.specs.Refusals.{outOfRange}
 use borrow.Author.Tests.{lt-ltb, le-ltb, le-leb, lt-leb}
 use native.Mathlib.Nat.{mul-le-mul}
 use native.Mathlib.Omega.{arith}

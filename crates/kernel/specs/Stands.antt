@@ -1,0 +1,43 @@
+-- Which kernel value stands for a state, and which state a kernel value stands for.
+use mathlib.Core.Bool.{Bool, _&&_}
+use mathlib.Core.List.{[]}
+use Rattle.lists.specs.Choice.{if_then_else_}
+use Rattle.tasks.specs.Rows.{tasksOf, rowsOf as taskRows}
+use Rattle.tasks.specs.Known.{canonical as plainTasks}
+use Rattle.objects.specs.Rows.{objectsOf, rowsOf as objectRows, canonical as plainObjects}
+use Rattle.rules.specs.State.{State, Seen as WhatIsSeen, Outlet as WhereTo, toWaiter, toQueue, toCaller}
+use Rattle.rules.specs.Sound.{sound}
+use Rattle.kernel.specs.Types.{Kernel, Seen, Outlet, Waiter, InRing, Caller}
+
+-- the kernel value that stands for a state
+unfoldable pub kernelOf : State → Kernel
+kernelOf s = record { tasks = tasksOf (s .tasks); objects = objectsOf (s .objects); order = s .order; running = s .running; tick = s .tick; hold = s .hold; pended = s .pended }
+
+-- "a number that a state does not use is 0"
+unfoldable pub plain : Kernel → Bool
+plain k = plainTasks (k .tasks) && plainObjects (k .objects)
+
+-- what its tables read as
+abbrev pub rows : Kernel → State
+rows k = record { tasks = taskRows (k .tasks); objects = objectRows (k .objects); order = k .order; running = k .running; tick = k .tick; hold = k .hold; pended = k .pended }
+
+-- no tables at all, which no sound state has
+abbrev pub none : Kernel → State
+none k = record { tasks = []; objects = []; order = k .order; running = k .running; tick = k .tick; hold = k .hold; pended = k .pended }
+
+-- the state that a kernel value stands for. Where an unused number is not 0, it stands for none, and what is shown is not sound
+unfoldable pub shown : Kernel → State
+shown k = if plain k then rows k else none k
+
+-- the kernel value afterwards: that of the state s, where the one that came is sound; else the one that came
+abbrev pub standing : Kernel → State → Kernel
+standing k s = if sound (shown k) then kernelOf s else k
+
+-- the rules' words for what the code has seen, and for where an item goes
+abbrev pub seenOf : Seen → WhatIsSeen
+seenOf x = record { place = x .place; kind = x .kind; running = x .running; hold = x .hold; pended = x .pended }
+
+abbrev pub outletOf : Outlet → WhereTo
+outletOf (Waiter t) = toWaiter t
+outletOf InRing = toQueue
+outletOf Caller = toCaller

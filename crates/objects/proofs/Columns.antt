@@ -1,0 +1,124 @@
+-- The columns and the list of objects that they stand for.
+use Prim.Native.Nat.{ℕ, zero, suc, _+_, _<_, _≤_}
+use mathlib.Core.Path.{_≡_, refl, sym, ap, _∙_}
+use mathlib.Core.Bool.{Bool, true, false, _&&_}
+use mathlib.Core.List.{List, [], _∷_, map}
+use native.Mathlib.Nat.{not-suc-le-zero, le-of-suc-le-suc}
+use native.Mathlib.Omega.{arith}
+use lib.Dec.{eqb, leb}
+use lib.ListN.{length, getD, set, length-map, List·getD-map, List·getD-eq-default}
+use lib.Seq.{set-out, ext-getD}
+use borrow.Author.Tests.{ne-eqb, le-leb}
+use Rattle.slots.proofs.Maps.{map-set}
+use Rattle.numbers.specs.declared.TaskSlot.{TaskSlot}
+use Rattle.numbers.specs.Numbers.{task}
+use Rattle.slots.specs.declared.Holder.the-variants.{Nobody, By}
+use Rattle.slots.specs.declared.Kind.{Kind}
+use Rattle.slots.specs.declared.Kind.the-variants.{Unused, Queue, Mutex}
+use Rattle.slots.specs.declared.Object.{Object}
+use Rattle.slots.specs.Objects.{unused, isUnused, heldBy}
+use Rattle.objects.specs.declared.Cells.{Cells}
+use Rattle.objects.specs.declared.Objects.{Objects}
+use Rattle.objects.specs.Rows.{cellsOf, kindOf, objectsOf, putKind, kindIn, rowsFrom, rowsOf}
+
+-- the numbers of a kind say it
+pub kind-back : (k : Kind) → kindOf (cellsOf k) ≡ k
+unfolding kindOf
+kind-back Unused = refl
+kind-back (Queue q) = refl
+kind-back (Mutex Nobody) = refl
+kind-back (Mutex (By t)) = refl
+
+module _ (xs : List Object) (n : ℕ) where
+  number : (f : Cells → ℕ) → getD (map (λ (x : Object). f (cellsOf (x .kind))) xs) n (f (cellsOf Unused)) ≡ f (cellsOf (getD xs n unused .kind))
+  number f = List·getD-map (λ (x : Object). f (cellsOf (x .kind))) xs n unused
+
+  -- a row of the columns that stand for a list is the list's element
+  pub kind-of : kindIn (objectsOf xs) n ≡ getD xs n unused .kind
+  unfolding kindIn objectsOf
+  kind-of =
+      rw (number (λ c. c .state), number (λ c. c .capacity), number (λ c. c .size), number (λ c. c .first), number (λ c. c .count), number (λ c. c .holder)) (kind-back (getD xs n unused .kind))
+
+  stored : (k : Kind) (f : Cells → ℕ) → set (map (λ (x : Object). f (cellsOf (x .kind))) xs) n (f (cellsOf k)) ≡ map (λ (x : Object). f (cellsOf (x .kind))) (set xs n (record { kind = k }))
+  stored k f = map-set (λ (x : Object). f (cellsOf (x .kind))) xs n (record { kind = k })
+
+  -- a store to them is a store to the list
+  pub put-of : (k : Kind) → putKind (objectsOf xs) n k ≡ objectsOf (set xs n (record { kind = k }))
+  unfolding putKind objectsOf
+  put-of k =
+      rw (stored k (λ c. c .state), stored k (λ c. c .capacity), stored k (λ c. c .size), stored k (λ c. c .first), stored k (λ c. c .count), stored k (λ c. c .holder))
+
+-- each column has its sixteen numbers
+pub record Full (os : Objects) : Type 0 where
+  pub states : length (os .state) ≡ 16
+  pub capacities : length (os .capacity) ≡ 16
+  pub sizes : length (os .size) ≡ 16
+  pub firsts : length (os .first) ≡ 16
+  pub counts : length (os .count) ≡ 16
+  pub holders : length (os .holder) ≡ 16
+
+-- a number past the table names an unused slot, and what is stored there is lost
+module _ (os : Objects) (f : Full os) (n : ℕ) (h : 16 ≤ n) where
+  pub past-kind : kindIn os n ≡ Unused
+  unfolding kindIn kindOf
+  past-kind = rw (List·getD-eq-default (os .state) 0 {n = n} (omega arith))
+
+  pub lost-kind : (k : Kind) → putKind os n k ≡ os
+  unfolding putKind
+  lost-kind k =
+      rw (set-out (os .state) n (cellsOf k .state) (omega arith), set-out (os .capacity) n (cellsOf k .capacity) (omega arith), set-out (os .size) n (cellsOf k .size) (omega arith), set-out (os .first) n (cellsOf k .first) (omega arith), set-out (os .count) n (cellsOf k .count) (omega arith), set-out (os .holder) n (cellsOf k .holder) (omega arith))
+
+-- the list has sixteen objects, and each is its row
+pub rows-length : (os : Objects) (i n : ℕ) → length (rowsFrom os i n) ≡ n
+unfolding rowsFrom
+rows-length os i zero = refl
+rows-length os i (suc n) = ap suc (rows-length os (suc i) n)
+
+rows-at : (os : Objects) (i n j : ℕ) → j < n → getD (rowsFrom os i n) j unused .kind ≡ kindIn os (i + j)
+unfolding rowsFrom
+rows-at os i zero j h = absurd (not-suc-le-zero h)
+rows-at os i (suc n) zero h = ap (kindIn os) (omega arith)
+rows-at os i (suc n) (suc j) h = rows-at os (suc i) n j (le-of-suc-le-suc h) ∙ ap (kindIn os) (omega arith)
+
+pub row-at : (os : Objects) (n : ℕ) → n < length (os .state) → getD (rowsOf os) n unused .kind ≡ kindIn os n
+unfolding rowsOf
+row-at os n h = rows-at os 0 (length (os .state)) n h ∙ ap (kindIn os) (omega arith)
+
+pub rows-many : (os : Objects) → length (rowsOf os) ≡ length (os .state)
+unfolding rowsOf
+rows-many os = rows-length os 0 (length (os .state))
+
+-- the columns that stand for a list read as that list
+pub rows-of : (xs : List Object) → rowsOf (objectsOf xs) ≡ xs
+unfolding objectsOf
+rows-of xs = ext-getD unused (rowsOf (objectsOf xs)) xs long at
+  where
+    long : length (rowsOf (objectsOf xs)) ≡ length xs
+    long = rows-many (objectsOf xs) ∙ length-map xs (λ x. cellsOf (x .kind) .state)
+
+    at : (i : ℕ) → i < length (rowsOf (objectsOf xs)) → getD (rowsOf (objectsOf xs)) i unused ≡ getD xs i unused
+    at i h = λ j. record { kind = (row-at (objectsOf xs) i (rw (← rows-many (objectsOf xs)) h) ∙ kind-of xs i) j }
+
+-- the tests in numbers are those in words
+by-state : (P : ℕ → Type 0) → P 0 → P 1 → P 2 → ((s : ℕ) → 3 ≤ s → P s) → (s : ℕ) → P s
+by-state P a b c f zero = a
+by-state P a b c f (suc zero) = b
+by-state P a b c f (suc (suc zero)) = c
+by-state P a b c f (suc (suc (suc n))) = f (suc (suc (suc n))) (omega arith)
+
+abbrev of : Objects → ℕ → ℕ → Cells
+of os n s = record { state = s; capacity = getD (os .capacity) n 0; size = getD (os .size) n 0; first = getD (os .first) n 0; count = getD (os .count) n 0; holder = getD (os .holder) n 0 }
+
+held : (os : Objects) (n s : ℕ) → 3 ≤ s → kindOf (of os n s) ≡ Mutex (By (task (getD (os .holder) n 0)))
+unfolding kindOf
+held os n s h = rw (ne-eqb s 0 (λ e. omega arith), ne-eqb s 1 (λ e. omega arith), ne-eqb s 2 (λ e. omega arith))
+
+pub row-held : (os : Objects) (n : ℕ) (t : TaskSlot) → n < length (os .state) → heldBy t (getD (rowsOf os) n unused .kind) ≡ (leb 3 (getD (os .state) n 0) && eqb (getD (os .holder) n 0) (t .0))
+unfolding kindIn kindOf
+row-held os n t h =
+    rw (row-at os n h) (by-state (λ s. heldBy t (kindOf (of os n s)) ≡ (leb 3 s && eqb (getD (os .holder) n 0) (t .0))) refl refl refl (λ s l. rw (held os n s l, le-leb 3 s l)) (getD (os .state) n 0))
+
+pub row-unused : (os : Objects) (n : ℕ) → n < length (os .state) → isUnused (getD (rowsOf os) n unused .kind) ≡ eqb (getD (os .state) n 0) 0
+unfolding kindIn kindOf
+row-unused os n h =
+    rw (row-at os n h) (by-state (λ s. isUnused (kindOf (of os n s)) ≡ eqb s 0) refl refl refl (λ s l. rw (held os n s l, ne-eqb s 0 (λ e. omega arith))) (getD (os .state) n 0))

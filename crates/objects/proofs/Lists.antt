@@ -1,0 +1,24 @@
+-- Each walk of the columns that stand for a list is the walk of the list.
+use Prim.Native.Nat.{ℕ}
+use mathlib.Core.Path.{_≡_}
+use mathlib.Core.List.{List}
+use Rattle.lists.specs.Lists.{any, index}
+use Rattle.numbers.specs.declared.TaskSlot.{TaskSlot}
+use Rattle.numbers.specs.declared.ObjSlot.{ObjSlot}
+use Rattle.slots.specs.declared.Object.{Object}
+use Rattle.slots.specs.Objects.{kindAt, isUnused, heldBy}
+use Rattle.objects.specs.Rows.{objectsOf, kindIn, heldIn, unusedIn}
+use Rattle.objects.proofs.Columns.{kind-of, rows-of}
+
+-- a row says the kind of that slot
+pub object-of : (xs : List Object) (o : ObjSlot) → kindIn (objectsOf xs) (o .0) ≡ kindAt xs o
+unfolding kindAt
+object-of xs o = kind-of xs (o .0)
+
+pub holds-of : (xs : List Object) (t : TaskSlot) → heldIn (objectsOf xs) t ≡ any (λ (x : Object). heldBy t (x .kind)) xs
+unfolding heldIn
+holds-of xs t = rw (rows-of xs)
+
+pub free-of : (xs : List Object) → unusedIn (objectsOf xs) ≡ index (λ (x : Object). isUnused (x .kind)) xs
+unfolding unusedIn
+free-of xs = rw (rows-of xs)

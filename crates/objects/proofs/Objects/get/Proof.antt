@@ -1,0 +1,31 @@
+use borrow.Author.Needs.{needs}
+use Rattle.objects.proofs.Columns.{Full, past-kind}
+use Rattle.objects.specs.Rows.{kindIn}
+use mathlib.Core.Path.{sym, _∙_}
+use native.Mathlib.Omega.{arith}
+use Rattle.objects.proofs.Objects.get.Statement.{statement}
+use Rattle.objects.proofs.Objects.get.Tie as tie
+
+returns : tie.Need-returns
+unfolding kindIn
+returns c = c .kind .ensures ∙ rw (c .before .before .before .before .before .before .before .before .slot .ensures)
+
+returns-2 : tie.Need-returns-2
+returns-2 c =
+    let f : Full (c .before .before .args .t1) = search needs in
+    sym (past-kind (c .before .before .args .t1) f (c .before .before .args .o .0) (omega arith))
+
+pub get-spec : {M : Type 1} → statement M
+get-spec =
+    tie.close
+    (tie.spec
+    (λ c κs. search needs)
+    (λ c. search needs)
+    (λ c. search needs)
+    (λ c. search needs)
+    (λ c. search needs)
+    (λ c. search needs)
+    (λ c. search needs)
+    (λ c κs. search needs)
+    returns
+    returns-2)

@@ -1,0 +1,31 @@
+use borrow.Author.Needs.{needs}
+use Rattle.objects.proofs.Columns.{Full, lost-kind}
+use Rattle.objects.specs.Rows.{putKind}
+use mathlib.Core.Path.{sym}
+use native.Mathlib.Omega.{arith}
+use Rattle.objects.proofs.Objects.set.Statement.{statement}
+use Rattle.objects.proofs.Objects.set.Tie as tie
+
+returns : tie.Need-returns
+unfolding putKind
+returns c = rw (c .before .of .ensures, c .before .before .slot .ensures)
+
+returns-2 : tie.Need-returns-2
+returns-2 c =
+    let f : Full (c .before .before .before .args .t1) = search needs in
+    sym (lost-kind (c .before .before .before .args .t1) f (c .before .before .before .args .o .0) (omega arith) (c .before .before .before .args .k))
+
+pub set-spec : {M : Type 1} → statement M
+set-spec =
+    tie.close
+    (tie.spec
+    (λ c κs. search needs)
+    (λ c κs. search needs)
+    (λ c. search needs)
+    (λ c. search needs)
+    (λ c. search needs)
+    (λ c. search needs)
+    (λ c. search needs)
+    (λ c. search needs)
+    returns
+    returns-2)

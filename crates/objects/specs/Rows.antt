@@ -1,0 +1,103 @@
+-- The table of objects as a list, in the words of the rules; and as the columns that stand for it.
+use Prim.Native.Nat.{ℕ, zero, suc}
+use mathlib.Core.Bool.{Bool, _&&_, _||_}
+use mathlib.Core.List.{List, [], _∷_, map}
+use lib.Dec.{eqb, leb}
+use lib.ListN.{length, getD, set}
+use Rattle.lists.specs.Choice.{if_then_else_}
+use Rattle.lists.specs.Lists.{any, index, allBelow}
+use Rattle.numbers.specs.Numbers.{task}
+use Rattle.numbers.specs.declared.TaskSlot.{TaskSlot}
+use Rattle.slots.specs.declared.Holder.the-variants.{Nobody, By}
+use Rattle.slots.specs.declared.Kind.{Kind}
+use Rattle.slots.specs.declared.Kind.the-variants.{Unused, Queue, Mutex}
+use Rattle.slots.specs.declared.Object.{Object}
+use Rattle.slots.specs.Objects.{isUnused, heldBy}
+use Rattle.objects.specs.declared.Cells.{Cells}
+use Rattle.objects.specs.declared.Objects.{Objects}
+
+abbrev pub bare : ℕ → ℕ → Cells
+bare s h = record { state = s; capacity = 0; size = 0; first = 0; count = 0; holder = h }
+
+-- an object in numbers: "a number that a state does not use is 0"
+abbrev pub cellsOf : Kind → Cells
+cellsOf Unused = bare 0 0
+cellsOf (Queue q) = record { state = 1; capacity = q .capacity; size = q .size; first = q .first; count = q .count; holder = 0 }
+cellsOf (Mutex Nobody) = bare 2 0
+cellsOf (Mutex (By t)) = bare 3 (t .0)
+
+-- and back
+unfoldable pub kindOf : Cells → Kind
+kindOf c =
+    if eqb (c .state) 0 then Unused
+    else if eqb (c .state) 1 then Queue (record { capacity = c .capacity; size = c .size; first = c .first; count = c .count })
+    else if eqb (c .state) 2 then Mutex Nobody
+    else Mutex (By (task (c .holder)))
+
+-- the columns that stand for a list of objects
+unfoldable pub objectsOf : List Object → Objects
+objectsOf xs =
+    record {
+      state = map (λ (x : Object). cellsOf (x .kind) .state) xs;
+      capacity = map (λ (x : Object). cellsOf (x .kind) .capacity) xs;
+      size = map (λ (x : Object). cellsOf (x .kind) .size) xs;
+      first = map (λ (x : Object). cellsOf (x .kind) .first) xs;
+      count = map (λ (x : Object). cellsOf (x .kind) .count) xs;
+      holder = map (λ (x : Object). cellsOf (x .kind) .holder) xs;
+    }
+
+-- the columns with the row `n` changed
+unfoldable pub putKind : Objects → ℕ → Kind → Objects
+putKind os n k =
+    record {
+      state = set (os .state) n (cellsOf k .state);
+      capacity = set (os .capacity) n (cellsOf k .capacity);
+      size = set (os .size) n (cellsOf k .size);
+      first = set (os .first) n (cellsOf k .first);
+      count = set (os .count) n (cellsOf k .count);
+      holder = set (os .holder) n (cellsOf k .holder);
+    }
+
+-- the numbers of the row `n`, and the kind that they say
+abbrev pub cellsAt : Objects → ℕ → Cells
+cellsAt os n =
+    record {
+      state = getD (os .state) n 0;
+      capacity = getD (os .capacity) n 0;
+      size = getD (os .size) n 0;
+      first = getD (os .first) n 0;
+      count = getD (os .count) n 0;
+      holder = getD (os .holder) n 0;
+    }
+
+unfoldable pub kindIn : Objects → ℕ → Kind
+kindIn os n = kindOf (cellsAt os n)
+
+-- the rows from `i` on, `n` of them; and the table as a list
+unfoldable pub rowsFrom : Objects → ℕ → ℕ → List Object
+rowsFrom os i zero = []
+rowsFrom os i (suc n) = record { kind = kindIn os i } ∷ rowsFrom os (suc i) n
+
+unfoldable pub rowsOf : Objects → List Object
+rowsOf os = rowsFrom os 0 (length (os .state))
+
+-- the task holds a mutex
+unfoldable pub heldIn : Objects → TaskSlot → Bool
+heldIn os t = any (λ (x : Object). heldBy t (x .kind)) (rowsOf os)
+
+-- the lowest unused row; their number where there is none
+unfoldable pub unusedIn : Objects → ℕ
+unusedIn os = index (λ (x : Object). isUnused (x .kind)) (rowsOf os)
+
+-- "a number that a state does not use is 0"
+abbrev pub noRing : ℕ → ℕ → ℕ → ℕ → Bool
+noRing c z f k = eqb c 0 && (eqb z 0 && (eqb f 0 && eqb k 0))
+
+abbrev pub known : Cells → Bool
+known c =
+    leb (c .state) 3
+    && ((eqb (c .state) 1 || noRing (c .capacity) (c .size) (c .first) (c .count))
+    && (eqb (c .state) 3 || eqb (c .holder) 0))
+
+unfoldable pub canonical : Objects → Bool
+canonical os = allBelow 16 (λ i. known (cellsAt os i))

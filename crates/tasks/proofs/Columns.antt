@@ -1,0 +1,93 @@
+-- The columns and the list of tasks that they stand for.
+use Prim.Native.Nat.{ℕ, zero, suc, _+_, _<_, _≤_}
+use mathlib.Core.Path.{_≡_, refl, sym, ap, _∙_}
+use mathlib.Core.Bool.{true, false}
+use mathlib.Core.List.{List, [], _∷_, map}
+use native.Mathlib.Nat.{not-suc-le-zero, le-of-suc-le-suc}
+use native.Mathlib.Omega.{arith}
+use lib.ListN.{length, getD, set, length-map, List·getD-map, List·getD-eq-default}
+use lib.Seq.{set-out, ext-getD}
+use borrow.Author.Tests.{ne-eqb}
+use Rattle.slots.proofs.Maps.{map-set}
+use Rattle.slots.specs.declared.Wake.the-variants.{Never, At}
+use Rattle.slots.specs.declared.Place.{Place}
+use Rattle.slots.specs.declared.Place.the-variants.{Free, Ready, Delayed, Waiting, Suspended}
+use Rattle.slots.specs.declared.Task.{Task}
+use Rattle.slots.specs.Tasks.{freeTask}
+use Rattle.tasks.specs.declared.Tasks.{Tasks}
+use Rattle.tasks.specs.Cells.{cells, cellsOf, placeOf}
+use Rattle.tasks.specs.Rows.{stateOf, objectOf, wakeOf, tasksOf, put, rowAt, rowsFrom, rowsOf}
+
+-- the numbers of a place say it
+pub place-back : (p : Place) → placeOf (cellsOf p) ≡ p
+unfolding placeOf
+place-back Free = refl
+place-back Ready = refl
+place-back (Delayed w) = refl
+place-back (Waiting o (At w)) = refl
+place-back (Waiting o Never) = refl
+place-back Suspended = refl
+
+-- a row of the columns that stand for a list is the list's element
+pub row-of : (xs : List Task) (n : ℕ) → rowAt (tasksOf xs) n ≡ getD xs n freeTask
+unfolding rowAt tasksOf
+row-of xs n =
+    rw (List·getD-map stateOf xs n freeTask, List·getD-map objectOf xs n freeTask, List·getD-map wakeOf xs n freeTask, List·getD-map (λ (x : Task). x .own) xs n freeTask, List·getD-map (λ (x : Task). x .effective) xs n freeTask, List·getD-map (λ (x : Task). x .outcome) xs n freeTask, place-back (getD xs n freeTask .place))
+
+-- a store to them is a store to the list
+pub put-of : (xs : List Task) (n : ℕ) (x : Task) → put (tasksOf xs) n x ≡ tasksOf (set xs n x)
+unfolding put tasksOf
+put-of xs n x =
+    rw (map-set stateOf xs n x, map-set objectOf xs n x, map-set wakeOf xs n x, map-set (λ (y : Task). y .own) xs n x, map-set (λ (y : Task). y .effective) xs n x, map-set (λ (y : Task). y .outcome) xs n x)
+
+-- each column has its sixteen numbers
+pub record Full (ts : Tasks) : Type 0 where
+  pub states : length (ts .state) ≡ 16
+  pub objects : length (ts .object) ≡ 16
+  pub wakes : length (ts .wake) ≡ 16
+  pub owns : length (ts .own) ≡ 16
+  pub effectives : length (ts .effective) ≡ 16
+  pub outcomes : length (ts .outcome) ≡ 16
+
+-- a number past the table names a free slot, and what is stored there is lost
+module _ (ts : Tasks) (f : Full ts) (n : ℕ) (h : 16 ≤ n) where
+  pub past-row : rowAt ts n ≡ freeTask
+  unfolding rowAt placeOf
+  past-row =
+      rw (List·getD-eq-default (ts .state) 0 {n = n} (omega arith), List·getD-eq-default (ts .own) 0 {n = n} (omega arith), List·getD-eq-default (ts .effective) 0 {n = n} (omega arith), List·getD-eq-default (ts .outcome) 0 {n = n} (omega arith))
+
+  pub lost-row : (x : Task) → put ts n x ≡ ts
+  unfolding put
+  lost-row x =
+      rw (set-out (ts .state) n (stateOf x) (omega arith), set-out (ts .object) n (objectOf x) (omega arith), set-out (ts .wake) n (wakeOf x) (omega arith), set-out (ts .own) n (x .own) (omega arith), set-out (ts .effective) n (x .effective) (omega arith), set-out (ts .outcome) n (x .outcome) (omega arith))
+
+-- the list has sixteen tasks, and each is its row
+pub rows-length : (ts : Tasks) (i n : ℕ) → length (rowsFrom ts i n) ≡ n
+unfolding rowsFrom
+rows-length ts i zero = refl
+rows-length ts i (suc n) = ap suc (rows-length ts (suc i) n)
+
+rows-at : (ts : Tasks) (i n j : ℕ) → j < n → getD (rowsFrom ts i n) j freeTask ≡ rowAt ts (i + j)
+unfolding rowsFrom
+rows-at ts i zero j h = absurd (not-suc-le-zero h)
+rows-at ts i (suc n) zero h = ap (rowAt ts) (omega arith)
+rows-at ts i (suc n) (suc j) h = rows-at ts (suc i) n j (le-of-suc-le-suc h) ∙ ap (rowAt ts) (omega arith)
+
+pub row-at : (ts : Tasks) (n : ℕ) → n < length (ts .state) → getD (rowsOf ts) n freeTask ≡ rowAt ts n
+unfolding rowsOf
+row-at ts n h = rows-at ts 0 (length (ts .state)) n h ∙ ap (rowAt ts) (omega arith)
+
+pub rows-many : (ts : Tasks) → length (rowsOf ts) ≡ length (ts .state)
+unfolding rowsOf
+rows-many ts = rows-length ts 0 (length (ts .state))
+
+-- the columns that stand for a list read as that list
+pub rows-of : (xs : List Task) → rowsOf (tasksOf xs) ≡ xs
+unfolding tasksOf
+rows-of xs = ext-getD freeTask (rowsOf (tasksOf xs)) xs long at
+  where
+    long : length (rowsOf (tasksOf xs)) ≡ length xs
+    long = rows-many (tasksOf xs) ∙ length-map xs stateOf
+
+    at : (i : ℕ) → i < length (rowsOf (tasksOf xs)) → getD (rowsOf (tasksOf xs)) i freeTask ≡ getD xs i freeTask
+    at i h = row-at (tasksOf xs) i (rw (← rows-many (tasksOf xs)) h) ∙ row-of xs i

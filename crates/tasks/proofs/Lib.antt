@@ -1,0 +1,5 @@
+pub mod Columns
+pub mod Tests
+pub mod Turns
+pub mod Lists
+pub mod Tables

@@ -1,0 +1,33 @@
+use borrow.Author.Needs.{needs}
+use Rattle.tasks.proofs.Columns.{Full, past-row}
+use Rattle.tasks.specs.Rows.{rowAt}
+use mathlib.Core.Path.{sym, _∙_}
+use native.Mathlib.Omega.{arith}
+use Rattle.tasks.proofs.Tasks.get.Statement.{statement}
+use Rattle.tasks.proofs.Tasks.get.Tie as tie
+
+returns : tie.Need-returns
+unfolding rowAt
+returns c = rw (c .before .before .before .place .ensures, c .before .before .before .before .before .before .before .before .slot .ensures)
+
+returns-2 : tie.Need-returns-2
+returns-2 c =
+    let f : Full (c .before .before .before .args .t1) = search needs in
+    c .free .ensures ∙ sym (past-row (c .before .before .before .args .t1) f (c .before .before .before .args .t .0) (omega arith))
+
+pub get-spec : {M : Type 1} → statement M
+get-spec =
+    tie.close
+    (tie.spec
+    (λ c κs. search needs)
+    (λ c. search needs)
+    (λ c. search needs)
+    (λ c. search needs)
+    (λ c. search needs)
+    (λ c κs. search needs)
+    (λ c. search needs)
+    (λ c. search needs)
+    (λ c. search needs)
+    (λ c κs. search needs)
+    returns
+    returns-2)

@@ -1,0 +1,32 @@
+use borrow.Author.Needs.{needs}
+use Rattle.tasks.proofs.Columns.{Full, lost-row}
+use Rattle.tasks.specs.Rows.{put}
+use mathlib.Core.Path.{sym}
+use native.Mathlib.Omega.{arith}
+use Rattle.tasks.proofs.Tasks.set.Statement.{statement}
+use Rattle.tasks.proofs.Tasks.set.Tie as tie
+
+returns : tie.Need-returns
+unfolding put
+returns c = rw (c .before .of .ensures, c .before .before .slot .ensures)
+
+returns-2 : tie.Need-returns-2
+returns-2 c =
+    let f : Full (c .before .before .before .args .t1) = search needs in
+    sym (lost-row (c .before .before .before .args .t1) f (c .before .before .before .args .t .0) (omega arith) (c .before .before .before .args .x))
+
+pub set-spec : {M : Type 1} → statement M
+set-spec =
+    tie.close
+    (tie.spec
+    (λ c κs. search needs)
+    (λ c κs. search needs)
+    (λ c. search needs)
+    (λ c. search needs)
+    (λ c. search needs)
+    (λ c. search needs)
+    (λ c. search needs)
+    (λ c. search needs)
+    (λ c. search needs)
+    returns
+    returns-2)

@@ -1,0 +1,23 @@
+-- "a number that a state does not use is 0".
+use Prim.Native.Nat.{ℕ}
+use mathlib.Core.Bool.{Bool, _&&_, _||_}
+use lib.Dec.{eqb, leb}
+use lib.ListN.{getD}
+use Rattle.lists.specs.Lists.{allBelow}
+use Rattle.tasks.specs.declared.Tasks.{Tasks}
+use Rattle.tasks.specs.Dues.{timed}
+
+-- the states that have an object
+abbrev pub waits : ℕ → Bool
+waits s = eqb s 3 || eqb s 4
+
+-- of a state and its object; of a state and its wake tick
+abbrev pub known : ℕ → ℕ → Bool
+known s o = leb s 5 && (waits s || eqb o 0)
+
+abbrev pub wakeKnown : ℕ → ℕ → Bool
+wakeKnown s w = timed s || eqb w 0
+
+-- of every row
+unfoldable pub canonical : Tasks → Bool
+canonical ts = allBelow 16 (λ i. known (getD (ts .state) i 0) (getD (ts .object) i 0) && wakeKnown (getD (ts .state) i 0) (getD (ts .wake) i 0))

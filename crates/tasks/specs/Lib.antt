@@ -1,0 +1,5 @@
+pub mod Cells
+pub mod Rows
+pub mod Walks
+pub mod Dues
+pub mod Known

@@ -1,0 +1,65 @@
+-- The table as a list of tasks, in the words of the rules; and as the columns that stand for it.
+use Prim.Native.Nat.{ℕ, zero, suc}
+use mathlib.Core.List.{List, [], _∷_, map}
+use lib.ListN.{length, getD, set}
+use Rattle.lists.specs.Lists.{index}
+use Rattle.slots.specs.declared.Task.{Task}
+use Rattle.slots.specs.Places.{isFree}
+use Rattle.tasks.specs.declared.Tasks.{Tasks}
+use Rattle.tasks.specs.Cells.{cells, cellsOf, placeOf}
+
+-- a task's numbers
+abbrev pub stateOf : Task → ℕ
+stateOf x = cellsOf (x .place) .state
+
+abbrev pub objectOf : Task → ℕ
+objectOf x = cellsOf (x .place) .object
+
+abbrev pub wakeOf : Task → ℕ
+wakeOf x = cellsOf (x .place) .wake
+
+-- the columns that stand for a list of tasks
+unfoldable pub tasksOf : List Task → Tasks
+tasksOf xs =
+    record {
+      state = map stateOf xs;
+      object = map objectOf xs;
+      wake = map wakeOf xs;
+      own = map (λ (x : Task). x .own) xs;
+      effective = map (λ (x : Task). x .effective) xs;
+      outcome = map (λ (x : Task). x .outcome) xs;
+    }
+
+-- the columns with the row `n` changed
+unfoldable pub put : Tasks → ℕ → Task → Tasks
+put ts n x =
+    record {
+      state = set (ts .state) n (stateOf x);
+      object = set (ts .object) n (objectOf x);
+      wake = set (ts .wake) n (wakeOf x);
+      own = set (ts .own) n (x .own);
+      effective = set (ts .effective) n (x .effective);
+      outcome = set (ts .outcome) n (x .outcome);
+    }
+
+-- the task that the row `n` says
+unfoldable pub rowAt : Tasks → ℕ → Task
+rowAt ts n =
+    record {
+      place = placeOf (cells (getD (ts .state) n 0) (getD (ts .object) n 0) (getD (ts .wake) n 0));
+      own = getD (ts .own) n 0;
+      effective = getD (ts .effective) n 0;
+      outcome = getD (ts .outcome) n 0;
+    }
+
+-- the rows from `i` on, `n` of them; and the table as a list
+unfoldable pub rowsFrom : Tasks → ℕ → ℕ → List Task
+rowsFrom ts i zero = []
+rowsFrom ts i (suc n) = rowAt ts i ∷ rowsFrom ts (suc i) n
+
+unfoldable pub rowsOf : Tasks → List Task
+rowsOf ts = rowsFrom ts 0 (length (ts .state))
+
+-- the lowest free row; their number where there is none
+unfoldable pub freeIn : Tasks → ℕ
+freeIn ts = index (λ (x : Task). isFree (x .place)) (rowsOf ts)

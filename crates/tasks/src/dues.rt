@@ -1,0 +1,83 @@
+// The wake ticks: how long until the next, and who is due.
+ghost use Prim.Native.Nat.{min};
+ghost use mathlib.Core.Path.{_≡_};
+ghost use mathlib.Core.Bool.{_&&_};
+ghost use lib.Dec.{eqb};
+ghost use Rattle.lists.specs.Choice.{if_then_else_};
+ghost use Rattle.numbers.specs.Numbers.{byNumber};
+ghost use Rattle.slots.specs.Places.{ahead};
+ghost use Rattle.tasks.specs.Dues.{timed, untilIn, wakesIn, woken};
+use crate::Tasks;
+use crate::Woken;
+use numbers::TaskSlot;
+use order::Order;
+
+fn lesser(a: u32, b: u32) -> u32
+    ensures { λ r. ⌜ r ≡ min a b ⌝ }
+{
+    if a < b { a } else { b }
+}
+
+// The state has a wake tick.
+fn timed(state: u8) -> bool
+    ensures { λ r. ⌜ r ≡ timed state ⌝ }
+{
+    lists::either(state == 2, state == 3)
+}
+
+fn away(state: u8, wake: u32, now: u32) -> u32
+    ensures { λ r. ⌜ r ≡ if timed state then ahead now wake else 4294967295 ⌝ }
+{
+    if timed(state) {
+        slots::places::ahead(now, wake)
+    } else {
+        4294967295
+    }
+}
+
+fn due(state: u8, wake: u32, now: u32) -> bool
+    ensures { λ r. ⌜ r ≡ (timed state && eqb wake now) ⌝ }
+{
+    lists::both(timed(state), wake == now)
+}
+
+// The outcome of a delay, or of a wait, that ends because it is due.
+fn ended(state: u8) -> u8
+    ensures { λ r. ⌜ r ≡ if eqb state 2 then 1 else 2 ⌝ }
+{
+    if state == 2 { 1 } else { 2 }
+}
+
+impl Tasks {
+    // How many ticks pass before the one on which a task is next due.
+    pub fn until_due(self, now: u32) -> u32
+        ensures { λ r. ⌜ r ≡ untilIn now self ⌝ }
+    {
+        let mut n = 4294967295u32;
+        let mut i = 0usize;
+        while i < 16 {
+            n = lesser(n, away(self.state[i], self.wake[i], now));
+            i += 1;
+        }
+        n
+    }
+
+    // The due are made ready, in order of task number.
+    pub fn wakes(mut self, o: Order, now: u32) -> Woken
+        ensures { λ r. ⌜ r ≡ wakesIn now (woken self o) (byNumber 16) ⌝ }
+    {
+        let mut order = o;
+        let mut i = 0usize;
+        while i < 16 {
+            if due(self.state[i], self.wake[i], now) {
+                self.outcome[i] = ended(self.state[i]);
+                self.state[i] = 1;
+                self.object[i] = 0;
+                self.wake[i] = 0;
+                order = order.to_tail(TaskSlot::of(i as u8));
+            }
+            i += 1;
+        }
+        Woken { tasks: self, order }
+    }
+}

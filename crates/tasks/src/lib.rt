@@ -1,0 +1,98 @@
+// The table of tasks: columns of plain numbers, which no other crate sees. A row goes in and comes out as a Task, in the words of the rules.
+ghost use mathlib.Core.Path.{_≡_};
+ghost use lib.ListN.{replicate};
+ghost use mathlib.Core.List.{_∷_};
+ghost use Rattle.slots.specs.Tasks.{freeTask, readyAt};
+ghost use Rattle.tasks.specs.Rows.{tasksOf, rowAt, put};
+use numbers::TaskSlot;
+use order::Order;
+use slots::Task;
+
+mod dues;
+mod numbering;
+mod walks;
+
+pub struct Tasks {
+    state: [u8; 16],
+    object: [u8; 16],
+    wake: [u32; 16],
+    own: [u8; 16],
+    effective: [u8; 16],
+    outcome: [u8; 16],
+}
+
+// What the wakes of a tick leave.
+pub struct Woken {
+    pub tasks: Tasks,
+    pub order: Order,
+}
+
+// What the columns say of one place. A number that a state does not use is 0.
+struct Cells {
+    state: u8,
+    object: u8,
+    wake: u32,
+}
+
+impl Tasks {
+    // Idle alone.
+    pub fn fresh() -> Tasks
+        ensures { λ r. ⌜ r ≡ tasksOf (readyAt 0 ∷ replicate 15 freeTask) ⌝ }
+    {
+        let mut state = [0u8; 16];
+        state[0] = 1;
+        let object = [0u8; 16];
+        let wake = [0u32; 16];
+        let own = [0u8; 16];
+        let effective = [0u8; 16];
+        let outcome = [0u8; 16];
+        Tasks {
+            state,
+            object,
+            wake,
+            own,
+            effective,
+            outcome,
+        }
+    }
+
+    // A number past the table names a free slot.
+    pub fn get(self, t: TaskSlot) -> Task
+        ensures { λ r. ⌜ r ≡ rowAt self (t .0) ⌝ }
+    {
+        let i = t.slot();
+        if i < 16 {
+            let cells = Cells {
+                state: self.state[i],
+                object: self.object[i],
+                wake: self.wake[i],
+            };
+            Task {
+                place: cells.place(),
+                own: self.own[i],
+                effective: self.effective[i],
+                outcome: self.outcome[i],
+            }
+        } else {
+            Task::free()
+        }
+    }
+
+    // What is stored past the table is lost.
+    pub fn set(mut self, t: TaskSlot, x: Task) -> Tasks
+        ensures { λ r. ⌜ r ≡ put self (t .0) x ⌝ }
+    {
+        let i = t.slot();
+        let p = x.place;
+        let cells = Cells::of(p);
+        if i < 16 {
+            self.state[i] = cells.state;
+            self.object[i] = cells.object;
+            self.wake[i] = cells.wake;
+            self.own[i] = x.own;
+            self.effective[i] = x.effective;
+            self.outcome[i] = x.outcome;
+        }
+        self
+    }
+}
