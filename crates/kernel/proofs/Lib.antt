@@ -3,3 +3,5 @@ pub mod Ends
 pub mod Jumping
 pub mod Rowed
 pub mod Stepped
+pub mod Shown
+pub mod Sessions

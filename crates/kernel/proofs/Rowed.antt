@@ -1,5 +1,5 @@
 -- What the rows that do not apply say of an accepted call, and of the kernel value.
-use Prim.Native.Nat.{ℕ, _≤_}
+use Prim.Native.Nat.{ℕ}
 use mathlib.Core.Path.{_≡_, ap, _∙_}
 use mathlib.Core.Bool.{true, false, _&&_}
 use lib.Dec.{eqb, ltb}
@@ -11,7 +11,7 @@ use Rattle.rules.specs.Asking.{makes, newSlot}
 use Rattle.rules.specs.Refusals.{sizeDiffers, firstRow, table, laterRow}
 use Rattle.rules.proofs.Passes.{Passed, passed, InRange, range, send-sized, hold-fits, release-fits, tick-fits}
 use Rattle.kernel.specs.Types.{Kernel, Seen}
-use Rattle.kernel.specs.Stands.{kernelOf, shown}
+use Rattle.kernel.specs.Stands.{shown}
 use Rattle.kernel.specs.Does.{Reads, Firm}
 use Rattle.kernel.specs.Rows.{Sees, rowsTwo}
 use Rattle.kernel.proofs.Stands.{same-hold, same-pended}

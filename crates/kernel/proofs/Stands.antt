@@ -1,8 +1,5 @@
 -- A kernel value that stands for a state has the state's order, caller and numbers.
-use Prim.Native.Nat.{ℕ}
 use mathlib.Core.Path.{_≡_, ap}
-use Rattle.numbers.specs.declared.TaskSlot.{TaskSlot}
-use Rattle.order.specs.declared.Order.{Order}
 use Rattle.rules.specs.State.{State}
 use Rattle.kernel.specs.Types.{Kernel}
 use Rattle.kernel.specs.Stands.{kernelOf}

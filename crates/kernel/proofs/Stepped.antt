@@ -4,7 +4,7 @@ use mathlib.Core.Path.{_≡_, refl, sym, ap, _∙_}
 use mathlib.Core.Bool.{Bool, true, false}
 use mathlib.Core.List.{List}
 use lib.ListN.{length}
-use borrow.Author.Tests.{eq-eqb, ne-eqb}
+use borrow.Author.Tests.{ne-eqb}
 use Rattle.lists.specs.Choice.{if_then_else_}
 use Rattle.numbers.specs.declared.TaskSlot.{TaskSlot}
 use Rattle.calls.specs.declared.Asked.{Asked}
@@ -13,8 +13,7 @@ use Rattle.calls.specs.declared.Answer.the-variants.{Refused}
 use Rattle.calls.specs.declared.Call.{Call}
 use Rattle.calls.specs.Asked.{asked}
 use Rattle.calls.specs.Door.{number}
-use Rattle.calls.specs.Said.{Saying, says, said, done, made, waiting}
-use Rattle.slots.specs.declared.Task.{Task}
+use Rattle.calls.specs.Said.{says, said, done, made, waiting}
 use Rattle.slots.specs.Places.{isBlocked}
 use Rattle.slots.specs.Tasks.{taskAt}
 use Rattle.rules.specs.State.{State}
@@ -23,13 +22,13 @@ use Rattle.rules.specs.Sound.{sound}
 use Rattle.rules.specs.Asking.{makes, newSlot}
 use Rattle.rules.specs.Refusals.{laterRow, refusal}
 use Rattle.rules.specs.Effects.{effect}
-use Rattle.rules.specs.Step.{stored, answered, accepted, turnedAway, steppedBy, step}
+use Rattle.rules.specs.Step.{stored, answered, accepted, step}
 use Rattle.rules.proofs.Chosen.{chosen-tasks}
 use Rattle.rules.proofs.Passes.{sound-steady}
 use Rattle.kernel.specs.Types.{Kernel, Step}
 use Rattle.kernel.specs.Stands.{kernelOf, shown, standing}
 use Rattle.kernel.specs.Does.{Reads, Does, answerOf, Firm}
-use Rattle.kernel.specs.Promises.{Is, SoundSteps, Steps}
+use Rattle.kernel.specs.Promises.{SoundSteps, Steps}
 use Rattle.kernel.proofs.Stands.{same-running}
 
 pub stands-on : (k : Kernel) (e : State) → sound (shown k) ≡ true → standing k e ≡ kernelOf e

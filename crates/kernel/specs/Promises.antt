@@ -28,21 +28,25 @@ SoundSteps k a item s r after = Is k (steppedBy (laterRow (shown k) a (length it
 abbrev pub Steps : Kernel → Call → List ℕ → List ℕ → Step → List ℕ → Type 0
 Steps k c item s r after = Is k (step (shown k) c item s) r after
 
--- what was served from the kernel value k, with the store s and the lent output o afterwards, is the session's run: the answers stand first in the output,
+-- what was served, with the kernel value k, the store s and the lent output o afterwards, is the session's run: the answers stand first in the output,
 -- and its other bytes stay
 pub record Ran (k : Kernel) (d : Run) (lent : List ℕ) (r : Served) (s o : List ℕ) : Type 0 where
-  pub kernel : r .session .kernel ≡ standing k (d .kernel)
+  pub kernel : r .session .kernel ≡ k
   pub cut : r .session .cut ≡ d .cut
   pub taken : r .taken ≡ d .taken
   pub written : r .written ≡ length (d .answers)
   pub store : s ≡ d .store
   pub output : o ≡ d .answers ++ drop (length (d .answers)) lent
 
+-- the run of a block
+abbrev pub ranOf : Session → List ℕ → List ℕ → List ℕ → Run
+ranOf n block s lent = run (length lent) (begun (shown (n .kernel)) s (n .cut)) block
+
 -- the promise of a block: every line that ends in it is answered, as far as the answers fit
 abbrev pub Answers : Session → List ℕ → List ℕ → List ℕ → Served → List ℕ → List ℕ → Type 0
-Answers n block s lent r after o = Ran (n .kernel) (run (length lent) (begun (shown (n .kernel)) s (n .cut)) block) lent r after o
+Answers n block s lent r after o = Ran (standing (n .kernel) (ranOf n block s lent .kernel)) (ranOf n block s lent) lent r after o
 
--- the promise of the input's end, which changes no store
+-- the promise of the input's end, which changes no kernel and no store
 abbrev pub Closes : Session → List ℕ → List ℕ → Served → List ℕ → Type 0
 Closes n s lent r o = Ran (n .kernel) (closed (length lent) (shown (n .kernel)) s (n .cut)) lent r s o
 

@@ -1,3 +1,4 @@
 pub mod Columns
 pub mod Tables
 pub mod Lists
+pub mod Plain

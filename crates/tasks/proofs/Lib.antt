@@ -3,3 +3,4 @@ pub mod Tests
 pub mod Turns
 pub mod Lists
 pub mod Tables
+pub mod Plain

@@ -1,11 +1,10 @@
 use borrow.Author.Needs.{needs}
-use Rattle.calls.specs.Asked.{asked}
-use Rattle.kernel.specs.Stands.{shown}
-use Rattle.rules.specs.Refusals.{laterRow}
-use lib.ListN.{length}
-use mathlib.Core.Path.{_≡_, _∙_}
+use mathlib.Core.Path.{refl, sym, _∙_, subst}
 use Rattle.kernel.proofs.Stepped.{firm, refused, done-so}
 use Rattle.kernel.proofs.Rowed.{row-of}
+use Rattle.kernel.specs.Stands.{shown}
+use Rattle.kernel.specs.Promises.{SoundSteps}
+use Rattle.calls.specs.declared.Asked.{Asked}
 use Rattle.kernel.proofs.Kernel.step_sound.Statement.{statement}
 use Rattle.kernel.proofs.Kernel.step_sound.Tie as tie
 
@@ -21,24 +20,33 @@ row-requires c κs = search needs
 returns : tie.Need-returns
 returns c =
     let o = c .before .before .before .before .before .before in
-    let k = shown (o .args .self) in
-    let no : c .before .row .result ≡ laterRow k (asked (o .args .call)) (length (o .args .item .now)) (length (o .args .store .now)) = rw (← c .before .before .before .asked .ensures) (c .before .row .ensures ∙ row-of _ _ (c .before .before .seen .ensures k (o .pre .1))) in
-    refused (o .args .self) (o .pre .0) (o .pre .1) (asked (o .args .call)) (o .args .item .now) (o .args .store .now) (c .before .row .result) no (c .if1 .taken)
+    let k = o .args .self in
+    subst (λ (x : Asked). SoundSteps k x (o .args .item .now) (o .args .store .now) _ (o .args .store .now)) (c .before .before .before .asked .ensures)
+    (refused k (o .pre .0) (o .pre .1) (c .before .before .before .asked .result) (o .args .item .now) (o .args .store .now) (c .before .row .result) (c .before .row .ensures ∙ row-of _ _ (c .before .before .seen .ensures (shown k) (o .pre .1))) (c .if1 .taken))
 
 served-requires : tie.Need-served-requires
-served-requires c κs = ?
+served-requires c κs =
+    let o = c .before .before .before .before .before .before .before .before in
+    let k = o .args .self in
+    (firm k (o .pre .0) (o .pre .1), sym (c .before .before .before .row .ensures ∙ row-of _ _ (c .before .before .before .before .seen .ensures (shown k) (o .pre .1))) ∙ c .before .before .if1 .left, λ m s h. c .before .before .before .before .seen .ensures s h .new m)
 
 answered-requires : tie.Need-answered-requires
-answered-requires c κs = ?
+answered-requires c κs = search needs
 
 chosen-requires : tie.Need-chosen-requires
-chosen-requires c κs = ?
+chosen-requires c κs = search needs
 
 same-length : tie.Need-same-length
-same-length c = ?
+same-length c = search needs
 
 returns-2 : tie.Need-returns-2
-returns-2 c = ?
+returns-2 c =
+    let o = c .before .before .before .before .before .before .before .before .before .before .before .before .before in
+    let k = o .args .self in
+    subst (λ (x : Asked). SoundSteps k x (o .args .item .now) (o .args .store .now) _ _) (c .before .before .before .before .before .before .before .before .before .before .asked .ensures)
+    (done-so k (o .pre .0) (o .pre .1) (c .before .before .before .before .before .before .before .before .before .before .asked .result) (o .args .item .now) (o .args .store .now) _ (c .before .before .before .before .before .before .before .before .before .seen .result .new) (k .running) (c .before .before .before .before .served .result) (c .chosen .result) (c .before .answered .result)
+    (sym (c .before .before .before .before .before .before .before .before .row .ensures ∙ row-of _ _ (c .before .before .before .before .before .before .before .before .before .seen .ensures (shown k) (o .pre .1))) ∙ c .before .before .before .before .before .before .before .if1 .left) (λ m s h. c .before .before .before .before .before .before .before .before .before .seen .ensures s h .new m) refl
+    (c .before .before .before .before .served .ensures .0) (c .before .before .before .before .served .ensures .1) (c .before .answered .ensures) (c .chosen .ensures))
 
 pub step-sound-spec : {M : Type 1} → statement M
 step-sound-spec =

@@ -1,62 +1,103 @@
 use borrow.Author.Needs.{needs}
+use Prim.Native.Nat.{_-_}
+use Rattle.cuts.proofs.Gathering.{stands, further, used-up}
+use Rattle.cuts.specs.Keeping.{cutOf}
+use Rattle.kernel.specs.Stands.{shown}
+use Rattle.kernel.specs.Promises.{Is}
+use Rattle.rules.specs.Session.{stepRead, run, begun}
+use lib.ListN.{length}
+use mathlib.Core.Path.{_≡_, refl, subst}
+use native.Mathlib.Omega.{arith}
+use Rattle.journal.specs.declared.Read.{Read}
+use Rattle.kernel.proofs.Sessions.{Going, set-out, stands-on, so-far, gathers-on, goes-on, stopped, answered-on}
 use Rattle.kernel.proofs.Session.answer.Statement.{statement}
 use Rattle.kernel.proofs.Session.answer.Tie as tie
 
 abbrev Inv-loop : tie.InvT-loop
 Inv-loop block store₀ out₀ kernel₀ fine bytes₀ len₀ at₀ written₀ store out kernel bytes len at written =
-    ?
+    Going kernel₀ (run (length out₀) (begun (shown kernel₀) store₀ (cutOf bytes₀ len₀)) block) out₀ block fine kernel store bytes len at written out
+    × (length store ≡ length store₀)
 
 abbrev μ-loop : tie.MeasureT-loop
-μ-loop block store₀ out₀ kernel₀ fine bytes₀ len₀ at₀ written₀ store out kernel bytes len at written =
-    ?
+μ-loop block store₀ out₀ kernel₀ fine bytes₀ len₀ at₀ written₀ store out kernel bytes len at written = length block - at
 
 sound-requires : tie.Need-sound-requires Inv-loop μ-loop
-sound-requires c κs = ?
+sound-requires c κs = search needs
 
 loop-holds : tie.Need-loop-holds Inv-loop μ-loop
-loop-holds c = ?
+loop-holds c = (set-out (c .before .before .before .before .before .before .args .out .now) (c .before .before .before .before .before .before .args .block .now) (c .before .sound .result) (c .before .before .before .before .before .before .args .self .kernel) (c .before .before .before .before .before .before .args .store .now) (c .before .before .before .before .before .before .args .self .cut) (c .before .sound .ensures .0) (c .before .sound .ensures .1), refl)
 
 gather-requires : tie.Need-gather-requires Inv-loop μ-loop
-gather-requires c κs = ?
+gather-requires c κs = search needs
 
 sub-either : tie.Need-sub-either Inv-loop μ-loop
-sub-either c = ?
+sub-either c = let w = so-far (c .before .before .before .loop .inv .0) in omega (arith, w .0, w .1, c .before .before .before .loop .inv .0 .within)
 
 either-requires : tie.Need-either-requires Inv-loop μ-loop
-either-requires c κs = ?
+either-requires c κs = search needs
 
 same-length : tie.Need-same-length Inv-loop μ-loop
-same-length c = ?
+same-length c = c .before .before .before .before .before .loop .inv .1
 
 same-length-2 : tie.Need-same-length-2 Inv-loop μ-loop
-same-length-2 c = ?
+same-length-2 c = so-far (c .before .before .before .before .before .loop .inv .0) .1
 
 returns : tie.Need-returns Inv-loop μ-loop
-returns c = ?
+returns c =
+    let l = c .before .before .before .before .before in
+    let g = c .before .before .before .gather in
+    let cut = cutOf (l .loop .bytes) (l .loop .len) in
+    stopped (gathers-on (l .loop .inv .0) (g .ensures)) (g .result .newline) (c .before .either .result)
+    (used-up (c .before .before .before .before .before .before .before .before .before .before .before .before .args .block .now) (l .loop .at) cut (g .result) (g .last .1 .1 .0) (g .ensures))
+    (stands (c .before .before .before .before .before .before .before .before .before .before .before .before .args .block .now) (l .loop .at) cut (g .result) (g .last .1 .1 .0) (g .ensures))
+    (c .before .either .ensures) (c .if1 .taken)
 
 keep-requires : tie.Need-keep-requires Inv-loop μ-loop
-keep-requires c κs = ?
+keep-requires c κs = search needs
 
 read-cut-requires : tie.Need-read-cut-requires Inv-loop μ-loop
-read-cut-requires c κs = ?
+read-cut-requires c κs = search needs
 
 line-step-requires : tie.Need-line-step-requires Inv-loop μ-loop
-line-step-requires c κs = ?
+line-step-requires c κs =
+    let w = c .before .before .before .before .before .before .before .before .before .loop .inv .0 in
+    (w .known, stands-on w, c .before .read-cut .ensures .1)
 
 of-slot-requires : tie.Need-of-slot-requires Inv-loop μ-loop
-of-slot-requires c κs = ?
+of-slot-requires c κs = search needs
 
 put-answer-requires : tie.Need-put-answer-requires Inv-loop μ-loop
-put-answer-requires c κs = ?
+put-answer-requires c κs = search needs
 
 add-at : tie.Need-add-at Inv-loop μ-loop
-add-at c = ?
+add-at c =
+    let l = c .before .before .before .before .before .before .before .before .before .before .before .before .before .before .before .before .before .before .before in
+    let g = c .before .before .before .before .before .before .before .before .before .before .before .before .before .before .before .before .before .gather in
+    let r = goes-on (g .result .newline) (length (l .loop .out) - l .loop .written) (c .before .before .before .before .before .before .before .before .before .before .before .before .before .before .before .either .result) (c .before .before .before .before .before .before .before .before .before .before .before .before .before .before .before .either .ensures) (c .before .before .before .before .before .before .before .before .before .before .before .before .before .before .if1 .left) in
+    let h = further (c .before .before .before .before .before .before .before .before .before .before .before .before .before .before .before .before .before .before .before .before .before .before .before .before .before .before .args .block .now) (l .loop .at) (cutOf (l .loop .bytes) (l .loop .len)) (g .result) (g .last .1 .1 .0) (g .ensures) (r .0) in
+    omega (arith, h .1)
 
 loop-less : tie.Need-loop-less Inv-loop μ-loop
-loop-less c = ?
+loop-less c =
+    let l = c .before .before .before .before .before .before .before .before .before .before .before .before .before .before .before .before .before .before .before in
+    let g = c .before .before .before .before .before .before .before .before .before .before .before .before .before .before .before .before .before .gather in
+    let r = goes-on (g .result .newline) (length (l .loop .out) - l .loop .written) (c .before .before .before .before .before .before .before .before .before .before .before .before .before .before .before .either .result) (c .before .before .before .before .before .before .before .before .before .before .before .before .before .before .before .either .ensures) (c .before .before .before .before .before .before .before .before .before .before .before .before .before .before .if1 .left) in
+    let h = further (c .before .before .before .before .before .before .before .before .before .before .before .before .before .before .before .before .before .before .before .before .before .before .before .before .before .before .args .block .now) (l .loop .at) (cutOf (l .loop .bytes) (l .loop .len)) (g .result) (g .last .1 .1 .0) (g .ensures) (r .0) in
+    omega (arith, h .0, h .1)
 
 loop-again : tie.Need-loop-again Inv-loop μ-loop
-loop-again c = ?
+loop-again c =
+    let l = c .before .before .before .before .before .before .before .before .before .before .before .before .before .before .before .before .before .before .before in
+    let g = c .before .before .before .before .before .before .before .before .before .before .before .before .before .before .before .before .before .gather in
+    let q = c .before .before .before .before .before .before .before .before .before .line-step in
+    let cut = cutOf (c .before .before .before .before .before .before .before .before .before .before .before .before .keep .last .0) (c .before .before .before .before .before .before .before .before .before .before .before .before .keep .result) in
+    let r = goes-on (g .result .newline) (length (l .loop .out) - l .loop .written) (c .before .before .before .before .before .before .before .before .before .before .before .before .before .before .before .either .result) (c .before .before .before .before .before .before .before .before .before .before .before .before .before .before .before .either .ensures) (c .before .before .before .before .before .before .before .before .before .before .before .before .before .before .if1 .left) in
+    let newline = stands (c .before .before .before .before .before .before .before .before .before .before .before .before .before .before .before .before .before .before .before .before .before .before .before .before .before .before .args .block .now) (l .loop .at) (cutOf (l .loop .bytes) (l .loop .len)) (g .result) (g .last .1 .1 .0) (g .ensures) (r .0) in (
+      answered-on (gathers-on (l .loop .inv .0) (g .ensures)) cut (q .result) (q .last .1 .1 .1 .0) (c .before .before .before .put-answer .result) (c .before .before .before .put-answer .last .0) (c .before .before .before .before .before .before .before .before .before .before .before .before .keep .ensures)
+          (subst (λ (x : Read). Is (l .loop .kernel) (stepRead (shown (l .loop .kernel)) (l .loop .store) x) (q .result) (q .last .1 .1 .1 .0)) (c .before .before .before .before .before .before .before .before .before .before .before .read-cut .ensures .0) (q .ensures))
+          (rw (← c .before .before .before .before .of-slot .ensures) (c .before .before .before .put-answer .ensures)) (r .1) newline,
+      search needs,
+    )
 
 pub answer-spec : {M : Type 1} → statement M
 answer-spec =

@@ -1,4 +1,5 @@
 use borrow.Author.Needs.{needs}
+use Rattle.kernel.specs.Promises.{newSession}
 use Rattle.kernel.proofs.Session.fresh.Statement.{statement}
 use Rattle.kernel.proofs.Session.fresh.Tie as tie
 
@@ -9,7 +10,8 @@ none-requires : tie.Need-none-requires
 none-requires c κs = search needs
 
 returns : tie.Need-returns
-returns c = ?
+unfolding newSession
+returns c = rw (c .before .fresh .ensures, c .none .ensures)
 
 pub fresh-spec : {M : Type 1} → statement M
 fresh-spec = tie.close (tie.spec fresh-requires none-requires returns)
