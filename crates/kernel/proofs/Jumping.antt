@@ -39,15 +39,17 @@ module _ {k₀ : Kernel} {n : ℕ} {k : Kernel} {left : ℕ} (T : Ticking k₀ n
 
   -- somebody is: the tick after the jump is a plain one
   pub jumps-on : {j r : Kernel} {t m : ℕ} → left ≡ d + 1 + m → t ≡ later (k .tick) d → Does k (λ e. withTick e t) j → Does j oneTick r → Ticking k₀ n r m
-  jumps-on {m = m} l q f g = record { on = λ s h.
-    let i = T .on s h in
-    let e = i .state in
-    let next = oneTick (withTick e (later (e .tick) d)) in
-    record {
-      state = next;
-      stands = g (withTick e (later (e .tick) d)) (f e (i .stands) ∙ ap (λ (c : ℕ). kernelOf (withTick e c)) (q ∙ ap (λ (c : ℕ). later c d) (same-tick k e (i .stands))));
-      goes = jump-tick e next d left m (counts e (i .stands)) (until e (i .stands)) l refl ∙ i .goes;
-    } }
+  jumps-on {m = m} l q f g = record {
+    on = λ s h.
+        let i = T .on s h in
+        let e = i .state in
+        let next = oneTick (withTick e (later (e .tick) d)) in
+        record {
+          state = next;
+          stands = g (withTick e (later (e .tick) d)) (f e (i .stands) ∙ ap (λ (c : ℕ). kernelOf (withTick e c)) (q ∙ ap (λ (c : ℕ). later c d) (same-tick k e (i .stands))));
+          goes = jump-tick e next d left m (counts e (i .stands)) (until e (i .stands)) l refl ∙ i .goes;
+        };
+  }
 
 pub none-left : {k₀ : Kernel} {n : ℕ} {k : Kernel} {left : ℕ} → Ticking k₀ n k left → left ≡ 0 → Does k₀ (ticks n) k
 unfolding ticks upTo

@@ -5,3 +5,4 @@ pub mod Rowed
 pub mod Stepped
 pub mod Shown
 pub mod Sessions
+pub mod Quicks

@@ -1,6 +1,6 @@
 -- The step of a sound kernel value: refused, or accepted.
 use Prim.Native.Nat.{ℕ}
-use mathlib.Core.Path.{_≡_, refl, sym, ap, _∙_}
+use mathlib.Core.Path.{_≡_, refl, sym, ap, _∙_, subst}
 use mathlib.Core.Bool.{Bool, true, false}
 use mathlib.Core.List.{List}
 use lib.ListN.{length}
@@ -40,6 +40,11 @@ stays k e h = rw h
 module _ (k : Kernel) (fine : sound (shown k) ≡ true) (h : k ≡ kernelOf (shown k)) where
   pub firm : Firm k
   firm = record { stands = h; steady = sound-steady (shown k) fine; runs = rw (same-running k (shown k) h) (sound-steady (shown k) fine .runs) }
+
+  -- behind the door
+  module _ (c : Call) (a : Asked) (door : a ≡ asked c) (item s : List ℕ) (r : Step) (after : List ℕ) where
+    pub of-call : SoundSteps k a item s r after → SoundSteps k (asked c) item s r after
+    of-call = subst (λ (x : Asked). SoundSteps k x item s r after) door
 
   pub refused : (a : Asked) (item s : List ℕ) (m : ℕ) → m ≡ laterRow (shown k) a (length item) (length s) → (m ≡ 0 → ⊥) → SoundSteps k a item s (record { kernel = k; answer = Refused m }) s
   refused a item s m e d =

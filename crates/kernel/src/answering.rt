@@ -140,7 +140,12 @@ impl Session {
             };
         }
         let no = line_refusal(Reading::Refused(3), self.kernel.sound(), store.len());
-        let written = put_answer(out, 0, Answer::Refused(no), TaskNo::of_slot(self.kernel.running));
+        let written = put_answer(
+            out,
+            0,
+            Answer::Refused(no),
+            TaskNo::of_slot(self.kernel.running),
+        );
         self.cut.len = 0;
         Served {
             session: self,

@@ -1,5 +1,4 @@
 // What an accepted call answers.
-ghost use mathlib.Core.Path.{_≡_};
 ghost use Rattle.calls.specs.Said.{said};
 ghost use Rattle.kernel.specs.Does.{Reads, answerOf};
 use crate::Kernel;

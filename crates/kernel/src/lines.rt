@@ -1,19 +1,19 @@
 // Who stands first, who runs, and moves within the order.
-ghost use mathlib.Core.Path.{_≡_};
+ghost use Rattle.slots.specs.declared.Who.the-variants.{WaitersOf};
 ghost use Rattle.slots.specs.Leads.{whom};
 ghost use Rattle.rules.specs.Lines.{first, chosen, toTail, toHead, leaves};
 ghost use Rattle.kernel.specs.Does.{Reads, Does};
 use crate::Kernel;
+use numbers::ObjSlot;
 use numbers::TaskSlot;
 use slots::Found;
-use slots::Who;
 
 impl Kernel {
-    // The first, in the order, of the highest effective priority among those meant.
-    pub(crate) fn first(self, w: Who) -> Found
-        ensures { λ r. ⌜ Reads self (λ s. first s w) (whom r) ⌝ }
+    // The first, in the order, of the highest effective priority among those that wait on `o`.
+    pub(crate) fn first_waiter(self, o: ObjSlot) -> Found
+        ensures { λ r. ⌜ Reads self (λ s. first s (WaitersOf o)) (whom r) ⌝ }
     {
-        self.tasks.first(w, self.order).found()
+        self.tasks.waiter(o, self.order).found()
     }
 
     // With no hold, the head of the highest occupied line runs. No line changes: who is overtaken stays at the head of its own.
@@ -21,8 +21,7 @@ impl Kernel {
         ensures { λ r. ⌜ Does self chosen r ⌝ }
     {
         if self.hold == 0 {
-            let best = self.tasks.first(Who::AllReady, self.order);
-            self.running = best.or(self.running);
+            self.running = self.tasks.leader(self.order, self.running);
         }
         self
     }

@@ -9,8 +9,7 @@ ghost use Rattle.slots.specs.declared.Who.the-variants.{WaitersOf};
 ghost use Rattle.rules.specs.Lines.{first};
 ghost use Rattle.rules.specs.Items.{outlet, sent, storeSent, refilledBy, storeRefilledBy, received, storeReceived};
 ghost use Rattle.rules.specs.Sentences.{RingFits};
-ghost use Rattle.rules.specs.State.{State};
-ghost use Rattle.kernel.specs.Stands.{kernelOf, outletOf};
+ghost use Rattle.kernel.specs.Stands.{outletOf};
 ghost use Rattle.kernel.specs.Does.{Reads, Does, Firm};
 use crate::Kernel;
 use crate::Outlet;
@@ -20,13 +19,12 @@ use numbers::ObjSlot;
 use slots::Found;
 use slots::Kind;
 use slots::Ring;
-use slots::Who;
 
 impl Kernel {
     fn outlet(self, o: ObjSlot, q: Ring) -> Outlet
         ensures { λ r. ⌜ Reads self (λ s. outlet s o q) (outletOf r) ⌝ }
     {
-        match self.first(Who::WaitersOf(o)) {
+        match self.first_waiter(o) {
             Found::NoOne => rings::room_or(q),
             Found::Someone(t) => {
                 if q.count == 0 {
@@ -37,7 +35,14 @@ impl Kernel {
         }
     }
 
-    pub(crate) fn send_to(self, o: ObjSlot, q: Ring, w: u32, item: &[u8], store: &mut [u8]) -> Kernel
+    pub(crate) fn send_to(
+        self,
+        o: ObjSlot,
+        q: Ring,
+        w: u32,
+        item: &[u8],
+        store: &mut [u8],
+    ) -> Kernel
         requires { ⌜ (o .0 < 16) × RingFits q × Firm self × (length (now item) ≡ q .size) × (length (now store) ≡ 9216) ⌝ }
         ensures { λ r. ⌜ Does self (λ s. sent s o q w) r × Reads self (λ s. storeSent s o q (now (item .entry)) (now (store .entry))) (now (store .exit)) ⌝ }
     {
@@ -89,7 +94,7 @@ impl Kernel {
         requires { ⌜ Firm self ⌝ }
         ensures { λ r. ⌜ Reads self (λ s. first s (WaitersOf o)) (whom r) × ((t : TaskSlot) → whom r ≡ t ∷ [] → t .0 < 16) ⌝ }
     {
-        self.first(Who::WaitersOf(o))
+        self.first_waiter(o)
     }
 
     pub(crate) fn receive_from(self, o: ObjSlot, q: Ring, w: u32, store: &mut [u8]) -> Kernel

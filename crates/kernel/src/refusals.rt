@@ -13,7 +13,6 @@ use calls::Asked;
 use calls::Names;
 use numbers::ObjSlot;
 use slots::Kind;
-use slots::Who;
 
 fn out_of_range(a: Asked) -> bool
     ensures { λ r. ⌜ r ≡ outOfRange a ⌝ }
@@ -258,10 +257,7 @@ impl Kernel {
     fn held_or_waited(self, o: ObjSlot) -> bool
         ensures { λ r. ⌜ Reads self (λ s. heldOrWaited s o) r ⌝ }
     {
-        lists::either(
-            self.kind(o).is_held(),
-            self.first(Who::WaitersOf(o)).is_some(),
-        )
+        lists::either(self.kind(o).is_held(), self.first_waiter(o).is_some())
     }
 
     // A task to be deleted holds a mutex; an object to be removed is held or has waiters.

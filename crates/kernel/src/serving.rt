@@ -23,7 +23,6 @@ use slots::Kind;
 use slots::Place;
 use slots::Ring;
 use slots::Task;
-use slots::Who;
 
 impl Kernel {
     fn create(self, n: u8, p: u8) -> Kernel
@@ -147,7 +146,7 @@ impl Kernel {
     fn handed_on(self, o: ObjSlot) -> Kernel
         ensures { λ r. ⌜ Does self (λ s. handedOn s o) r ⌝ }
     {
-        match self.first(Who::WaitersOf(o)) {
+        match self.first_waiter(o) {
             Found::NoOne => self.with_object(o, Kind::Mutex(Holder::Nobody)),
             Found::Someone(t) => self.readied(t, 1)
                 .with_object(o, Kind::Mutex(Holder::By(t))),

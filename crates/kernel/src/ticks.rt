@@ -1,5 +1,4 @@
 // The tick's count and wakes, and the turn of the line.
-ghost use mathlib.Core.Path.{_≡_};
 ghost use Prim.Native.Nat.{_≤_};
 ghost use Rattle.numbers.specs.Numbers.{byNumber};
 ghost use Rattle.rules.specs.Ticks.{wakes, untilDue, oneTick, turned, ticks};

@@ -1,15 +1,16 @@
 -- The columns and the list of objects that they stand for.
 use Prim.Native.Nat.{ℕ, zero, suc, _+_, _<_, _≤_}
-use mathlib.Core.Path.{_≡_, refl, sym, ap, _∙_}
-use mathlib.Core.Bool.{Bool, true, false, _&&_}
-use mathlib.Core.List.{List, [], _∷_, map}
+use mathlib.Core.Path.{_≡_, refl, ap, _∙_}
+use mathlib.Core.Bool.{false, _&&_, _||_}
+use mathlib.Core.List.{List, map}
 use native.Mathlib.Nat.{not-suc-le-zero, le-of-suc-le-suc}
 use native.Mathlib.Omega.{arith}
 use lib.Dec.{eqb, leb}
 use lib.ListN.{length, getD, set, length-map, List·getD-map, List·getD-eq-default}
 use lib.Seq.{set-out, ext-getD}
 use borrow.Author.Tests.{ne-eqb, le-leb}
-use Rattle.slots.proofs.Maps.{map-set}
+use Rattle.slots.proofs.Sweeps.{map-set, some-row, first-row}
+use Rattle.lists.specs.Lists.{upTo, index}
 use Rattle.numbers.specs.declared.TaskSlot.{TaskSlot}
 use Rattle.numbers.specs.Numbers.{task}
 use Rattle.slots.specs.declared.Holder.the-variants.{Nobody, By}
@@ -19,7 +20,7 @@ use Rattle.slots.specs.declared.Object.{Object}
 use Rattle.slots.specs.Objects.{unused, isUnused, heldBy}
 use Rattle.objects.specs.declared.Cells.{Cells}
 use Rattle.objects.specs.declared.Objects.{Objects}
-use Rattle.objects.specs.Rows.{cellsOf, kindOf, objectsOf, putKind, kindIn, rowsFrom, rowsOf}
+use Rattle.objects.specs.Rows.{cellsOf, cellsAt, kindOf, objectsOf, putKind, kindIn, rowsFrom, rowsOf, heldIn, unusedIn}
 
 -- the numbers of a kind say it
 pub kind-back : (k : Kind) → kindOf (cellsOf k) ≡ k
@@ -34,10 +35,14 @@ module _ (xs : List Object) (n : ℕ) where
   number f = List·getD-map (λ (x : Object). f (cellsOf (x .kind))) xs n unused
 
   -- a row of the columns that stand for a list is the list's element
+  pub cells-of : cellsAt (objectsOf xs) n ≡ cellsOf (getD xs n unused .kind)
+  unfolding objectsOf
+  cells-of =
+      rw (number (λ c. c .state), number (λ c. c .capacity), number (λ c. c .size), number (λ c. c .first), number (λ c. c .count), number (λ c. c .holder))
+
   pub kind-of : kindIn (objectsOf xs) n ≡ getD xs n unused .kind
-  unfolding kindIn objectsOf
-  kind-of =
-      rw (number (λ c. c .state), number (λ c. c .capacity), number (λ c. c .size), number (λ c. c .first), number (λ c. c .count), number (λ c. c .holder)) (kind-back (getD xs n unused .kind))
+  unfolding kindIn
+  kind-of = rw cells-of (kind-back (getD xs n unused .kind))
 
   stored : (k : Kind) (f : Cells → ℕ) → set (map (λ (x : Object). f (cellsOf (x .kind))) xs) n (f (cellsOf k)) ≡ map (λ (x : Object). f (cellsOf (x .kind))) (set xs n (record { kind = k }))
   stored k f = map-set (λ (x : Object). f (cellsOf (x .kind))) xs n (record { kind = k })
@@ -100,7 +105,7 @@ rows-of xs = ext-getD unused (rowsOf (objectsOf xs)) xs long at
     at i h = λ j. record { kind = (row-at (objectsOf xs) i (rw (← rows-many (objectsOf xs)) h) ∙ kind-of xs i) j }
 
 -- the tests in numbers are those in words
-by-state : (P : ℕ → Type 0) → P 0 → P 1 → P 2 → ((s : ℕ) → 3 ≤ s → P s) → (s : ℕ) → P s
+pub by-state : (P : ℕ → Type 0) → P 0 → P 1 → P 2 → ((s : ℕ) → 3 ≤ s → P s) → (s : ℕ) → P s
 by-state P a b c f zero = a
 by-state P a b c f (suc zero) = b
 by-state P a b c f (suc (suc zero)) = c
@@ -109,16 +114,27 @@ by-state P a b c f (suc (suc (suc n))) = f (suc (suc (suc n))) (omega arith)
 abbrev of : Objects → ℕ → ℕ → Cells
 of os n s = record { state = s; capacity = getD (os .capacity) n 0; size = getD (os .size) n 0; first = getD (os .first) n 0; count = getD (os .count) n 0; holder = getD (os .holder) n 0 }
 
-held : (os : Objects) (n s : ℕ) → 3 ≤ s → kindOf (of os n s) ≡ Mutex (By (task (getD (os .holder) n 0)))
+pub held : (os : Objects) (n s : ℕ) → 3 ≤ s → kindOf (of os n s) ≡ Mutex (By (task (getD (os .holder) n 0)))
 unfolding kindOf
 held os n s h = rw (ne-eqb s 0 (λ e. omega arith), ne-eqb s 1 (λ e. omega arith), ne-eqb s 2 (λ e. omega arith))
 
-pub row-held : (os : Objects) (n : ℕ) (t : TaskSlot) → n < length (os .state) → heldBy t (getD (rowsOf os) n unused .kind) ≡ (leb 3 (getD (os .state) n 0) && eqb (getD (os .holder) n 0) (t .0))
+row-held : (os : Objects) (n : ℕ) (t : TaskSlot) → n < length (os .state) → (leb 3 (getD (os .state) n 0) && eqb (getD (os .holder) n 0) (t .0)) ≡ heldBy t (getD (rowsOf os) n unused .kind)
 unfolding kindIn kindOf
 row-held os n t h =
-    rw (row-at os n h) (by-state (λ s. heldBy t (kindOf (of os n s)) ≡ (leb 3 s && eqb (getD (os .holder) n 0) (t .0))) refl refl refl (λ s l. rw (held os n s l, le-leb 3 s l)) (getD (os .state) n 0))
+    rw (row-at os n h)
+    (by-state (λ s. (leb 3 s && eqb (getD (os .holder) n 0) (t .0)) ≡ heldBy t (kindOf (of os n s))) refl refl refl (λ s l. rw (held os n s l, le-leb 3 s l)) (getD (os .state) n 0))
 
-pub row-unused : (os : Objects) (n : ℕ) → n < length (os .state) → isUnused (getD (rowsOf os) n unused .kind) ≡ eqb (getD (os .state) n 0) 0
+pub held-some : (os : Objects) (t : TaskSlot) → Full os → upTo (λ b i. b || (leb 3 (getD (os .state) i 0) && eqb (getD (os .holder) i 0) (t .0))) 16 false ≡ heldIn os t
+unfolding heldIn
+held-some os t f =
+    some-row (λ (x : Object). heldBy t (x .kind)) (λ i. leb 3 (getD (os .state) i 0) && eqb (getD (os .holder) i 0) (t .0)) (rowsOf os) unused 16 (rows-many os ∙ f .states)
+    (λ i h. row-held os i t (rw (← rows-many os) h))
+
+row-unused : (os : Objects) (n : ℕ) → n < length (os .state) → isUnused (getD (rowsOf os) n unused .kind) ≡ eqb (getD (os .state) n 0) 0
 unfolding kindIn kindOf
 row-unused os n h =
     rw (row-at os n h) (by-state (λ s. isUnused (kindOf (of os n s)) ≡ eqb s 0) refl refl refl (λ s l. rw (held os n s l, ne-eqb s 0 (λ e. omega arith))) (getD (os .state) n 0))
+
+pub unused-first : (os : Objects) → index (λ s. eqb s 0) (os .state) ≡ unusedIn os
+unfolding unusedIn
+unused-first os = first-row (λ (x : Object). isUnused (x .kind)) (λ s. eqb s 0) (rowsOf os) (os .state) unused 0 (rows-many os) (row-unused os)

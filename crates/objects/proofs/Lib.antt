@@ -1,4 +1,5 @@
 pub mod Columns
 pub mod Tables
+pub mod Fines
 pub mod Lists
 pub mod Plain

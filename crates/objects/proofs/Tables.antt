@@ -1,7 +1,7 @@
 -- Where every number that is not used is 0, the columns are those of the list that they read as.
 use Prim.Native.Nat.{ℕ, zero, suc, _<_}
 use mathlib.Core.Path.{_≡_, refl, sym, ap, _∙_}
-use mathlib.Core.Bool.{Bool, true, false, _&&_, _||_}
+use mathlib.Core.Bool.{true, _&&_}
 use mathlib.Core.List.{List, map}
 use native.Mathlib.Omega.{arith}
 use lib.Dec.{eqb, leb}
@@ -13,7 +13,7 @@ use Rattle.slots.specs.declared.Object.{Object}
 use Rattle.slots.specs.Objects.{unused}
 use Rattle.objects.specs.declared.Objects.{Objects}
 use Rattle.objects.specs.declared.Cells.{Cells}
-use Rattle.objects.specs.Rows.{cellsOf, kindOf, objectsOf, kindIn, rowsOf, noRing, known, cellsAt, canonical}
+use Rattle.objects.specs.Rows.{six, cellsOf, kindOf, objectsOf, kindIn, rowsOf, noRing, known, cellsAt, canonical}
 use Rattle.objects.proofs.Columns.{Full, rows-many, row-at}
 
 -- no ring and no holder; no ring
@@ -30,9 +30,6 @@ held-back c z f k h e =
     let r₁ = and-right (eqb c 0) _ r in
     let r₂ = and-right (eqb z 0) _ r₁ in
     rw (eqb-true c 0 (and-left (eqb c 0) _ r), eqb-true z 0 (and-left (eqb z 0) _ r₁), eqb-true f 0 (and-left (eqb f 0) _ r₂), eqb-true k 0 (and-right (eqb f 0) _ r₂))
-
-abbrev six : ℕ → ℕ → ℕ → ℕ → ℕ → ℕ → Cells
-six s c z f k h = record { state = s; capacity = c; size = z; first = f; count = k; holder = h }
 
 cells-back : (s c z f k h : ℕ) → known (six s c z f k h) ≡ true → cellsOf (kindOf (six s c z f k h)) ≡ six s c z f k h
 unfolding kindOf

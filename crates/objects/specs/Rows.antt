@@ -11,18 +11,25 @@ use Rattle.numbers.specs.declared.TaskSlot.{TaskSlot}
 use Rattle.slots.specs.declared.Holder.the-variants.{Nobody, By}
 use Rattle.slots.specs.declared.Kind.{Kind}
 use Rattle.slots.specs.declared.Kind.the-variants.{Unused, Queue, Mutex}
+use Rattle.slots.specs.declared.Ring.{Ring}
 use Rattle.slots.specs.declared.Object.{Object}
 use Rattle.slots.specs.Objects.{isUnused, heldBy}
 use Rattle.objects.specs.declared.Cells.{Cells}
 use Rattle.objects.specs.declared.Objects.{Objects}
 
+abbrev pub six : ℕ → ℕ → ℕ → ℕ → ℕ → ℕ → Cells
+six s c z f k h = record { state = s; capacity = c; size = z; first = f; count = k; holder = h }
+
+abbrev pub ring : ℕ → ℕ → ℕ → ℕ → Ring
+ring c z f k = record { capacity = c; size = z; first = f; count = k }
+
 abbrev pub bare : ℕ → ℕ → Cells
-bare s h = record { state = s; capacity = 0; size = 0; first = 0; count = 0; holder = h }
+bare s h = six s 0 0 0 0 h
 
 -- an object in numbers: "a number that a state does not use is 0"
 abbrev pub cellsOf : Kind → Cells
 cellsOf Unused = bare 0 0
-cellsOf (Queue q) = record { state = 1; capacity = q .capacity; size = q .size; first = q .first; count = q .count; holder = 0 }
+cellsOf (Queue q) = six 1 (q .capacity) (q .size) (q .first) (q .count) 0
 cellsOf (Mutex Nobody) = bare 2 0
 cellsOf (Mutex (By t)) = bare 3 (t .0)
 
@@ -30,7 +37,7 @@ cellsOf (Mutex (By t)) = bare 3 (t .0)
 unfoldable pub kindOf : Cells → Kind
 kindOf c =
     if eqb (c .state) 0 then Unused
-    else if eqb (c .state) 1 then Queue (record { capacity = c .capacity; size = c .size; first = c .first; count = c .count })
+    else if eqb (c .state) 1 then Queue (ring (c .capacity) (c .size) (c .first) (c .count))
     else if eqb (c .state) 2 then Mutex Nobody
     else Mutex (By (task (c .holder)))
 

@@ -3,6 +3,7 @@ use Prim.Native.Nat.{ℕ, _*_}
 use mathlib.Core.Bool.{Bool, true, false, not, _&&_, _||_}
 use mathlib.Core.List.{List}
 use lib.Dec.{eqb, ltb, leb}
+use lib.ListN.{getD}
 use Rattle.numbers.specs.declared.TaskSlot.{TaskSlot}
 use Rattle.slots.specs.Types.{Wake, Never, At, Place, Free, Ready, Delayed, Waiting, Suspended, Task, Ring, Nobody, By, Kind, Unused, Queue, Mutex, Object}
 use Rattle.slots.specs.Places.{isFree, isReady, isBlocked, wakesAt}
@@ -26,6 +27,10 @@ abbrev pub mayWait : TaskSlot → Kind → Bool
 mayWait t Unused = false
 mayWait t (Queue q) = eqb (q .count) 0 || eqb (q .count) (q .capacity)
 mayWait t (Mutex h) = isTaken h && not (isBy t h)
+
+-- the same by what is noted of each object: it is a queue that is empty or full, or a mutex that is taken, and by whom
+abbrev pub mayWaitOn : List Bool → List Bool → List ℕ → TaskSlot → ℕ → Bool
+mayWaitOn opens takes holder t n = getD opens n false || (getD takes n false && not (eqb (getD holder n 0) (t .0)))
 
 abbrev pub waitsFine : TaskSlot → List Object → Place → Bool
 waitsFine t os Free = true
@@ -52,6 +57,16 @@ holderThere ts Unused = true
 holderThere ts (Queue q) = true
 holderThere ts (Mutex Nobody) = true
 holderThere ts (Mutex (By t)) = not (isFree (taskAt ts t .place))
+
+-- the same in two halves: a holder's number is a slot's, and a free slot holds nothing
+abbrev pub holderSlot : Kind → Bool
+holderSlot Unused = true
+holderSlot (Queue q) = true
+holderSlot (Mutex Nobody) = true
+holderSlot (Mutex (By t)) = ltb (t .0) 16
+
+abbrev pub freeHolds : Bool → Place → Bool
+freeHolds holds p = not (isFree p) || not holds
 
 -- the same as the code tests it: p is where the holder stands
 abbrev pub holderIn : Place → Kind → Bool

@@ -1,21 +1,19 @@
 -- The columns and the list of tasks that they stand for.
 use Prim.Native.Nat.{ℕ, zero, suc, _+_, _<_, _≤_}
-use mathlib.Core.Path.{_≡_, refl, sym, ap, _∙_}
-use mathlib.Core.Bool.{true, false}
-use mathlib.Core.List.{List, [], _∷_, map}
+use mathlib.Core.Path.{_≡_, refl, ap, _∙_}
+use mathlib.Core.List.{List}
 use native.Mathlib.Nat.{not-suc-le-zero, le-of-suc-le-suc}
 use native.Mathlib.Omega.{arith}
 use lib.ListN.{length, getD, set, length-map, List·getD-map, List·getD-eq-default}
 use lib.Seq.{set-out, ext-getD}
-use borrow.Author.Tests.{ne-eqb}
-use Rattle.slots.proofs.Maps.{map-set}
+use Rattle.slots.proofs.Sweeps.{map-set}
 use Rattle.slots.specs.declared.Wake.the-variants.{Never, At}
 use Rattle.slots.specs.declared.Place.{Place}
 use Rattle.slots.specs.declared.Place.the-variants.{Free, Ready, Delayed, Waiting, Suspended}
 use Rattle.slots.specs.declared.Task.{Task}
 use Rattle.slots.specs.Tasks.{freeTask}
 use Rattle.tasks.specs.declared.Tasks.{Tasks}
-use Rattle.tasks.specs.Cells.{cells, cellsOf, placeOf}
+use Rattle.tasks.specs.Cells.{cellsOf, placeOf}
 use Rattle.tasks.specs.Rows.{stateOf, objectOf, wakeOf, tasksOf, put, rowAt, rowsFrom, rowsOf}
 
 -- the numbers of a place say it

@@ -1,6 +1,9 @@
 pub mod Columns
 pub mod Tests
 pub mod Turns
+pub mod Heads
+pub mod Fines
 pub mod Lists
 pub mod Tables
+pub mod Soundness
 pub mod Plain

@@ -1,5 +1,4 @@
 -- The columns that stand for a list have 0 for every number that is not used.
-use Prim.Native.Nat.{ℕ}
 use mathlib.Core.Path.{_≡_, refl}
 use mathlib.Core.Bool.{true, _&&_}
 use mathlib.Core.List.{List}

@@ -1,46 +1,153 @@
--- One turn of each walk.
+-- What each walk finds in numbers is what its definition says.
 use Prim.Native.Nat.{ℕ, _<_, _≤_, min}
 use mathlib.Core.Path.{_≡_, refl, sym, ap, _∙_}
-use mathlib.Core.Bool.{Bool, true, false, _&&_}
+use mathlib.Core.Bool.{Bool, true, false, _&&_, _||_}
 use mathlib.Core.List.{List}
 use native.Mathlib.Omega.{arith}
 use lib.Dec.{eqb, ltb}
-use lib.ListN.{length, getD, set, length-take}
+use lib.ListN.{length, getD, set, take, length-take, List·getD-eq-default}
 use lib.Seq.{getD-take, set-getD}
 use Rattle.lists.specs.Choice.{if_then_else_}
+use Rattle.lists.specs.Lists.{foldl, upTo, any, kept, index, larger}
 use Rattle.lists.proofs.Bools.{and-left}
 use Rattle.numbers.specs.declared.TaskSlot.{TaskSlot}
+use Rattle.numbers.specs.declared.ObjSlot.{ObjSlot}
 use Rattle.numbers.specs.Numbers.{task, idle}
 use Rattle.order.specs.declared.Order.{Order}
-use Rattle.order.specs.Order.{listed, reach}
-use Rattle.slots.specs.Places.{wakesAt, ahead, away}
+use Rattle.slots.specs.declared.Task.{Task}
+use Rattle.slots.specs.declared.Who.{Who}
+use Rattle.slots.specs.declared.Who.the-variants.{AllReady, WaitersOf}
+use Rattle.slots.specs.declared.Lead.{Lead}
+use Rattle.slots.specs.declared.Lead.the-variants.{Open}
+use Rattle.slots.specs.Places.{isFree, waitsOn, wakesAt, ahead, away}
+use Rattle.slots.specs.Leads.{leadOver, better}
 use Rattle.slots.specs.Tasks.{freeTask, inHigher}
+use Rattle.slots.proofs.Sweeps.{by-rows, some-row, first-row}
 use Rattle.tasks.specs.declared.Tasks.{Tasks}
-use Rattle.tasks.specs.Rows.{rowAt, rowsOf, put}
-use Rattle.tasks.specs.Dues.{timed, woken, tailed, wakeIn}
-use Rattle.tasks.proofs.Columns.{Full, past-row, row-at}
-use Rattle.tasks.proofs.Tests.{row-higher, row-away, row-due, row-ended}
+use Rattle.tasks.specs.Rows.{rowAt, rowsOf, put, freeIn}
+use Rattle.tasks.specs.Walks.{leadIn, higherIn, outrankedIn, lineIn, readyLevel, topIn, waitedIn, isMeant, ready}
+use Rattle.tasks.specs.Dues.{timed, untilIn, wakeNow, woken, tailed, wakeIn}
+use Rattle.tasks.proofs.Columns.{Full, row-at, rows-many}
+use Rattle.tasks.proofs.Tests.{row-meant, row-free, row-line, row-higher, row-away, row-due, row-ended}
 
--- what an order lists at i
-module _ (o : Order) (full : length (o .places) ≡ 16) where
-  pub listed-long : length (listed o) ≡ reach o
-  listed-long = rw length-take (omega arith)
+-- the first n of a list that is long enough
+module _ (xs : List TaskSlot) (n : ℕ) (h : n ≤ length xs) where
+  pub first-long : length (take n xs) ≡ n
+  first-long = rw length-take (omega arith)
 
-  pub listed-at : (i : ℕ) → i < reach o → getD (listed o) i idle ≡ getD (o .places) i idle
-  listed-at i h = getD-take (o .living) (o .places) i idle (omega arith)
+  pub first-at : (i : ℕ) → i < n → getD (take n xs) i idle ≡ getD xs i idle
+  first-at i l = getD-take n xs i idle l
 
--- a task that stands past the table is in no line
-pub past-higher : (ts : Tasks) → Full ts → (p n : ℕ) → 16 ≤ n → inHigher p (rowAt ts n) ≡ false
-past-higher ts f p n h = rw (past-row ts f n h)
+-- walks of an order: a step in numbers
+abbrev pub leadStep : Who → List ℕ → List ℕ → List ℕ → Lead → TaskSlot → Lead
+leadStep w states objects levels b t =
+    if isMeant w (getD states (t .0) 0) (getD objects (t .0) 0) then leadOver b t (getD levels (t .0) 0) else b
 
--- how far away the row i is
-pub away-at : (ts : Tasks) (now i : ℕ) → i < length (ts .state) → away now (getD (rowsOf ts) i freeTask .place) ≡ (if timed (getD (ts .state) i 0) then ahead now (getD (ts .wake) i 0) else 4294967295)
-away-at ts now i h = rw (row-at ts i h) (row-away ts now i)
+abbrev pub isAbove : ℕ → List ℕ → List ℕ → TaskSlot → Bool
+isAbove p states levels t = eqb (getD states (t .0) 0) 1 && ltb p (getD levels (t .0) 0)
 
-pub woken-both : {a b : Tasks} {p q : Order} → a ≡ b → p ≡ q → woken a p ≡ woken b q
-woken-both e f = λ i. woken (e i) (f i)
+abbrev pub isLevel : ℕ → List ℕ → List ℕ → TaskSlot → Bool
+isLevel p states levels t = eqb (getD states (t .0) 0) 1 && eqb (getD levels (t .0) 0) p
+
+lead-step : (ts : Tasks) (w : Who) (b : Lead) (t : TaskSlot) → leadStep w (ts .state) (ts .object) (ts .effective) b t ≡ better w b t (rowAt ts (t .0))
+unfolding better rowAt
+lead-step ts w b t = sym (ap (λ (c : Bool). if c then leadOver b t (getD (ts .effective) (t .0) 0) else b) (row-meant ts (t .0) w))
+
+module _ (ts : Tasks) (l : List TaskSlot) where
+  pub lead-is : (w : Who) → foldl (leadStep w (ts .state) (ts .object) (ts .effective)) Open l ≡ leadIn ts w l
+  unfolding leadIn
+  lead-is w = ap (λ (f : Lead → TaskSlot → Lead). foldl f Open l) (λ i b t. lead-step ts w b t i)
+
+  pub above-is : (p : ℕ) → any (isAbove p (ts .state) (ts .effective)) l ≡ higherIn ts p l
+  unfolding higherIn
+  above-is p = ap (λ (f : TaskSlot → Bool). any f l) (λ i t. sym (row-higher ts (t .0) p) i)
+
+  pub line-is : (p : ℕ) → kept (isLevel p (ts .state) (ts .effective)) l ≡ lineIn ts p l
+  unfolding lineIn
+  line-is p = ap (λ (f : TaskSlot → Bool). kept f l) (λ i t. sym (row-line ts (t .0) p) i)
+
+-- one turn of each: who is taken, who is passed over, and who stands past the table
+module _ (states : List ℕ) (n : ℕ) (t : TaskSlot) (same : n ≡ t .0) where
+  past-state : length states ≡ 16 → 16 ≤ n → getD states (t .0) 0 ≡ 0
+  past-state l h = List·getD-eq-default states 0 {n = t .0} (omega arith)
+
+  module _ (w : Who) (objects levels : List ℕ) (b : Lead) where
+    pub lead-takes : isMeant w (getD states n 0) (getD objects n 0) ≡ true → leadOver b t (getD levels n 0) ≡ leadStep w states objects levels b t
+    lead-takes e = rw (← same, e)
+
+    pub lead-stays : isMeant w (getD states n 0) (getD objects n 0) ≡ false → b ≡ leadStep w states objects levels b t
+    lead-stays e = rw (← same, e)
+
+    pub lead-past : length states ≡ 16 → 16 ≤ n → b ≡ leadStep w states objects levels b t
+    lead-past l h = rw (past-state l h) (nobody w)
+      where
+        nobody : (v : Who) → b ≡ (if isMeant v 0 (getD objects (t .0) 0) then leadOver b t (getD levels (t .0) 0) else b)
+        nobody AllReady = refl
+        nobody (WaitersOf o) = refl
+
+  module _ (p : ℕ) (levels : List ℕ) where
+    pub above-at : {b : Bool} → (eqb (getD states n 0) 1 && ltb p (getD levels n 0)) ≡ b → isAbove p states levels t ≡ b
+    above-at e = rw (← same) e
+
+    pub above-past : length states ≡ 16 → 16 ≤ n → isAbove p states levels t ≡ false
+    above-past l h = rw (past-state l h)
+
+    pub level-at : {b : Bool} → (eqb (getD states n 0) 1 && eqb (getD levels n 0) p) ≡ b → isLevel p states levels t ≡ b
+    level-at e = rw (← same) e
+
+    pub level-past : length states ≡ 16 → 16 ≤ n → isLevel p states levels t ≡ false
+    level-past l h = rw (past-state l h)
+
+pub ready-is : (ts : Tasks) (i : ℕ) → readyLevel (rowAt ts i) ≡ ready (getD (ts .state) i 0) (getD (ts .effective) i 0)
+unfolding rowAt
+ready-is ts i = ap (λ (b : Bool). if b then getD (ts .effective) i 0 else 0) (row-meant ts i AllReady)
+
+-- walks of the rows
+module _ (ts : Tasks) (full : Full ts) where
+  many : length (rowsOf ts) ≡ 16
+  many = rows-many ts ∙ full .states
+
+  row : (i : ℕ) → i < length (rowsOf ts) → getD (rowsOf ts) i freeTask ≡ rowAt ts i
+  row i h = row-at ts i (rw (← rows-many ts) h)
+
+  pub outranked-is : (p : ℕ) → upTo (λ b i. b || (eqb (getD (ts .state) i 0) 1 && ltb p (getD (ts .effective) i 0))) 16 false ≡ outrankedIn ts p
+  unfolding outrankedIn
+  outranked-is p = some-row (inHigher p) (λ i. eqb (getD (ts .state) i 0) 1 && ltb p (getD (ts .effective) i 0)) (rowsOf ts) freeTask 16 many
+      (λ i h. sym (row-higher ts i p) ∙ sym (ap (inHigher p) (row i h)))
+
+  pub waited-is : (o : ObjSlot) → upTo (λ b i. b || isMeant (WaitersOf o) (getD (ts .state) i 0) (getD (ts .object) i 0)) 16 false ≡ waitedIn ts o
+  unfolding waitedIn
+  waited-is o = some-row (λ (x : Task). waitsOn o (x .place)) (λ i. isMeant (WaitersOf o) (getD (ts .state) i 0) (getD (ts .object) i 0)) (rowsOf ts) freeTask 16 many
+      (λ i h. sym (row-meant ts i (WaitersOf o)) ∙ sym (ap (λ (x : Task). waitsOn o (x .place)) (row i h)))
+
+  pub now-is : (now : ℕ) → upTo (λ b i. b || eqb (getD (ts .wake) i 0) now) 16 false ≡ wakeNow ts now
+  unfolding wakeNow
+  now-is now = some-row (λ w. eqb w now) (λ i. eqb (getD (ts .wake) i 0) now) (ts .wake) 0 16 (full .wakes) (λ i h. refl)
+
+  pub top-is : upTo (λ m i. larger m (ready (getD (ts .state) i 0) (getD (ts .effective) i 0))) 16 0 ≡ topIn ts
+  unfolding topIn
+  top-is = by-rows (λ m x. larger m (readyLevel x)) (λ m i. larger m (ready (getD (ts .state) i 0) (getD (ts .effective) i 0))) (rowsOf ts) freeTask
+      (λ m i h. ap (larger m) (sym (ready-is ts i) ∙ sym (ap readyLevel (row i h)))) 0 16 many
+
+  pub until-is : (now : ℕ) → upTo (λ m i. min m (if timed (getD (ts .state) i 0) then ahead now (getD (ts .wake) i 0) else 4294967295)) 16 4294967295 ≡ untilIn now ts
+  unfolding untilIn
+  until-is now = by-rows (λ m x. min m (away now (x .place))) (λ m i. min m (if timed (getD (ts .state) i 0) then ahead now (getD (ts .wake) i 0) else 4294967295)) (rowsOf ts) freeTask
+      (λ m i h. ap (min m) (sym (row-away ts i now) ∙ sym (ap (λ (x : Task). away now (x .place)) (row i h)))) 4294967295 16 many
+
+  pub free-first : index (λ s. eqb s 0) (ts .state) ≡ freeIn ts
+  unfolding freeIn
+  free-first = first-row (λ (x : Task). isFree (x .place)) (λ s. eqb s 0) (rowsOf ts) (ts .state) freeTask 0 (rows-many ts)
+      (λ i h. ap (λ (x : Task). isFree (x .place)) (row-at ts i h) ∙ row-free ts i)
 
 -- the task i is due, and is made ready; or it is not
+abbrev pub columns : List ℕ → List ℕ → List ℕ → List ℕ → List ℕ → List ℕ → Tasks
+columns state object wake own effective outcome =
+    record { state = state; object = object; wake = wake; own = own; effective = effective; outcome = outcome }
+
+pub woken-alike : {s s′ o o′ w w′ e e′ own level : List ℕ} {p p′ : Order} → s ≡ s′ → o ≡ o′ → w ≡ w′ → e ≡ e′ → p ≡ p′
+    → woken (columns s o w own level e) p ≡ woken (columns s′ o′ w′ own level e′) p′
+woken-alike {own = own} {level = level} a b c d q = λ i. woken (columns (a i) (b i) (c i) own level (d i)) (q i)
+
 module _ (now : ℕ) (ts : Tasks) (o : Order) (i : ℕ) where
   abbrev due : Bool
   due = timed (getD (ts .state) i 0) && eqb (getD (ts .wake) i 0) now
@@ -54,21 +161,14 @@ module _ (now : ℕ) (ts : Tasks) (o : Order) (i : ℕ) where
   levels = set-getD (ts .effective) i 0
 
   pub due-turn : {n : ℕ} {p : Order} → due ≡ true → n ≡ (if eqb (getD (ts .state) i 0) 2 then 1 else 2) → p ≡ tailed o (task i)
-      → woken (record {
-        state = set (ts .state) i 1;
-        object = set (ts .object) i 0;
-        wake = set (ts .wake) i 0;
-        own = ts .own;
-        effective = ts .effective;
-        outcome = set (ts .outcome) i n;
-      }) p
+      → woken (columns (set (ts .state) i 1) (set (ts .object) i 0) (set (ts .wake) i 0) (ts .own) (ts .effective) (set (ts .outcome) i n)) p
       ≡ wakeIn now (woken ts o) (task i)
   unfolding wakeIn put
   due-turn {n} {p} e q r =
-      let d : wakesAt now (rowAt ts i .place) ≡ true = row-due ts now i ∙ e in
+      let d : wakesAt now (rowAt ts i .place) ≡ true = row-due ts i now ∙ e in
       let t : timed (getD (ts .state) i 0) ≡ true = and-left (timed (getD (ts .state) i 0)) (eqb (getD (ts .wake) i 0) now) e in
       rw (d, q, r, row-ended ts i t, owns, levels)
 
   pub not-turn : due ≡ false → woken ts o ≡ wakeIn now (woken ts o) (task i)
   unfolding wakeIn
-  not-turn e = rw (row-due ts now i ∙ e)
+  not-turn e = rw (row-due ts i now ∙ e)

@@ -4,7 +4,7 @@ use mathlib.Core.Bool.{Bool, _||_}
 use mathlib.Core.List.{List, [], _∷_, _++_}
 use lib.Dec.{eqb}
 use Rattle.lists.specs.Choice.{if_then_else_}
-use Rattle.lists.specs.Lists.{foldl}
+use Rattle.lists.specs.Lists.{foldl, any}
 use Rattle.numbers.specs.declared.TaskSlot.{TaskSlot}
 use Rattle.order.specs.declared.Order.{Order}
 use Rattle.order.specs.Order.{listed, ordered, without}
@@ -23,6 +23,10 @@ timed s = eqb s 2 || eqb s 3
 -- how many ticks pass before the one on which a task is next due; 4,294,967,295 where none has a wake tick
 unfoldable pub untilIn : ℕ → Tasks → ℕ
 untilIn now ts = foldl (λ n x. min n (away now (x .place))) 4294967295 (rowsOf ts)
+
+-- some row's wake tick, used or not, is the count
+unfoldable pub wakeNow : Tasks → ℕ → Bool
+wakeNow ts now = any (λ w. eqb w now) (ts .wake)
 
 abbrev pub woken : Tasks → Order → Woken
 woken ts o = record { tasks = ts; order = o }

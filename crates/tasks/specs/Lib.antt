@@ -3,3 +3,4 @@ pub mod Rows
 pub mod Walks
 pub mod Dues
 pub mod Known
+pub mod Fine

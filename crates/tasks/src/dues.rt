@@ -6,7 +6,7 @@ ghost use lib.Dec.{eqb};
 ghost use Rattle.lists.specs.Choice.{if_then_else_};
 ghost use Rattle.numbers.specs.Numbers.{byNumber};
 ghost use Rattle.slots.specs.Places.{ahead};
-ghost use Rattle.tasks.specs.Dues.{timed, untilIn, wakesIn, woken};
+ghost use Rattle.tasks.specs.Dues.{timed, untilIn, wakeNow, wakesIn, woken};
 use crate::Tasks;
 use crate::Woken;
 use numbers::TaskSlot;
@@ -53,31 +53,74 @@ impl Tasks {
     pub fn until_due(self, now: u32) -> u32
         ensures { λ r. ⌜ r ≡ untilIn now self ⌝ }
     {
+        let state = self.state;
+        let wake = self.wake;
         let mut n = 4294967295u32;
         let mut i = 0usize;
         while i < 16 {
-            n = lesser(n, away(self.state[i], self.wake[i], now));
+            n = lesser(n, away(state[i], wake[i], now));
             i += 1;
         }
         n
     }
 
-    // The due are made ready, in order of task number.
-    pub fn wakes(mut self, o: Order, now: u32) -> Woken
+    // Some row's wake tick is `now`, whether its state uses it or not.
+    fn someone_due(self, now: u32) -> bool
+        ensures { λ r. ⌜ r ≡ wakeNow self now ⌝ }
+    {
+        let wake = self.wake;
+        let mut found = false;
+        let mut i = 0usize;
+        while i < 16 {
+            found = lists::either(found, wake[i] == now);
+            i += 1;
+        }
+        found
+    }
+
+    fn woken(self, o: Order, now: u32) -> Woken
         ensures { λ r. ⌜ r ≡ wakesIn now (woken self o) (byNumber 16) ⌝ }
     {
+        let mut state = self.state;
+        let mut object = self.object;
+        let mut wake = self.wake;
+        let own = self.own;
+        let effective = self.effective;
+        let mut outcome = self.outcome;
         let mut order = o;
         let mut i = 0usize;
         while i < 16 {
-            if due(self.state[i], self.wake[i], now) {
-                self.outcome[i] = ended(self.state[i]);
-                self.state[i] = 1;
-                self.object[i] = 0;
-                self.wake[i] = 0;
+            if due(state[i], wake[i], now) {
+                outcome[i] = ended(state[i]);
+                state[i] = 1;
+                object[i] = 0;
+                wake[i] = 0;
                 order = order.to_tail(TaskSlot::of(i as u8));
             }
             i += 1;
         }
-        Woken { tasks: self, order }
+        let tasks = Tasks {
+            state,
+            object,
+            wake,
+            own,
+            effective,
+            outcome,
+        };
+        Woken { tasks, order }
+    }
+
+    // The due are made ready, in order of task number.
+    pub fn wakes(self, o: Order, now: u32) -> Woken
+        ensures { λ r. ⌜ r ≡ wakesIn now (woken self o) (byNumber 16) ⌝ }
+    {
+        if self.someone_due(now) {
+            self.woken(o, now)
+        } else {
+            Woken {
+                tasks: self,
+                order: o,
+            }
+        }
     }
 }

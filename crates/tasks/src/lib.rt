@@ -1,4 +1,5 @@
 // The table of tasks: columns of plain numbers, which no other crate sees. A row goes in and comes out as a Task, in the words of the rules.
+// A function takes the columns that it reads out of the table before it looks into them: a table that is looked into by a number is copied whole.
 ghost use mathlib.Core.Path.{_≡_};
 ghost use lib.ListN.{replicate};
 ghost use mathlib.Core.List.{_∷_};
@@ -9,6 +10,7 @@ use order::Order;
 use slots::Task;
 
 mod dues;
+mod fine;
 mod numbering;
 mod walks;
 
@@ -61,17 +63,23 @@ impl Tasks {
         ensures { λ r. ⌜ r ≡ rowAt self (t .0) ⌝ }
     {
         let i = t.slot();
+        let state = self.state;
+        let object = self.object;
+        let wake = self.wake;
+        let own = self.own;
+        let effective = self.effective;
+        let outcome = self.outcome;
         if i < 16 {
             let cells = Cells {
-                state: self.state[i],
-                object: self.object[i],
-                wake: self.wake[i],
+                state: state[i],
+                object: object[i],
+                wake: wake[i],
             };
             Task {
                 place: cells.place(),
-                own: self.own[i],
-                effective: self.effective[i],
-                outcome: self.outcome[i],
+                own: own[i],
+                effective: effective[i],
+                outcome: outcome[i],
             }
         } else {
             Task::free()
@@ -79,20 +87,33 @@ impl Tasks {
     }
 
     // What is stored past the table is lost.
-    pub fn set(mut self, t: TaskSlot, x: Task) -> Tasks
+    pub fn set(self, t: TaskSlot, x: Task) -> Tasks
         ensures { λ r. ⌜ r ≡ put self (t .0) x ⌝ }
     {
         let i = t.slot();
         let p = x.place;
         let cells = Cells::of(p);
+        let mut state = self.state;
+        let mut object = self.object;
+        let mut wake = self.wake;
+        let mut own = self.own;
+        let mut effective = self.effective;
+        let mut outcome = self.outcome;
         if i < 16 {
-            self.state[i] = cells.state;
-            self.object[i] = cells.object;
-            self.wake[i] = cells.wake;
-            self.own[i] = x.own;
-            self.effective[i] = x.effective;
-            self.outcome[i] = x.outcome;
+            state[i] = cells.state;
+            object[i] = cells.object;
+            wake[i] = cells.wake;
+            own[i] = x.own;
+            effective[i] = x.effective;
+            outcome[i] = x.outcome;
         }
-        self
+        Tasks {
+            state,
+            object,
+            wake,
+            own,
+            effective,
+            outcome,
+        }
     }
 }

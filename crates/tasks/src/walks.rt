@@ -1,21 +1,32 @@
-// Walks of the order and of the rows. They read the columns: a Task made for each turn would cost more than the walk.
+// Walks of the order and of the rows. They read columns: a Task made for each turn would cost more than the walk.
 ghost use mathlib.Core.Path.{_≡_};
 ghost use mathlib.Core.Bool.{_&&_};
 ghost use lib.Dec.{eqb, ltb};
 ghost use Rattle.order.specs.Order.{listed};
+ghost use Rattle.lists.specs.Lists.{larger};
+ghost use Rattle.slots.specs.declared.Who.the-variants.{AllReady, WaitersOf};
+ghost use Rattle.slots.specs.Leads.{leadsOr};
 ghost use Rattle.tasks.specs.Rows.{freeIn};
-ghost use Rattle.tasks.specs.Walks.{isMeant, leadIn, higherIn};
+ghost use Rattle.tasks.specs.Walks.{isMeant, leadIn, higherIn, outrankedIn, lineIn, headOr, ready, topIn, waitedIn};
 use crate::Tasks;
+use numbers::ObjSlot;
+use numbers::TaskSlot;
 use order::Order;
 use slots::Lead;
 use slots::Who;
+
+fn waiting(state: u8, object: u8, o: ObjSlot) -> bool
+    ensures { λ r. ⌜ r ≡ isMeant (WaitersOf o) state object ⌝ }
+{
+    lists::both(lists::either(state == 3, state == 4), object == o.0)
+}
 
 fn meant(w: Who, state: u8, object: u8) -> bool
     ensures { λ r. ⌜ r ≡ isMeant w state object ⌝ }
 {
     match w {
         Who::AllReady => state == 1,
-        Who::WaitersOf(o) => lists::both(lists::either(state == 3, state == 4), object == o.0),
+        Who::WaitersOf(o) => waiting(state, object, o),
     }
 }
 
@@ -25,20 +36,42 @@ fn above(state: u8, level: u8, p: u8) -> bool
     lists::both(state == 1, p < level)
 }
 
+fn at_level(state: u8, level: u8, p: u8) -> bool
+    ensures { λ r. ⌜ r ≡ (eqb state 1 && eqb level p) ⌝ }
+{
+    lists::both(state == 1, level == p)
+}
+
+fn larger(a: u8, b: u8) -> u8
+    ensures { λ r. ⌜ r ≡ larger a b ⌝ }
+{
+    if a < b { b } else { a }
+}
+
+fn ready_level(state: u8, level: u8) -> u8
+    ensures { λ r. ⌜ r ≡ ready state level ⌝ }
+{
+    if state == 1 { level } else { 0 }
+}
+
 impl Tasks {
     // The first, in the order, of the highest effective priority among those meant.
     pub fn first(self, w: Who, o: Order) -> Lead
         ensures { λ r. ⌜ r ≡ leadIn self w (listed o) ⌝ }
     {
+        let state = self.state;
+        let object = self.object;
+        let effective = self.effective;
+        let places = o.places;
+        let n = o.reach();
         let mut best = Lead::Open;
         let mut i = 0usize;
-        let n = o.reach();
         while i < n {
-            let t = o.places[i];
+            let t = places[i];
             let s = t.slot();
             if s < 16 {
-                if meant(w, self.state[s], self.object[s]) {
-                    best = best.behind(t, self.effective[s]);
+                if meant(w, state[s], object[s]) {
+                    best = best.behind(t, effective[s]);
                 }
             }
             i += 1;
@@ -46,17 +79,95 @@ impl Tasks {
         best
     }
 
+    // The first, in the order, of the ready tasks of priority `p`; 16 where there is none.
+    pub(crate) fn head(self, o: Order, p: u8) -> TaskSlot
+        ensures { λ r. ⌜ r ≡ headOr (lineIn self p (listed o)) ⌝ }
+    {
+        let state = self.state;
+        let effective = self.effective;
+        let places = o.places;
+        let n = o.reach();
+        let mut i = 0usize;
+        while i < n {
+            let t = places[i];
+            let s = t.slot();
+            if s < 16 {
+                if at_level(state[s], effective[s], p) {
+                    return t;
+                }
+            }
+            i += 1;
+        }
+        TaskSlot::of(16)
+    }
+
+    // The highest effective priority of a ready row; 0 where none is ready.
+    fn top(self) -> u8
+        ensures { λ r. ⌜ r ≡ topIn self ⌝ }
+    {
+        let state = self.state;
+        let effective = self.effective;
+        let mut top = 0u8;
+        let mut i = 0usize;
+        while i < 16 {
+            top = larger(top, ready_level(state[i], effective[i]));
+            i += 1;
+        }
+        top
+    }
+
+    // Who leads the ready tasks of the order; `u` where none is ready. The first of the highest priority leads; only a table with a ready row that the order does
+    // not list is walked whole.
+    pub fn leader(self, o: Order, u: TaskSlot) -> TaskSlot
+        ensures { λ r. ⌜ r ≡ leadsOr (leadIn self AllReady (listed o)) u ⌝ }
+    {
+        let t = self.head(o, self.top());
+        if t.slot() < 16 {
+            t
+        } else {
+            self.first(Who::AllReady, o).or(u)
+        }
+    }
+
+    fn waited(self, o: ObjSlot) -> bool
+        ensures { λ r. ⌜ r ≡ waitedIn self o ⌝ }
+    {
+        let state = self.state;
+        let object = self.object;
+        let mut found = false;
+        let mut i = 0usize;
+        while i < 16 {
+            found = lists::either(found, waiting(state[i], object[i], o));
+            i += 1;
+        }
+        found
+    }
+
+    // The first, in the order, of the highest effective priority among those that wait on `x`. Where no row waits on it the order is not walked.
+    pub fn waiter(self, x: ObjSlot, o: Order) -> Lead
+        ensures { λ r. ⌜ r ≡ leadIn self (WaitersOf x) (listed o) ⌝ }
+    {
+        if self.waited(x) {
+            self.first(Who::WaitersOf(x), o)
+        } else {
+            Lead::Open
+        }
+    }
+
     // Some listed task is ready above the priority `p`.
     pub fn higher(self, o: Order, p: u8) -> bool
         ensures { λ r. ⌜ r ≡ higherIn self p (listed o) ⌝ }
     {
-        let mut i = 0usize;
+        let state = self.state;
+        let effective = self.effective;
+        let places = o.places;
         let n = o.reach();
+        let mut i = 0usize;
         while i < n {
-            let t = o.places[i];
+            let t = places[i];
             let s = t.slot();
             if s < 16 {
-                if above(self.state[s], self.effective[s], p) {
+                if above(state[s], effective[s], p) {
                     return true;
                 }
             }
@@ -65,13 +176,29 @@ impl Tasks {
         false
     }
 
+    // Some row is ready above the priority `p`.
+    pub fn outranked(self, p: u8) -> bool
+        ensures { λ r. ⌜ r ≡ outrankedIn self p ⌝ }
+    {
+        let state = self.state;
+        let effective = self.effective;
+        let mut found = false;
+        let mut i = 0usize;
+        while i < 16 {
+            found = lists::either(found, above(state[i], effective[i], p));
+            i += 1;
+        }
+        found
+    }
+
     // The lowest free slot; 16 where there is none.
     pub fn free_slot(self) -> u8
         ensures { λ r. ⌜ r ≡ freeIn self ⌝ }
     {
+        let state = self.state;
         let mut i = 0usize;
         while i < 16 {
-            if self.state[i] == 0 {
+            if state[i] == 0 {
                 return i as u8;
             }
             i += 1;

@@ -3,8 +3,8 @@ use Rattle.rules.specs.Effects.{handedOn}
 use Rattle.kernel.proofs.Kernel.handed_on.Statement.{statement}
 use Rattle.kernel.proofs.Kernel.handed_on.Tie as tie
 
-first-requires : tie.Need-first-requires
-first-requires c κs = search needs
+first-waiter-requires : tie.Need-first-waiter-requires
+first-waiter-requires c κs = search needs
 
 enum-told : tie.Need-enum-told
 enum-told c = search needs
@@ -23,17 +23,17 @@ with-object-requires-2 c κs = search needs
 
 returns : tie.Need-returns
 unfolding handedOn
-returns c = λ s h. rw (← c .before .before .before .first .ensures s h, c .before .enum-told .given .1) (c .with-object .ensures s h)
+returns c = λ s h. rw (← c .before .before .before .first-waiter .ensures s h, c .before .enum-told .given .1) (c .with-object .ensures s h)
 
 returns-2 : tie.Need-returns-2
 unfolding handedOn
-returns-2 c = λ s h. rw (← c .before .before .before .before .before .first .ensures s h, c .before .before .before .t .given .1) (c .with-object2 .ensures _ (c .before .readied .ensures s h))
+returns-2 c = λ s h. rw (← c .before .before .before .before .before .first-waiter .ensures s h, c .before .before .before .t .given .1) (c .with-object2 .ensures _ (c .before .readied .ensures s h))
 
 pub handed-on-spec : {M : Type 1} → statement M
 handed-on-spec =
     tie.close
     (tie.spec
-    first-requires
+    first-waiter-requires
     enum-told
     with-object-requires
     enum-known-t

@@ -12,8 +12,8 @@ kind-requires c κs = search needs
 is-held-requires : tie.Need-is-held-requires
 is-held-requires c κs = search needs
 
-first-requires : tie.Need-first-requires
-first-requires c κs = search needs
+first-waiter-requires : tie.Need-first-waiter-requires
+first-waiter-requires c κs = search needs
 
 is-some-requires : tie.Need-is-some-requires
 is-some-requires c κs = search needs
@@ -23,7 +23,7 @@ either-requires c κs = search needs
 
 returns : tie.Need-returns
 unfolding heldOrWaited first
-returns c = λ s h. c .either .ensures ∙ rw (c .before .is-some .ensures, c .before .before .first .ensures s h, c .before .before .before .is-held .ensures, c .before .before .before .before .kind .ensures s h, leader-none)
+returns c = λ s h. c .either .ensures ∙ rw (c .before .is-some .ensures, c .before .before .first-waiter .ensures s h, c .before .before .before .is-held .ensures, c .before .before .before .before .kind .ensures s h, leader-none)
 
 pub held-or-waited-spec : {M : Type 1} → statement M
 held-or-waited-spec =
@@ -31,7 +31,7 @@ held-or-waited-spec =
     (tie.spec
     kind-requires
     is-held-requires
-    first-requires
+    first-waiter-requires
     is-some-requires
     either-requires
     returns)

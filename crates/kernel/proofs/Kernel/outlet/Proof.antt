@@ -4,8 +4,8 @@ use Rattle.rules.specs.Items.{outlet}
 use Rattle.kernel.proofs.Kernel.outlet.Statement.{statement}
 use Rattle.kernel.proofs.Kernel.outlet.Tie as tie
 
-first-requires : tie.Need-first-requires
-first-requires c κs = search needs
+first-waiter-requires : tie.Need-first-waiter-requires
+first-waiter-requires c κs = search needs
 
 enum-told : tie.Need-enum-told
 enum-told c = search needs
@@ -18,24 +18,24 @@ enum-known-t c = search needs
 
 returns : tie.Need-returns
 unfolding outlet
-returns c = λ s h. rw (← c .before .before .before .before .before .first .ensures s h, c .before .before .before .t .given .1, eq-eqb _ _ (c .if1 .taken))
+returns c = λ s h. rw (← c .before .before .before .before .before .first-waiter .ensures s h, c .before .before .before .t .given .1, eq-eqb _ _ (c .if1 .taken))
 
 room-or-requires-2 : tie.Need-room-or-requires-2
 room-or-requires-2 c κs = search needs
 
 returns-2 : tie.Need-returns-2
 unfolding outlet
-returns-2 c = λ s h. rw (← c .before .before .before .first .ensures s h, c .before .enum-told .given .1) (c .room-or .ensures)
+returns-2 c = λ s h. rw (← c .before .before .before .first-waiter .ensures s h, c .before .enum-told .given .1) (c .room-or .ensures)
 
 returns-3 : tie.Need-returns-3
 unfolding outlet
-returns-3 c = λ s h. rw (← c .before .before .before .before .before .before .first .ensures s h, c .before .before .before .before .t .given .1, ne-eqb _ _ (c .before .if1 .left)) (c .room-or2 .ensures)
+returns-3 c = λ s h. rw (← c .before .before .before .before .before .before .first-waiter .ensures s h, c .before .before .before .before .t .given .1, ne-eqb _ _ (c .before .if1 .left)) (c .room-or2 .ensures)
 
 pub outlet-spec : {M : Type 1} → statement M
 outlet-spec =
     tie.close
     (tie.spec
-    first-requires
+    first-waiter-requires
     enum-told
     room-or-requires
     enum-known-t

@@ -55,9 +55,10 @@ returns-2 c =
     let who = c .before .before .before .before .before .before .before .before .before .before .before .before .before .before .waiter .ensures .0 in
     let some = c .before .before .before .before .before .before .before .before .before .before .before .before .before .before .before .before .if1 .left in
     let oldest = c .before .before .before .before .before .before .before .before .before .before .before .of-ring .ensures in
-    let slip = c .before .before .before .before .before .before .before .to-slip .ensures in
-    (λ s h. rw (ne-eqb _ _ some) (c .refilled-by .ensures s h ∙ rw (less, who s h)),
-     λ s h. rw (ne-eqb _ _ some) (c .before .before .before .refill .ensures ∙ rw (slip, oldest, less, who s h, same-running _ s h)))
+    let slip = c .before .before .before .before .before .before .before .to-slip .ensures in (
+      λ s h. rw (ne-eqb _ _ some) (c .refilled-by .ensures s h ∙ rw (less, who s h)),
+      λ s h. rw (ne-eqb _ _ some) (c .before .before .before .refill .ensures ∙ rw (slip, oldest, less, who s h, same-running _ s h)),
+    )
 
 pub receive-from-spec : {M : Type 1} → statement M
 receive-from-spec =

@@ -7,15 +7,17 @@ use Rattle.slots.specs.declared.Who.the-variants.{WaitersOf}
 use Rattle.kernel.proofs.Kernel.waiter.Statement.{statement}
 use Rattle.kernel.proofs.Kernel.waiter.Tie as tie
 
-first-requires : tie.Need-first-requires
-first-requires c κs = search needs
+first-waiter-requires : tie.Need-first-waiter-requires
+first-waiter-requires c κs = search needs
 
 returns : tie.Need-returns
-returns c = (λ s h. c .first .ensures s h,
-    λ t e.
-    let k = shown (c .before .args .self) in
-    let w = first-within k (WaitersOf (c .before .args .o)) t (sym (c .first .ensures k (c .before .pre .stands)) ∙ e) in
-    omega (arith, w, c .before .pre .steady .task-slots))
+returns c = (
+  λ s h. c .first-waiter .ensures s h,
+  λ t e.
+      let k = shown (c .before .args .self) in
+      let w = first-within k (WaitersOf (c .before .args .o)) t (sym (c .first-waiter .ensures k (c .before .pre .stands)) ∙ e) in
+      omega (arith, w, c .before .pre .steady .task-slots),
+)
 
 pub waiter-spec : {M : Type 1} → statement M
-waiter-spec = tie.close (tie.spec first-requires returns)
+waiter-spec = tie.close (tie.spec first-waiter-requires returns)

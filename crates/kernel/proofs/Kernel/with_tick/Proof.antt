@@ -1,4 +1,3 @@
-use borrow.Author.Needs.{needs}
 use Rattle.kernel.specs.Stands.{kernelOf}
 use Rattle.kernel.proofs.Kernel.with_tick.Statement.{statement}
 use Rattle.kernel.proofs.Kernel.with_tick.Tie as tie

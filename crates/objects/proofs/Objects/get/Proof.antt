@@ -12,8 +12,9 @@ returns c = c .kind .ensures ∙ rw (c .before .before .before .before .before .
 
 returns-2 : tie.Need-returns-2
 returns-2 c =
-    let f : Full (c .before .before .args .t1) = search needs in
-    sym (past-kind (c .before .before .args .t1) f (c .before .before .args .o .0) (omega arith))
+    let os = c .before .before .before .before .before .before .before .before .args .self in
+    let f : Full os = search needs in
+    sym (past-kind os f (c .before .before .before .before .before .before .before .before .args .o .0) (omega arith))
 
 pub get-spec : {M : Type 1} → statement M
 get-spec =

@@ -8,12 +8,13 @@ use Rattle.objects.proofs.Objects.set.Tie as tie
 
 returns : tie.Need-returns
 unfolding putKind
-returns c = rw (c .before .of .ensures, c .before .before .slot .ensures)
+returns c = rw (c .before .before .before .before .before .before .before .of .ensures, c .before .before .before .before .before .before .before .before .slot .ensures)
 
 returns-2 : tie.Need-returns-2
 returns-2 c =
-    let f : Full (c .before .before .before .args .t1) = search needs in
-    sym (lost-kind (c .before .before .before .args .t1) f (c .before .before .before .args .o .0) (omega arith) (c .before .before .before .args .k))
+    let os = c .before .before .before .before .before .before .before .before .before .args .self in
+    let f : Full os = search needs in
+    sym (lost-kind os f (c .before .before .before .before .before .before .before .before .before .args .o .0) (omega arith) (c .before .before .before .before .before .before .before .before .before .args .k))
 
 pub set-spec : {M : Type 1} → statement M
 set-spec =

@@ -8,12 +8,13 @@ use Rattle.tasks.proofs.Tasks.get.Tie as tie
 
 returns : tie.Need-returns
 unfolding rowAt
-returns c = rw (c .before .before .before .place .ensures, c .before .before .before .before .before .before .before .before .slot .ensures)
+returns c = rw (c .place .ensures, c .before .before .before .before .before .before .before .before .slot .ensures)
 
 returns-2 : tie.Need-returns-2
 returns-2 c =
-    let f : Full (c .before .before .before .args .t1) = search needs in
-    c .free .ensures ∙ sym (past-row (c .before .before .before .args .t1) f (c .before .before .before .args .t .0) (omega arith))
+    let ts = c .before .before .before .before .before .before .before .before .before .args .self in
+    let f : Full ts = search needs in
+    c .free .ensures ∙ sym (past-row ts f (c .before .before .before .before .before .before .before .before .before .args .t .0) (omega arith))
 
 pub get-spec : {M : Type 1} → statement M
 get-spec =

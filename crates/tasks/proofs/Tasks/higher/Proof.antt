@@ -2,57 +2,68 @@ use borrow.Author.Needs.{needs}
 use Prim.Native.Nat.{_-_, _<_, _≤_}
 use Rattle.lists.proofs.Loops.{length-mapped, Sought, seek, not-this, this, none-left}
 use Rattle.numbers.specs.Numbers.{idle}
-use Rattle.order.specs.Order.{listed, reach}
-use Rattle.slots.specs.Tasks.{inHigher}
+use Rattle.order.specs.Order.{listed}
 use Rattle.tasks.proofs.Columns.{Full}
-use Rattle.tasks.proofs.Tests.{row-higher}
-use Rattle.tasks.proofs.Turns.{listed-long, listed-at, past-higher}
-use Rattle.tasks.specs.Rows.{rowAt}
-use Rattle.tasks.specs.Walks.{higherIn}
-use lib.ListN.{length}
+use Rattle.tasks.proofs.Turns.{first-long, first-at, isAbove, above-is, above-at, above-past}
+use lib.ListN.{length, getD, take}
 use mathlib.Core.Logic.{⊎-elim}
 use mathlib.Core.Path.{_≡_, sym, _∙_}
 use native.Mathlib.Omega.{arith}
+use Rattle.order.proofs.Halves.{reached}
 use Rattle.tasks.proofs.Tasks.higher.Statement.{statement}
 use Rattle.tasks.proofs.Tasks.higher.Tie as tie
 
 abbrev Inv-loop : tie.InvT-loop
-Inv-loop p self o i₀ n i = Sought (λ t. inHigher p (rowAt self (t .0))) (listed o) i × (i ≤ n)
+Inv-loop p state effective places n i₀ i = Sought (isAbove p state effective) (take n places) i × (i ≤ n)
 
 abbrev μ-loop : tie.MeasureT-loop
-μ-loop p self o i₀ n i = n - i
+μ-loop p state effective places n i₀ i = n - i
 
 loop-holds : tie.Need-loop-holds Inv-loop μ-loop
 loop-holds c = (seek, search needs)
 
 returns : tie.Need-returns Inv-loop μ-loop
-unfolding higherIn
 returns c =
-    let o = c .before .before .before .before .before .before .before .before .before .before .args .t2 in
+    let ts = c .before .before .before .before .before .before .before .before .before .before .before .args .self in
+    let o = c .before .before .before .before .before .before .before .before .before .before .before .args .o in
     let len : length (o .places) ≡ 16 = search length-mapped in
-    let low : c .before .before .before .before .before .before .before .before .loop .i < reach o = omega (arith, c .before .before .before .before .before .before .before .before .before .reach .ensures) in
-    this (c .before .before .before .before .before .before .before .before .loop .inv .0) (rw (listed-long o len) low) idle
-    (rw (listed-at o len (c .before .before .before .before .before .before .before .before .loop .i) low, ← c .before .before .before .before .before .slot .ensures) (row-higher (c .before .before .before .before .before .before .before .before .before .before .args .t1) (c .before .before .before .before .before .before .before .before .before .before .args .p) (c .before .before .before .before .before .slot .result) ∙ sym (c .before .above .ensures) ∙ c .if2 .taken))
+    let l = c .before .before .before .before .before .before .loop in
+    let n = c .before .before .before .before .before .before .before .reach .result in
+    let few : n ≤ length (o .places) = omega (arith, c .before .before .before .before .before .before .before .reach .ensures) in
+    let low : l .i < n = c .before .before .before .before .before .loop-test .taken in
+    let t = getD (o .places) (l .i) idle in
+    this (l .inv .0) (rw (first-long (o .places) n few) low) idle
+    (rw (first-at (o .places) n few (l .i) low) (above-at (ts .state) (c .before .before .before .slot .result) t (c .before .before .before .slot .ensures) (c .before .before .before .before .before .before .before .before .before .before .before .args .p) (ts .effective) (sym (c .before .above .ensures) ∙ c .if2 .taken)))
+    ∙ rw (c .before .before .before .before .before .before .before .reach .ensures, reached o len) (above-is ts (listed o) (c .before .before .before .before .before .before .before .before .before .before .before .args .p))
 
 loop-again : tie.Need-loop-again Inv-loop μ-loop
 loop-again c =
-    let ts = c .before .before .before .before .before .before .args .t1 in
-    let o = c .before .before .before .before .before .before .args .t2 in
+    let ts = c .before .before .before .before .before .before .before .before .before .args .self in
     let f : Full ts = search needs in
+    let o = c .before .before .before .before .before .before .before .before .before .args .o in
     let len : length (o .places) ≡ 16 = search length-mapped in
-    let low : c .before .before .before .before .loop .i < reach o = omega (arith, c .before .before .before .before .before .reach .ensures) in (
-      not-this (c .before .before .before .before .loop .inv .0) (rw (listed-long o len) low) idle
-          (rw (listed-at o len (c .before .before .before .before .loop .i) low, ← c .before .slot .ensures)
-          (⊎-elim (λ v. row-higher ts (c .before .before .before .before .before .before .args .p) (c .before .slot .result) ∙ sym (v .3 .ensures) ∙ v .4 .left) (λ v. past-higher ts f (c .before .before .before .before .before .before .args .p) (c .before .slot .result) (omega (arith, v .left))) (c .if1 .came))),
+    let l = c .before .before .before .before .loop in
+    let n = c .before .before .before .before .before .reach .result in
+    let few : n ≤ length (o .places) = omega (arith, c .before .before .before .before .before .reach .ensures) in
+    let low : l .i < n = c .before .before .before .loop-test .taken in
+    let t = getD (o .places) (l .i) idle in
+    let s = c .before .slot in
+    let p = c .before .before .before .before .before .before .before .before .before .args .p in (
+      not-this (l .inv .0) (rw (first-long (o .places) n few) low) idle (rw (first-at (o .places) n few (l .i) low)
+          (⊎-elim (λ v. above-at (ts .state) (s .result) t (s .ensures) p (ts .effective) (sym (v .1 .ensures) ∙ v .2 .left))
+          (λ v. above-past (ts .state) (s .result) t (s .ensures) p (ts .effective) (f .states) (omega (arith, v .left))) (c .if1 .came))),
       search needs,
     )
 
 returns-2 : tie.Need-returns-2 Inv-loop μ-loop
-unfolding higherIn
 returns-2 c =
-    let o = c .before .before .before .args .t2 in
+    let ts = c .before .before .before .before .before .before .args .self in
+    let o = c .before .before .before .before .before .before .args .o in
     let len : length (o .places) ≡ 16 = search length-mapped in
-    none-left (c .before .loop .inv .0) (rw (listed-long o len) (omega (arith, c .before .before .reach .ensures)))
+    let n = c .before .before .reach .result in
+    let few : n ≤ length (o .places) = omega (arith, c .before .before .reach .ensures) in
+    none-left (c .before .loop .inv .0) (rw (first-long (o .places) n few) (search needs))
+    ∙ rw (c .before .before .reach .ensures, reached o len) (above-is ts (listed o) (c .before .before .before .before .before .before .args .p))
 
 pub higher-spec : {M : Type 1} → statement M
 higher-spec =

@@ -8,12 +8,13 @@ use Rattle.tasks.proofs.Tasks.set.Tie as tie
 
 returns : tie.Need-returns
 unfolding put
-returns c = rw (c .before .of .ensures, c .before .before .slot .ensures)
+returns c = rw (c .before .before .before .before .before .before .before .of .ensures, c .before .before .before .before .before .before .before .before .slot .ensures)
 
 returns-2 : tie.Need-returns-2
 returns-2 c =
-    let f : Full (c .before .before .before .args .t1) = search needs in
-    sym (lost-row (c .before .before .before .args .t1) f (c .before .before .before .args .t .0) (omega arith) (c .before .before .before .args .x))
+    let ts = c .before .before .before .before .before .before .before .before .before .args .self in
+    let f : Full ts = search needs in
+    sym (lost-row ts f (c .before .before .before .before .before .before .before .before .before .args .t .0) (omega arith) (c .before .before .before .before .before .before .before .before .before .args .x))
 
 pub set-spec : {M : Type 1} → statement M
 set-spec =

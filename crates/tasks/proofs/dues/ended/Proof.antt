@@ -1,4 +1,3 @@
-use borrow.Author.Needs.{needs}
 use borrow.Author.Tests.{eq-eqb, ne-eqb}
 use Rattle.tasks.proofs.dues.ended.Statement.{statement}
 use Rattle.tasks.proofs.dues.ended.Tie as tie

@@ -1,5 +1,4 @@
 use borrow.Author.Needs.{needs}
-use mathlib.Core.Path.{_∙_}
 use Rattle.tasks.proofs.walks.meant.Statement.{statement}
 use Rattle.tasks.proofs.walks.meant.Tie as tie
 
@@ -7,8 +6,7 @@ returns : tie.Need-returns
 returns c = rw (c .enum-told .given .1) (search needs)
 
 returns-2 : tie.Need-returns-2
-returns-2 c = rw (c .before .before .before .before .w .given .1) (c .both .ensures ∙ rw (c .before .before .either .ensures))
+returns-2 c = rw (c .before .before .w .given .1) (c .waiting .ensures)
 
 pub meant-spec : {M : Type 1} → statement M
-meant-spec =
-    tie.close (tie.spec (λ c. search needs) (λ c. search needs) (λ c κs. search needs) (λ c κs. search needs) returns returns-2)
+meant-spec = tie.close (tie.spec (λ c. search needs) (λ c. search needs) (λ c κs. search needs) returns returns-2)

@@ -1,0 +1,21 @@
+use borrow.Author.Needs.{needs}
+use Rattle.kernel.proofs.Ends.{first-of}
+use Rattle.kernel.specs.Stands.{kernelOf}
+use Rattle.slots.specs.declared.Who.the-variants.{WaitersOf}
+use Rattle.slots.specs.Leads.{leads}
+use mathlib.Core.Path.{ap, _∙_}
+use Rattle.kernel.proofs.Kernel.first_waiter.Statement.{statement}
+use Rattle.kernel.proofs.Kernel.first_waiter.Tie as tie
+
+waiter-requires : tie.Need-waiter-requires
+waiter-requires c κs = search needs
+
+found-requires : tie.Need-found-requires
+found-requires c κs = search needs
+
+returns : tie.Need-returns
+unfolding kernelOf
+returns c = λ s h. c .found .ensures ∙ ap leads (c .before .waiter .ensures) ∙ rw h (first-of s (WaitersOf (c .before .before .args .o)))
+
+pub first-waiter-spec : {M : Type 1} → statement M
+first-waiter-spec = tie.close (tie.spec waiter-requires found-requires returns)

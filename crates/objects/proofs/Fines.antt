@@ -1,0 +1,126 @@
+-- The tests in numbers are those in words.
+use Prim.Native.Nat.{ℕ, zero, suc, _+_, _*_, _<_, _≤_, min}
+use mathlib.Core.Path.{_≡_, refl, sym, ap, _∙_}
+use mathlib.Core.Bool.{Bool, true, false, not, _&&_, _||_}
+use mathlib.Core.List.{List}
+use native.Mathlib.Omega.{arith}
+use lib.Dec.{eqb, ltb, leb}
+use lib.ListN.{length, getD, set, replicate, length-set}
+use lib.Seq.{getD-set-same, getD-set-other}
+use borrow.Author.Tests.{eqb-true, eqb-false, ne-eqb, le-leb, lt-leb}
+use Rattle.lists.specs.Choice.{if_then_else_}
+use Rattle.lists.specs.Lists.{allBelow, upTo}
+use Rattle.lists.proofs.Loops.{Upto, next, ended}
+use Rattle.lists.proofs.Bools.{and-left, all-below, below-all, all-same}
+use Rattle.numbers.specs.declared.TaskSlot.{TaskSlot}
+use Rattle.slots.specs.Objects.{unused, holderOf, mark, marksOf}
+use Rattle.slots.proofs.Sweeps.{by-rows, none-counted}
+use Rattle.slots.specs.Fine.{mayWait, mayWaitOn, ringFine}
+use Rattle.objects.specs.declared.Objects.{Objects}
+use Rattle.objects.specs.Rows.{six, ring, noRing, known, cellsAt, kindOf, kindIn, rowsOf, canonical}
+use Rattle.objects.specs.Fine.{rangesFine, fineAt, rowFine, openAt, takenAt, holdingIn, Each}
+use Rattle.objects.proofs.Columns.{Full, by-state, held, row-at, rows-many}
+
+-- where nobody holds the holder's number is 0, which is in its range
+module _ (c z f k h : ℕ) where
+  low : (a b : Bool) → ((a && eqb h 0) && (b && ltb h 16)) ≡ ((a && eqb h 0) && (b && true))
+  low a b = go a (eqb h 0) refl
+    where
+      go : (x y : Bool) → eqb h 0 ≡ y → ((x && y) && (b && ltb h 16)) ≡ ((x && y) && (b && true))
+      go false y e = refl
+      go true false e = refl
+      go true true e = rw (eqb-true h 0 e)
+
+  row-is : (s : ℕ) → rowFine (six s c z f k h) ≡ (known (six s c z f k h) && rangesFine (kindOf (six s c z f k h)))
+  unfolding rowFine kindOf
+  row-is zero = low (noRing c z f k) true
+  row-is (suc zero) = low true (ringFine (ring c z f k))
+  row-is (suc (suc zero)) = low (noRing c z f k) true
+  row-is (suc (suc (suc zero))) = refl
+  row-is (suc (suc (suc (suc n)))) = rw (lt-leb (suc (suc (suc (suc n)))) 3 (omega arith))
+
+fine-is : (os : Objects) (n : ℕ) → rowFine (cellsAt os n) ≡ fineAt os n
+unfolding kindIn
+fine-is os n = row-is (getD (os .capacity) n 0) (getD (os .size) n 0) (getD (os .first) n 0) (getD (os .count) n 0) (getD (os .holder) n 0) (getD (os .state) n 0)
+
+pub fines-are : (os : Objects) → allBelow 16 (λ n. rowFine (cellsAt os n)) ≡ allBelow 16 (fineAt os)
+fines-are os = all-same 16 (λ n. rowFine (cellsAt os n)) (fineAt os) (λ n l. fine-is os n)
+
+-- who holds
+holder-is : (os : Objects) (n : ℕ) → holderOf (kindIn os n) .0 ≡ (if leb 3 (getD (os .state) n 0) then getD (os .holder) n 0 else 16)
+unfolding kindIn kindOf
+holder-is os n = by-state (λ s. holderOf (kindOf (six s (getD (os .capacity) n 0) (getD (os .size) n 0) (getD (os .first) n 0) (getD (os .count) n 0) (getD (os .holder) n 0))) .0 ≡ (if leb 3 s then getD (os .holder) n 0 else 16)) refl refl refl (λ s l. rw (held os n s l, le-leb 3 s l)) (getD (os .state) n 0)
+
+-- the marks of the rows, in numbers
+abbrev pub marking : List ℕ → List ℕ → List Bool → ℕ → List Bool
+marking states holders c i = set c (if leb 3 (getD states i 0) then getD holders i 0 else 16) true
+
+pub record Marked (states holders : List ℕ) (c₀ c : List Bool) (i : ℕ) : Type 0 where
+  pub upto : Upto (marking states holders) c₀ c i
+  pub wide : length c ≡ 16
+
+pub mark-next : {states holders : List ℕ} {c₀ c r : List Bool} {i : ℕ} → Marked states holders c₀ c i → r ≡ marking states holders c i → Marked states holders c₀ r (i + 1)
+mark-next inv e = record { upto = next (inv .upto) e; wide = rw (e, length-set) (inv .wide) }
+
+marks-are : (os : Objects) → Full os → upTo (marking (os .state) (os .holder)) 16 (replicate 16 false) ≡ marksOf (rowsOf os)
+unfolding marksOf
+marks-are os f = by-rows mark (marking (os .state) (os .holder)) (rowsOf os) unused same (replicate 16 false) 16 (rows-many os ∙ f .states)
+  where
+    same : (c : List Bool) (i : ℕ) → i < length (rowsOf os) → marking (os .state) (os .holder) c i ≡ mark c (getD (rowsOf os) i unused)
+    same c i h = ap (λ (m : ℕ). set c m true) (sym (holder-is os i) ∙ sym (ap (λ x. holderOf x .0) (row-at os i (rw (← rows-many os) h))))
+
+-- where nobody holds, nothing is marked
+none-marked : (states holders : List ℕ) (n : ℕ) → ((i : ℕ) → i < n → leb 3 (getD states i 0) ≡ false) → upTo (marking states holders) n (replicate 16 false) ≡ replicate 16 false
+unfolding upTo
+none-marked states holders zero f = refl
+none-marked states holders (suc n) f = ap (λ (c : List Bool). marking states holders c n) (none-marked states holders n (λ i l. f i (omega arith))) ∙ rw (f n (omega arith))
+
+pub marks-end : (os : Objects) → Full os → {c : List Bool} {i : ℕ} → Marked (os .state) (os .holder) (replicate 16 false) c i → i ≡ min 16 (16 * holdingIn os) → c ≡ marksOf (rowsOf os)
+unfolding holdingIn upTo
+marks-end os f {c} {i} inv e = go (eqb (holdingIn os) 0) refl
+  where
+    go : (b : Bool) → eqb (holdingIn os) 0 ≡ b → c ≡ marksOf (rowsOf os)
+    go true q =
+        let z : i ≡ 0 = omega (arith, eqb-true (holdingIn os) 0 q) in
+        ended (inv .upto) 0 z
+        ∙ sym (none-marked (os .state) (os .holder) 16 (none-counted (takenAt os) 16 (eqb-true (holdingIn os) 0 q)))
+        ∙ marks-are os f
+    go false q =
+        let z : i ≡ 16 = omega (arith, eqb-false (holdingIn os) 0 q) in
+        ended (inv .upto) 16 z ∙ marks-are os f
+
+-- who may wait
+pub wait-is : (os : Objects) (t : TaskSlot) (n : ℕ) → (openAt os n || (takenAt os n && not (eqb (getD (os .holder) n 0) (t .0)))) ≡ mayWait t (kindIn os n)
+unfolding kindIn kindOf
+wait-is os t n = by-state (λ s. ((eqb s 1 && (eqb (getD (os .count) n 0) 0 || eqb (getD (os .count) n 0) (getD (os .capacity) n 0))) || (leb 3 s && not (eqb (getD (os .holder) n 0) (t .0)))) ≡ mayWait t (kindOf (six s (getD (os .capacity) n 0) (getD (os .size) n 0) (getD (os .first) n 0) (getD (os .count) n 0) (getD (os .holder) n 0)))) refl (or-false _) refl (λ s l. rw (held os n s l, le-leb 3 s l, ne-eqb s 1 (λ e. omega arith))) (getD (os .state) n 0)
+  where
+    or-false : (b : Bool) → (b || false) ≡ b
+    or-false true = refl
+    or-false false = refl
+
+pub waits-is : (os : Objects) (t : TaskSlot) {opens takes : List Bool} (n : ℕ) → Each (openAt os) opens → Each (takenAt os) takes → n < 16 → mayWaitOn opens takes (os .holder) t n ≡ mayWait t (kindIn os n)
+waits-is os t n o k l = rw (o .each n l, k .each n l) (wait-is os t n)
+
+-- what is fine is canonical
+pub fine-canonical : (os : Objects) → allBelow 16 (fineAt os) ≡ true → canonical os ≡ true
+unfolding canonical
+fine-canonical os h = below-all 16 (λ i. known (cellsAt os i)) (λ i l. and-left (known (cellsAt os i)) (rangesFine (kindIn os i)) (all-below 16 (fineAt os) h i l))
+
+-- a loop that fills sixteen answers has filled those below i
+pub record Filled (f : ℕ → Bool) (out : List Bool) (i : ℕ) : Type 0 where
+  pub wide : length out ≡ 16
+  pub filled : (n : ℕ) → n < i → getD out n false ≡ f n
+
+module _ {f : ℕ → Bool} where
+  pub fill-begin : {out : List Bool} → length out ≡ 16 → Filled f out 0
+  fill-begin l = record { wide = l; filled = λ n h. absurd (omega arith) }
+
+  pub fill-turn : {out : List Bool} {i : ℕ} → Filled f out i → i < 16 → (v : Bool) → v ≡ f i → Filled f (set out i v) (i + 1)
+  fill-turn {out} {i} inv l v e = record { wide = rw length-set (inv .wide); filled = λ n h. go n h (eqb n i) refl }
+    where
+      go : (n : ℕ) → n < i + 1 → (b : Bool) → eqb n i ≡ b → getD (set out i v) n false ≡ f n
+      go n h true q = rw (eqb-true n i q, getD-set-same out i v false (omega (arith, inv .wide))) e
+      go n h false q = getD-set-other out i n v false (eqb-false n i q) ∙ inv .filled n (omega (arith, eqb-false n i q))
+
+  pub fill-done : {out : List Bool} {i : ℕ} → Filled f out i → 16 ≤ i → Each f out
+  fill-done inv h = record { each = λ n l. inv .filled n (omega arith) }

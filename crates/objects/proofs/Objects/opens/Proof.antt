@@ -1,0 +1,41 @@
+use borrow.Author.Needs.{needs}
+use Prim.Native.Nat.{_-_, _≤_}
+use Rattle.objects.proofs.Fines.{Filled, fill-begin, fill-turn, fill-done}
+use lib.Dec.{eqb}
+use lib.ListN.{getD}
+use mathlib.Core.Bool.{_&&_, _||_}
+use mathlib.Core.Path.{refl}
+use Rattle.objects.proofs.Objects.opens.Statement.{statement}
+use Rattle.objects.proofs.Objects.opens.Tie as tie
+
+abbrev Inv-loop : tie.InvT-loop
+Inv-loop state capacity count out₀ i₀ out i = Filled (λ j. eqb (getD state j 0) 1 && (eqb (getD count j 0) 0 || eqb (getD count j 0) (getD capacity j 0))) out i × (i ≤ 16)
+
+abbrev μ-loop : tie.MeasureT-loop
+μ-loop state capacity count out₀ i₀ out i = 16 - i
+
+loop-holds : tie.Need-loop-holds Inv-loop μ-loop
+loop-holds c = (fill-begin refl, search needs)
+
+loop-again : tie.Need-loop-again Inv-loop μ-loop
+loop-again c = (fill-turn (c .before .before .loop .inv .0) (search needs) _ (c .opened .ensures), search needs)
+
+returns : tie.Need-returns Inv-loop μ-loop
+returns c = fill-done (c .before .loop .inv .0) (search needs)
+
+pub opens-spec : {M : Type 1} → statement M
+opens-spec =
+    tie.close
+    (tie.spec
+    Inv-loop
+    μ-loop
+    loop-holds
+    (λ c. search needs)
+    (λ c. search needs)
+    (λ c. search needs)
+    (λ c κs. search needs)
+    (λ c. search needs)
+    (λ c. search needs)
+    (λ c. search needs)
+    loop-again
+    returns)

@@ -1,0 +1,50 @@
+-- What soundness asks of the objects and must know of them.
+use Prim.Native.Nat.{ℕ, _+_, _<_}
+use mathlib.Core.Path.{_≡_}
+use mathlib.Core.Bool.{Bool, true, false, not, _&&_, _||_}
+use mathlib.Core.List.{List}
+use lib.Dec.{eqb, ltb, leb}
+use lib.ListN.{length, getD}
+use Rattle.lists.specs.Choice.{if_then_else_}
+use Rattle.lists.specs.Lists.{allBelow, upTo}
+use Rattle.numbers.specs.declared.TaskSlot.{TaskSlot}
+use Rattle.slots.specs.declared.Kind.{Kind}
+use Rattle.slots.specs.Objects.{marksOf}
+use Rattle.slots.specs.Fine.{mayWait, mayWaitOn, holderSlot, ringFine, ringInRange}
+use Rattle.objects.specs.declared.Cells.{Cells}
+use Rattle.objects.specs.declared.Objects.{Objects}
+use Rattle.objects.specs.declared.Holdings.{Holdings}
+use Rattle.objects.specs.Rows.{ring, known, cellsAt, kindIn, objectsOf, rowsOf}
+
+-- what is asked of an object by itself, in words; and as the code tests it
+abbrev pub rangesFine : Kind → Bool
+rangesFine x = ringInRange x && holderSlot x
+
+abbrev pub fineAt : Objects → ℕ → Bool
+fineAt os n = known (cellsAt os n) && rangesFine (kindIn os n)
+
+unfoldable pub rowFine : Cells → Bool
+rowFine c = known c && ((not (eqb (c .state) 1) || ringFine (ring (c .capacity) (c .size) (c .first) (c .count))) && ltb (c .holder) 16)
+
+-- a queue that is empty or full; a mutex that somebody holds
+abbrev pub openAt : Objects → ℕ → Bool
+openAt os n = eqb (getD (os .state) n 0) 1 && (eqb (getD (os .count) n 0) 0 || eqb (getD (os .count) n 0) (getD (os .capacity) n 0))
+
+abbrev pub takenAt : Objects → ℕ → Bool
+takenAt os n = leb 3 (getD (os .state) n 0)
+
+-- how many are held
+unfoldable pub holdingIn : Objects → ℕ
+holdingIn os = upTo (λ n i. n + (if takenAt os i then 1 else 0)) 16 0
+
+-- sixteen answers
+pub record Each (f : ℕ → Bool) (r : List Bool) : Type 0 where
+  pub each : (n : ℕ) → n < 16 → getD r n false ≡ f n
+
+-- all that is answered: what is fine stands for the list that it reads as
+pub record Holds (os : Objects) (r : Holdings) : Type 0 where
+  pub many : length (rowsOf os) ≡ 16
+  pub marks : r .held ≡ marksOf (rowsOf os)
+  pub waited : (t : TaskSlot) (n : ℕ) → n < 16 → mayWaitOn (r .open) (r .taken) (r .holder) t n ≡ mayWait t (kindIn os n)
+  pub said : r .fine ≡ allBelow 16 (fineAt os)
+  pub whole : r .fine ≡ true → os ≡ objectsOf (rowsOf os)

@@ -1,0 +1,174 @@
+// What soundness asks of the objects and must know of them, in numbers: no Kind is made, so that the compiler does many rows at once.
+ghost use Prim.Native.Nat.{_*_, min};
+ghost use mathlib.Core.Path.{_≡_};
+ghost use mathlib.Core.Bool.{_&&_, _||_};
+ghost use lib.Dec.{eqb, leb};
+ghost use Rattle.lists.specs.Choice.{if_then_else_};
+ghost use Rattle.lists.specs.Lists.{allBelow};
+ghost use Rattle.slots.specs.Fine.{ringFine};
+ghost use Rattle.slots.specs.Objects.{marksOf};
+ghost use Rattle.objects.specs.Rows.{rowsOf, noRing, ring, six};
+ghost use Rattle.objects.specs.Fine.{rowFine, fineAt, openAt, takenAt, holdingIn, Each, Holds};
+use crate::Holdings;
+use crate::Objects;
+
+fn no_ring(c: u8, z: u8, f: u8, k: u8) -> bool
+    ensures { λ r. ⌜ r ≡ noRing c z f k ⌝ }
+{
+    let few = lists::both(f == 0, k == 0);
+    lists::both(c == 0, lists::both(z == 0, few))
+}
+
+fn ring_fine(c: u8, z: u8, f: u8, k: u8) -> bool
+    ensures { λ r. ⌜ r ≡ ringFine (ring c z f k) ⌝ }
+{
+    let few = lists::both(1 <= c, c <= 64);
+    let small = lists::both(z <= 64, (c as u16) * (z as u16) <= 512);
+    let places = lists::both(f < c, k <= c);
+    lists::both(few, lists::both(small, places))
+}
+
+fn row_fine(s: u8, c: u8, z: u8, f: u8, k: u8, h: u8) -> bool
+    ensures { λ r. ⌜ r ≡ rowFine (six s c z f k h) ⌝ }
+{
+    let rings = lists::either(s == 1, no_ring(c, z, f, k));
+    let known = lists::both(s <= 3, lists::both(rings, lists::either(s == 3, h == 0)));
+    let ranges = lists::either(s != 1, ring_fine(c, z, f, k));
+    lists::both(known, lists::both(ranges, h < 16))
+}
+
+// Who holds it; 16 where nobody does.
+fn by_whom(s: u8, h: u8) -> usize
+    ensures { λ r. ⌜ r ≡ if leb 3 s then h else 16 ⌝ }
+{
+    if 3 <= s { h as usize } else { 16 }
+}
+
+fn one_if(b: bool) -> u8
+    ensures { λ r. ⌜ r ≡ if b then 1 else 0 ⌝ }
+{
+    if b { 1 } else { 0 }
+}
+
+// How far a walk goes that has `n` to find: to the end, or nowhere.
+fn bound(n: u8) -> usize
+    ensures { λ r. ⌜ r ≡ min 16 (16 * n) ⌝ }
+{
+    let far = 16 * (n as usize);
+    if far < 16 { far } else { 16 }
+}
+
+fn opened(s: u8, c: u8, k: u8) -> bool
+    ensures { λ r. ⌜ r ≡ (eqb s 1 && (eqb k 0 || eqb k c)) ⌝ }
+{
+    lists::both(s == 1, lists::either(k == 0, k == c))
+}
+
+impl Objects {
+    fn rows_fine(self) -> bool
+        ensures { λ r. ⌜ r ≡ allBelow 16 (fineAt self) ⌝ }
+    {
+        let state = self.state;
+        let capacity = self.capacity;
+        let size = self.size;
+        let first = self.first;
+        let count = self.count;
+        let holder = self.holder;
+        let mut ok = true;
+        let mut i = 0usize;
+        while i < 16 {
+            let fine = row_fine(
+                state[i],
+                capacity[i],
+                size[i],
+                first[i],
+                count[i],
+                holder[i],
+            );
+            ok = lists::both(ok, fine);
+            i += 1;
+        }
+        ok
+    }
+
+    // How many are held.
+    fn holding(self) -> u8
+        ensures { λ r. ⌜ r ≡ holdingIn self ⌝ }
+    {
+        let state = self.state;
+        let mut n = 0u8;
+        let mut i = 0usize;
+        while i < 16 {
+            n += one_if(3 <= state[i]);
+            i += 1;
+        }
+        n
+    }
+
+    // For each task slot, whether its task holds a mutex. The walk's bound is no constant, so that it costs nothing where nobody holds.
+    fn marks(self) -> [bool; 16]
+        ensures { λ r. ⌜ r ≡ marksOf (rowsOf self) ⌝ }
+    {
+        let state = self.state;
+        let holder = self.holder;
+        let n = bound(self.holding());
+        let mut held = [false; 16];
+        let mut i = 0usize;
+        while i < n {
+            let h = by_whom(state[i], holder[i]);
+            if h < 16 {
+                held[h] = true;
+            }
+            i += 1;
+        }
+        held
+    }
+
+    // The queues that are empty or full.
+    fn opens(self) -> [bool; 16]
+        ensures { λ r. ⌜ Each (openAt self) r ⌝ }
+    {
+        let state = self.state;
+        let capacity = self.capacity;
+        let count = self.count;
+        let mut out = [false; 16];
+        let mut i = 0usize;
+        while i < 16 {
+            out[i] = opened(state[i], capacity[i], count[i]);
+            i += 1;
+        }
+        out
+    }
+
+    // The mutexes that somebody holds.
+    fn takes(self) -> [bool; 16]
+        ensures { λ r. ⌜ Each (takenAt self) r ⌝ }
+    {
+        let state = self.state;
+        let mut out = [false; 16];
+        let mut i = 0usize;
+        while i < 16 {
+            out[i] = 3 <= state[i];
+            i += 1;
+        }
+        out
+    }
+
+    // Who holds, who may be waited on, and whether each object is fine. What is fine stands for the list that it reads as.
+    pub fn holdings(self) -> Holdings
+        ensures { λ r. ⌜ Holds self r ⌝ }
+    {
+        let held = self.marks();
+        let open = self.opens();
+        let taken = self.takes();
+        let holder = self.holder;
+        let fine = self.rows_fine();
+        Holdings {
+            held,
+            open,
+            taken,
+            holder,
+            fine,
+        }
+    }
+}

@@ -1,0 +1,88 @@
+-- What soundness asks of the tasks: in words, and as the code tests it in numbers.
+use Prim.Native.Nat.{ℕ, _+_}
+use mathlib.Core.Path.{_≡_}
+use mathlib.Core.Bool.{Bool, true, false, not, _&&_, _||_}
+use mathlib.Core.List.{List, [], _∷_}
+use lib.Dec.{eqb, ltb, leb}
+use lib.ListN.{length, getD}
+use Rattle.lists.specs.Choice.{if_then_else_}
+use Rattle.lists.specs.Lists.{allBelow, upTo}
+use Rattle.numbers.specs.declared.TaskSlot.{TaskSlot}
+use Rattle.numbers.specs.Numbers.{task, sameTask}
+use Rattle.slots.specs.declared.Place.{Place}
+use Rattle.slots.specs.declared.Place.the-variants.{Free, Ready, Delayed, Waiting, Suspended}
+use Rattle.slots.specs.declared.Task.{Task}
+use Rattle.slots.specs.Places.{isReady}
+use Rattle.slots.specs.Fine.{idleFine, standsFine, ordersFine, prioritiesFine, outcomeFine, freshIfFree, freeHolds, notDue, mayWaitOn}
+use Rattle.tasks.specs.declared.Tasks.{Tasks}
+use Rattle.tasks.specs.Rows.{tasksOf, rowAt, rowsOf}
+use Rattle.tasks.specs.Walks.{outrankedIn, lineIn}
+use Rattle.tasks.specs.Dues.{timed}
+use Rattle.tasks.specs.Known.{waits, known, wakeKnown}
+
+abbrev pub blocked : ℕ → Bool
+blocked s = eqb s 2 || waits s
+
+-- a row by itself, where it stands n times in the order and holds a mutex or not
+abbrev pub aloneFine : ℕ → Bool → Task → Bool
+aloneFine n held x =
+    standsFine n (x .place)
+    && (ordersFine n (x .place)
+    && (prioritiesFine held x
+    && (outcomeFine x
+    && (freshIfFree x
+    && freeHolds held (x .place)))))
+
+unfoldable pub rowFine : ℕ → ℕ → ℕ → ℕ → ℕ → ℕ → Bool → Bool
+rowFine s o own level outcome n held =
+    known s o
+    && (eqb n (if eqb s 1 || blocked s then 1 else 0)
+    && ((leb own level && (leb level 31 && (held || eqb own level)))
+    && ((leb outcome 3 && (not (blocked s) || eqb outcome 0))
+    && (not (eqb s 0) || ((eqb own 0 && (eqb level 0 && eqb outcome 0)) && not held)))))
+
+abbrev pub rowsFine : Tasks → List ℕ → List Bool → ℕ → Bool
+rowsFine ts stands holds i = known (getD (ts .state) i 0) (getD (ts .object) i 0) && aloneFine (getD stands i 0) (getD holds i false) (rowAt ts i)
+
+-- its wake tick
+unfoldable pub wakeFine : ℕ → ℕ → ℕ → Bool
+wakeFine s w tick = if timed s then leb w 4294967295 && not (eqb w tick) else eqb w 0
+
+abbrev pub wakesFine : Tasks → ℕ → ℕ → Bool
+wakesFine ts tick i = wakeKnown (getD (ts .state) i 0) (getD (ts .wake) i 0) && notDue tick (rowAt ts i .place)
+
+-- "idle is as above"; "idle never waits or holds"
+abbrev pub idleAlone : Bool → Task → Bool
+idleAlone held x = idleFine x && not held
+
+-- all that is answered: what is fine stands for the list that it reads as
+pub record Fine (ts : Tasks) (tick : ℕ) (stands : List ℕ) (holds : List Bool) (r : Bool) : Type 0 where
+  pub many : length (rowsOf ts) ≡ 16
+  pub said : r ≡ (idleAlone (getD holds 0 false) (rowAt ts 0) && (allBelow 16 (rowsFine ts stands holds) && allBelow 16 (wakesFine ts tick)))
+  pub whole : r ≡ true → ts ≡ tasksOf (rowsOf ts)
+
+-- "receivers wait only on an empty queue, senders only on a full one, takers only on a mutex held by another", by what is noted of each object
+abbrev pub waitsBy : List Bool → List Bool → List ℕ → TaskSlot → Place → Bool
+waitsBy opens takes holder t Free = true
+waitsBy opens takes holder t Ready = true
+waitsBy opens takes holder t (Delayed w) = true
+waitsBy opens takes holder t (Waiting o w) = ltb (o .0) 16 && mayWaitOn opens takes holder t (o .0)
+waitsBy opens takes holder t Suspended = true
+
+abbrev pub waitsAt : Tasks → List Bool → List Bool → List ℕ → ℕ → Bool
+waitsAt ts opens takes holder i = waitsBy opens takes holder (task i) (rowAt ts i .place)
+
+-- how many wait on an object
+unfoldable pub waitingIn : Tasks → ℕ
+waitingIn ts = upTo (λ n i. n + (if waits (getD (ts .state) i 0) then 1 else 0)) 16 0
+
+-- "the running task heads its line, and with hold 0 no higher line is occupied": no row stands higher
+abbrev pub headed : List TaskSlot → TaskSlot → Bool
+headed [] u = false
+headed (t ∷ l) u = sameTask t u
+
+abbrev pub runsAt : Tasks → List TaskSlot → TaskSlot → Bool → Task → Bool
+runsAt ts l u held x = isReady (x .place) && (headed (lineIn ts (x .effective) l) u && (held || not (outrankedIn ts (x .effective))))
+
+unfoldable pub runsIn : Tasks → List TaskSlot → TaskSlot → Bool → Bool
+runsIn ts l u held = runsAt ts l u held (rowAt ts (u .0))

@@ -1,0 +1,192 @@
+// What soundness asks of the tasks, tested in numbers: no Task is made, so that the compiler does all sixteen rows at once.
+ghost use Prim.Native.Nat.{_*_, min};
+ghost use mathlib.Core.Path.{_≡_};
+ghost use mathlib.Core.Bool.{_&&_, not};
+ghost use lib.ListN.{getD};
+ghost use Rattle.lists.specs.Choice.{if_then_else_};
+ghost use Rattle.lists.specs.Lists.{allBelow};
+ghost use Rattle.slots.specs.Fine.{idleFine};
+ghost use Rattle.order.specs.Order.{listed};
+ghost use Rattle.tasks.specs.Rows.{rowAt};
+ghost use Rattle.tasks.specs.Known.{waits};
+ghost use Rattle.tasks.specs.Fine.{rowFine, wakeFine, rowsFine, wakesFine, waitingIn, waitsAt, runsIn, Fine};
+use crate::Tasks;
+use numbers::TaskSlot;
+use order::Order;
+
+fn one_if(b: bool) -> u8
+    ensures { λ r. ⌜ r ≡ if b then 1 else 0 ⌝ }
+{
+    if b { 1 } else { 0 }
+}
+
+// How far a walk goes that has `n` to find: to the end, or nowhere.
+fn bound(n: u8) -> usize
+    ensures { λ r. ⌜ r ≡ min 16 (16 * n) ⌝ }
+{
+    let far = 16 * (n as usize);
+    if far < 16 { far } else { 16 }
+}
+
+fn wide(n: u8) -> usize
+    ensures { λ r. ⌜ r ≡ n ⌝ }
+{
+    n as usize
+}
+
+// The state has an object.
+fn waits(s: u8) -> bool
+    ensures { λ r. ⌜ r ≡ waits s ⌝ }
+{
+    lists::either(s == 3, s == 4)
+}
+
+fn row_fine(s: u8, o: u8, own: u8, level: u8, outcome: u8, n: u8, held: bool) -> bool
+    ensures { λ r. ⌜ r ≡ rowFine s o own level outcome n held ⌝ }
+{
+    let waits = waits(s);
+    let blocked = lists::either(s == 2, waits);
+    let listed = lists::either(s == 1, blocked);
+    let known = lists::both(s <= 5, lists::either(waits, o == 0));
+    let ranks = lists::both(
+        own <= level,
+        lists::both(level <= 31, lists::either(held, own == level)),
+    );
+    let ends = lists::both(outcome <= 3, lists::either(!blocked, outcome == 0));
+    let zeros = lists::both(own == 0, lists::both(level == 0, outcome == 0));
+    let fresh = lists::either(s != 0, lists::both(zeros, !held));
+    lists::both(
+        known,
+        lists::both(
+            n == one_if(listed),
+            lists::both(ranks, lists::both(ends, fresh)),
+        ),
+    )
+}
+
+// A wake tick that is used is not the count, and one that is not used is 0.
+fn wake_fine(s: u8, w: u32, tick: u32) -> bool
+    ensures { λ r. ⌜ r ≡ wakeFine s w tick ⌝ }
+{
+    let timed = lists::either(s == 2, s == 3);
+    if timed { w != tick } else { w == 0 }
+}
+
+impl Tasks {
+    fn rows_fine(self, stands: [u8; 16], holds: [bool; 16]) -> bool
+        ensures { λ r. ⌜ r ≡ allBelow 16 (rowsFine self stands holds) ⌝ }
+    {
+        let state = self.state;
+        let object = self.object;
+        let own = self.own;
+        let effective = self.effective;
+        let outcome = self.outcome;
+        let mut ok = true;
+        let mut i = 0usize;
+        while i < 16 {
+            let fine = row_fine(
+                state[i],
+                object[i],
+                own[i],
+                effective[i],
+                outcome[i],
+                stands[i],
+                holds[i],
+            );
+            ok = lists::both(ok, fine);
+            i += 1;
+        }
+        ok
+    }
+
+    fn wakes_fine(self, tick: u32) -> bool
+        ensures { λ r. ⌜ r ≡ allBelow 16 (wakesFine self tick) ⌝ }
+    {
+        let state = self.state;
+        let wake = self.wake;
+        let mut ok = true;
+        let mut i = 0usize;
+        while i < 16 {
+            ok = lists::both(ok, wake_fine(state[i], wake[i], tick));
+            i += 1;
+        }
+        ok
+    }
+
+    // Idle is ready at priority 0.
+    fn idle_fine(self) -> bool
+        ensures { λ r. ⌜ r ≡ idleFine (rowAt self 0) ⌝ }
+    {
+        let state = self.state;
+        let own = self.own;
+        let effective = self.effective;
+        lists::both(state[0] == 1, lists::both(own[0] == 0, effective[0] == 0))
+    }
+
+    // Each row is fine by itself, where it stands as often in the order as `stands` says, and holds a mutex or not as `holds` says. What is fine stands for the list that
+    // it reads as.
+    pub fn fine(self, tick: u32, stands: [u8; 16], holds: [bool; 16]) -> bool
+        ensures { λ r. ⌜ Fine self tick stands holds r ⌝ }
+    {
+        let idles = lists::both(self.idle_fine(), !holds[0]);
+        let rows = self.rows_fine(stands, holds);
+        lists::both(idles, lists::both(rows, self.wakes_fine(tick)))
+    }
+
+    // How many wait on an object.
+    fn waiting(self) -> u8
+        ensures { λ r. ⌜ r ≡ waitingIn self ⌝ }
+    {
+        let state = self.state;
+        let mut n = 0u8;
+        let mut i = 0usize;
+        while i < 16 {
+            n += one_if(waits(state[i]));
+            i += 1;
+        }
+        n
+    }
+
+    // Each waiting task waits on an object that is open, or taken by another. The walk's bound is no constant, so that it costs nothing where nobody waits.
+    pub fn waits_fine(self, opens: [bool; 16], takes: [bool; 16], holder: [u8; 16]) -> bool
+        ensures { λ r. ⌜ r ≡ allBelow 16 (waitsAt self opens takes holder) ⌝ }
+    {
+        let state = self.state;
+        let object = self.object;
+        let n = bound(self.waiting());
+        let mut ok = true;
+        let mut i = 0usize;
+        while i < n {
+            if waits(state[i]) {
+                let o = wide(object[i]);
+                if o < 16 {
+                    let others = lists::both(takes[o], wide(holder[o]) != i);
+                    ok = lists::both(ok, lists::either(opens[o], others));
+                } else {
+                    ok = false;
+                }
+            }
+            i += 1;
+        }
+        ok
+    }
+
+    fn level(self, t: TaskSlot) -> u8
+        ensures { λ r. ⌜ r ≡ rowAt self (t .0) .effective ⌝ }
+    {
+        let effective = self.effective;
+        let i = t.slot();
+        if i < 16 { effective[i] } else { 0 }
+    }
+
+    // The running task `u` heads its line, and no row outranks it, unless `held`.
+    pub fn runs_fine(self, o: Order, u: TaskSlot, held: bool) -> bool
+        ensures { λ r. ⌜ r ≡ runsIn self (listed o) u held ⌝ }
+    {
+        let p = self.level(u);
+        let heads = self.head(o, p).same(u);
+        let outranked = self.outranked(p);
+        let top = lists::either(held, !outranked);
+        lists::both(u.slot() < 16, lists::both(heads, top))
+    }
+}
