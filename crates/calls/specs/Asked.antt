@@ -3,9 +3,8 @@ use Prim.Native.Nat.{ℕ}
 use mathlib.Core.List.{List, [], _∷_}
 use Rattle.numbers.specs.declared.TaskSlot.{TaskSlot}
 use Rattle.numbers.specs.declared.ObjSlot.{ObjSlot}
-use Rattle.numbers.specs.Numbers.{task, object}
 use Rattle.calls.specs.Types.{Call, Names, Nothing, ATask, AnObject, AQueue, AMutex, Asked}
-use Rattle.calls.specs.Door.{taskSlot, objSlot}
+use Rattle.calls.specs.Door.{noTask, noObject, taskSlot, objSlot}
 use Rattle.calls.specs.Table.{Argument, aTask, anObject, aQueue, aMutex, priority, ticks, capacity, size, wait, item, called}
 
 abbrev pub asks : ℕ → Names → TaskSlot → ObjSlot → ℕ → ℕ → ℕ → ℕ → ℕ → Asked
@@ -13,13 +12,13 @@ asks n m t o p d c s w = record { number = n; names = m; task = t; object = o; p
 
 -- a call that names nothing, one that names a task, one that names an object
 abbrev pub nothing : ℕ → ℕ → ℕ → ℕ → ℕ → Asked
-nothing n p d c s = asks n Nothing (task 0) (object 0) p d c s 0
+nothing n p d c s = asks n Nothing noTask noObject p d c s 0
 
 abbrev pub onTask : ℕ → TaskSlot → ℕ → Asked
-onTask n t p = asks n ATask t (object 0) p 0 1 0 0
+onTask n t p = asks n ATask t noObject p 0 1 0 0
 
 abbrev pub onObject : ℕ → Names → ObjSlot → ℕ → Asked
-onObject n m o w = asks n m (task 0) o 0 0 1 0 w
+onObject n m o w = asks n m noTask o 0 0 1 0 w
 
 -- an argument put into its field
 abbrev pub put : Asked → Argument → Asked

@@ -7,9 +7,19 @@ use Rattle.numbers.specs.declared.ObjSlot.{ObjSlot}
 use Rattle.numbers.specs.Numbers.{task, object}
 use Rattle.calls.specs.Types.{TaskNo, ObjNo}
 
--- "16 task slots, 0 to 15"; "16 object slots, 0 to 15": a number below 16 is its slot's. Any other names none: no table has a slot 16
+-- "16 task slots, 0 to 15"; "16 object slots, 0 to 15": no table has a slot 16
+abbrev pub noSlot : ℕ
+noSlot = 16
+
+abbrev pub noTask : TaskSlot
+noTask = task noSlot
+
+abbrev pub noObject : ObjSlot
+noObject = object noSlot
+
+-- a number below 16 is its slot's; any other names none
 abbrev pub slot : ℕ → ℕ
-slot n = if ltb n 16 then n else 16
+slot n = if ltb n 16 then n else noSlot
 
 abbrev pub taskSlot : TaskNo → TaskSlot
 taskSlot t = task (slot (t .0))

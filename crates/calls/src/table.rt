@@ -11,15 +11,15 @@ use numbers::ObjSlot;
 use numbers::TaskSlot;
 
 impl Asked {
-    // A call that names nothing.
+    // A call that names nothing: its slots are 16, which no table has.
     pub fn nothing(number: u8, priority: u32, ticks: u32, capacity: u32, size: u32) -> Asked
         ensures { λ r. ⌜ r ≡ nothing number priority ticks capacity size ⌝ }
     {
         Asked {
             number,
             names: Names::Nothing,
-            task: TaskSlot(0),
-            object: ObjSlot(0),
+            task: TaskSlot(16),
+            object: ObjSlot(16),
             priority,
             ticks,
             capacity,
@@ -35,7 +35,7 @@ impl Asked {
             number,
             names: Names::Task,
             task: t.slot(),
-            object: ObjSlot(0),
+            object: ObjSlot(16),
             priority,
             ticks: 0,
             capacity: 1,
@@ -50,7 +50,7 @@ impl Asked {
         Asked {
             number,
             names,
-            task: TaskSlot(0),
+            task: TaskSlot(16),
             object: o.slot(),
             priority: 0,
             ticks: 0,

@@ -5,11 +5,9 @@ use mathlib.Core.Bool.{Bool, true, false, false≢true}
 use mathlib.Core.List.{List, [], _∷_}
 use native.Mathlib.Omega.{arith}
 use lib.Dec.{eqb}
-use lib.ListN.{length, getD, drop, set, length-drop, drop-of-length-le}
+use lib.ListN.{length, drop, set, length-drop}
 use lib.Seq.{drop-drop}
-use borrow.Author.Tests.{eqb-true, eq-eqb, ne-eqb, lt-ltb, le-ltb}
-use Rattle.lists.specs.Choice.{if_then_else_}
-use Rattle.lists.proofs.Loops.{front}
+use borrow.Author.Tests.{eqb-true, lt-ltb, le-ltb}
 use Rattle.cuts.specs.declared.Cut.{Cut}
 use Rattle.cuts.specs.declared.Stop.{Stop}
 use Rattle.cuts.specs.Keeping.{cutOf, kept, Gathered, gathered, Gathers}
@@ -23,35 +21,6 @@ kept-in bytes n b h = rw (lt-ltb n 256 h)
 pub kept-out : (bytes : List ℕ) (n b : ℕ) → 256 ≤ n → cutOf bytes 257 ≡ kept (cutOf bytes n) b
 unfolding kept
 kept-out bytes n b h = rw (le-ltb n 256 h)
-
--- ---- the loop
-
--- the loop over a block is at i with n bytes of a line: the rest gives what all gives
-pub record Gathering (g : Gathered) (block bytes : List ℕ) (n i : ℕ) : Type 0 where
-  pub rest : gathered i (cutOf bytes n) (drop i block) ≡ g
-
-module _ {g : Gathered} {block : List ℕ} where
-  here : (bytes : List ℕ) (n i : ℕ) → Gathering g block bytes n i → i < length block
-      → (if eqb (getD block i 0) 10 then record { next = i; cut = cutOf bytes n; newline = true } else gathered (i + 1) (kept (cutOf bytes n) (getD block i 0)) (drop (i + 1) block)) ≡ g
-  unfolding gathered
-  here bytes n i inv h = rw (front block i 0 h) at (inv .rest)
-
-  pub turn : {bytes after : List ℕ} {n m i : ℕ} → Gathering g block bytes n i → i < length block → (getD block i 0 ≡ 10 → ⊥)
-      → cutOf after m ≡ kept (cutOf bytes n) (getD block i 0) → Gathering g block after m (i + 1)
-  turn {bytes} {n = n} {i = i} inv h b e = record { rest = rw e (rw (ne-eqb (getD block i 0) 10 b) at (here bytes n i inv h)) }
-
-  pub newline-met : {bytes : List ℕ} {n i : ℕ} → Gathering g block bytes n i → i < length block → getD block i 0 ≡ 10
-      → Gathers g record { next = i; len = n; newline = true } bytes
-  newline-met {bytes} {n} {i} inv h b =
-      let e = rw (eq-eqb (getD block i 0) 10 b) at (here bytes n i inv h) in
-      record { next = ap (λ (x : Gathered). x .next) e; cut = ap (λ (x : Gathered). x .cut) e; newline = ap (λ (x : Gathered). x .newline) e }
-
-  pub none-met : {bytes : List ℕ} {n i : ℕ} → Gathering g block bytes n i → length block ≤ i
-      → Gathers g record { next = i; len = n; newline = false } bytes
-  unfolding gathered
-  none-met {bytes} {n} {i} inv h =
-      let e = rw (drop-of-length-le block h) at (inv .rest) in
-      record { next = ap (λ (x : Gathered). x .next) e; cut = ap (λ (x : Gathered). x .cut) e; newline = ap (λ (x : Gathered). x .newline) e }
 
 -- ---- byte by byte
 

@@ -6,6 +6,7 @@ use mathlib.Core.List.{List, [], _∷_}
 use lib.Dec.{eqb, ltb}
 use lib.ListN.{set, replicate}
 use Rattle.lists.specs.Choice.{if_then_else_}
+use Rattle.lists.specs.Lists.{index}
 use Rattle.cuts.specs.declared.Cut.{Cut}
 use Rattle.cuts.specs.declared.Stop.{Stop}
 
@@ -26,6 +27,14 @@ kept c b = if ltb (c .len) 256 then cutOf (set (c .bytes) (c .len) b) (c .len + 
 -- no byte yet of the next line
 unfoldable pub ended : Cut → Cut
 ended c = cutOf (c .bytes) 0
+
+-- it ends a line
+abbrev pub isNewline : ℕ → Bool
+isNewline b = eqb b 10
+
+-- the place of the next newline in the bytes l of a block, from the place i on; their end where there is none
+abbrev pub newlineFrom : ℕ → List ℕ → ℕ
+newlineFrom i l = i + index isNewline l
 
 -- where a block is left: the place, what there is of the line then, and whether its newline stands there
 pub record Gathered : Type 0 where

@@ -56,7 +56,7 @@ unfolding chosen
 stays-running s h = rw (ne-eqb (s .hold) 0 h)
 
 -- whether a higher line is occupied
-none-any : (p : TaskSlot → Bool) (l : List TaskSlot) → isNone (kept p l) ≡ not (any p l)
+pub none-any : (p : TaskSlot → Bool) (l : List TaskSlot) → isNone (kept p l) ≡ not (any p l)
 unfolding kept any
 none-any p [] = refl
 none-any p (t ∷ l) = go (p t) (none-any p l)

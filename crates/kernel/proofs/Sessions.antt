@@ -5,7 +5,7 @@ use mathlib.Core.Bool.{Bool, true, false, not, _&&_, _||_, false≢true}
 use mathlib.Core.List.{List, [], _∷_, _++_}
 use native.Mathlib.Omega.{arith}
 use lib.Dec.{eqb, ltb}
-use lib.ListN.{length, take, drop, length-append}
+use lib.ListN.{length, set, take, drop, length-append, length-set}
 use lib.Seq.{sets-eq}
 use borrow.Author.Tests.{lt-ltb, le-ltb, ltb-true, ltb-false}
 use Rattle.lists.proofs.Bools.{or-off}
@@ -22,7 +22,8 @@ use Rattle.journal.specs.declared.Reading.{Reading}
 use Rattle.journal.specs.declared.Reading.the-variants.{Says, Refused}
 use Rattle.journal.specs.Promise.{ReadsAs}
 use Rattle.journal.specs.Reply.{reply, replyOf}
-use Rattle.journal.specs.Steps.{noCall}
+use Rattle.journal.specs.Frames.{shapeOf}
+use Rattle.journal.specs.Steps.{noCall, readOf}
 use Rattle.journal.proofs.Stores.{reply-short}
 use Rattle.journal.proofs.Theorems.{read-is, len-within}
 use Rattle.cuts.specs.declared.Cut.{Cut}
@@ -43,13 +44,18 @@ use Rattle.kernel.proofs.Shown.{shown-running, stays-standing, next-sho
 
 -- ---- what a line says
 
-pub long-cut : (c : Cut) → 256 < c .len → noCall ≡ readCut c
-unfolding readCut
-long-cut c h = rw (lt-ltb 256 (c .len) h)
+-- an empty line is no call's line
+empty-line : noCall ≡ readOf []
+unfolding readOf shapeOf
+empty-line = refl
 
-pub short-cut : (c : Cut) (r : Read) → c .len ≤ 256 → ReadsAs (take (c .len) (c .bytes)) r → (r ≡ readCut c) × (r .len ≤ 64)
+pub whole-cut : (bytes : List ℕ) (n m : ℕ) (r : Read) → m ≡ (if ltb 256 n then 0 else n) → ReadsAs (take m bytes) r → (r ≡ readCut (cutOf bytes n)) × (r .len ≤ 64)
 unfolding readCut
-short-cut c r h f = (rw (le-ltb 256 (c .len) h) (read-is (take (c .len) (c .bytes)) r f), len-within (take (c .len) (c .bytes)) r f)
+whole-cut bytes n m r e f = (read-is (take m bytes) r f ∙ go (ltb 256 n) e, len-within (take m bytes) r f)
+  where
+    go : (b : Bool) → m ≡ (if b then 0 else n) → readOf (take m bytes) ≡ (if b then noCall else readOf (take n bytes))
+    go true q = ap (λ (i : ℕ). readOf (take i bytes)) q ∙ sym empty-line
+    go false q = ap (λ (i : ℕ). readOf (take i bytes)) q
 
 -- ---- a line's step
 
@@ -169,20 +175,43 @@ either-way false b x y = refl
 
 -- ---- the loop over the lines of a block
 
+-- a line's bytes stay as many as there is room for
+kept-wide : (c : Cut) (b : ℕ) → length (kept c b .bytes) ≡ length (c .bytes)
+unfolding kept
+kept-wide c b = go (ltb (c .len) 256)
+  where
+    go : (t : Bool) → length ((if t then cutOf (set (c .bytes) (c .len) b) (c .len + 1) else cutOf (c .bytes) 257) .bytes) ≡ length (c .bytes)
+    go true = length-set (c .bytes) (c .len) b
+    go false = refl
+
+gathered-wide : (i : ℕ) (c : Cut) (l : List ℕ) → length (gathered i c l .cut .bytes) ≡ length (c .bytes)
+unfolding gathered
+gathered-wide i c [] = refl
+gathered-wide i c (b ∷ l) = go (eqb b 10) (gathered-wide (i + 1) (kept c b) l ∙ kept-wide c b)
+  where
+    go : (t : Bool) → length (gathered (i + 1) (kept c b) l .cut .bytes) ≡ length (c .bytes)
+        → length ((if t then record { next = i; cut = c; newline = true } else gathered (i + 1) (kept c b) l) .cut .bytes) ≡ length (c .bytes)
+    go true h = refl
+    go false h = h
+
+pub keeps-wide : (bytes after : List ℕ) (len n b : ℕ) → length bytes ≡ 256 → cutOf after n ≡ kept (cutOf bytes len) b → length after ≡ 256
+keeps-wide bytes after len n b w e = ap (λ (c : Cut). length (c .bytes)) e ∙ kept-wide (cutOf bytes len) b ∙ w
+
 -- what is left of the block, run on from here, gives the whole run; the answers so far stand in the output
 pub record Going (k₀ : Kernel) (whole : Run) (lent block : List ℕ) (fine : Bool) (k : Kernel) (s bytes : List ℕ) (len at written : ℕ) (out : List ℕ) : Type 0 where
   pub answers : List ℕ
   pub within : length answers ≤ length lent
+  pub wide : length bytes ≡ 256
   pub wrote : Wrote lent 0 answers written out
   pub known : fine ≡ sound (shown k)
   pub same : sound (shown k) ≡ sound (shown k₀)
   pub stand : k ≡ standing k₀ (shown k)
   pub goes : run (length lent) (under at (shown k) s (cutOf bytes len) answers) (drop at block) ≡ whole
 
-pub set-out : (lent block : List ℕ) (fine : Bool) (k : Kernel) (s : List ℕ) (c : Cut) → fine ≡ sound (shown k) → (fine ≡ true → k ≡ kernelOf (shown k))
+pub set-out : (lent block : List ℕ) (fine : Bool) (k : Kernel) (s : List ℕ) (c : Cut) → length (c .bytes) ≡ 256 → fine ≡ sound (shown k) → (fine ≡ true → k ≡ kernelOf (shown k))
     → Going k (run (length lent) (begun (shown k) s c) block) lent block fine k s (c .bytes) (c .len) 0 0 lent
-set-out lent block fine k s c e f =
-    record { answers = []; within = omega arith; wrote = wrote-none lent 0; known = e; same = refl; stand = stays-standing k (λ q. f (e ∙ q)); goes = refl }
+set-out lent block fine k s c w e f =
+    record { answers = []; within = omega arith; wide = w; wrote = wrote-none lent 0; known = e; same = refl; stand = stays-standing k (λ q. f (e ∙ q)); goes = refl }
 
 -- the kernel value stands for a state, if it is sound
 pub stands-on : {k₀ : Kernel} {whole : Run} {lent block : List ℕ} {fine : Bool} {k : Kernel} {s bytes : List ℕ} {len at written : ℕ} {out : List ℕ}
@@ -201,6 +230,7 @@ pub gathers-on : {k₀ : Kernel} {whole : Run} {lent block : List ℕ} {fine : B
 gathers-on {lent = lent} {block = block} {k = k} {s = s} {bytes = bytes} {len = len} {at = at} {r = r} {after = after} w g = record {
   answers = w .answers;
   within = w .within;
+  wide = ap (λ (x : Cut). length (x .bytes)) (g .cut) ∙ gathered-wide at (cutOf bytes len) (drop at block) ∙ w .wide;
   wrote = w .wrote;
   known = w .known;
   same = w .same;
@@ -306,6 +336,7 @@ module _ {k₀ : Kernel} {whole : Run} {lent block : List ℕ} {fine : Bool} {k 
     answered-on = record {
       answers = w .answers ++ line;
       within = omega (arith, length-append (w .answers) line, reply-short (q .answer) (taskNo (q .kernel .running)), fits);
+      wide = keeps-wide bytes (cut .bytes) len (cut .len) 10 (w .wide) keeps;
       wrote = wrote-then (w .wrote) wrote;
       known = w .known ∙ sym as-sound;
       same = as-sound ∙ w .same;

@@ -1,9 +1,11 @@
 // A session: bytes come in blocks, cut anywhere, and each line that ends among them is answered. Soundness is tested once a block; a step keeps it.
 ghost use mathlib.Core.Path.{_≡_};
 ghost use Prim.Native.Nat.{_≤_};
+ghost use lib.Dec.{ltb};
+ghost use Rattle.lists.specs.Choice.{if_then_else_};
 ghost use mathlib.Core.Bool.{true};
 ghost use Rattle.rules.specs.Sound.{sound};
-ghost use Rattle.rules.specs.Session.{readCut, stepRead};
+ghost use Rattle.rules.specs.Session.{stepRead};
 ghost use Rattle.kernel.specs.Stands.{kernelOf, shown};
 ghost use Rattle.kernel.specs.Serving.{beforeCall, callIn};
 ghost use Rattle.kernel.specs.Promises.{Is, Answers, Closes, newSession};
@@ -22,20 +24,11 @@ use journal::Reading;
 use journal::put_answer;
 use journal::read_call;
 
-// What a line says; nothing, if it is too long.
-fn read_cut(cut: Cut) -> Read
-    ensures { λ r. ⌜ (r ≡ readCut cut) × (r .len ≤ 64) ⌝ }
+// How many of a line's bytes are read: all of them, or none, if it is too long. (No call's line is empty.)
+fn whole(len: usize) -> usize
+    ensures { λ r. ⌜ (r ≡ if ltb 256 len then 0 else len) × (r ≤ 256) ⌝ }
 {
-    let bytes = cut.bytes;
-    let len = cut.len;
-    if 256 < len {
-        return Read {
-            answer: Reading::Refused(3),
-            item: [0u8; 64],
-            len: 0,
-        };
-    }
-    read_call(&bytes[..len])
+    if 256 < len { 0 } else { len }
 }
 
 // The number that a line gets before its call is looked at: 1 and 2 stand before 3; 0 if it has a call to step.
@@ -118,7 +111,9 @@ impl Session {
                 };
             }
             let n = keep(&mut bytes, stop.len, 10);
-            let step = kernel.line_step(fine, read_cut(Cut { bytes, len: n }), store);
+            let m = whole(n);
+            let line = read_call(&bytes[..m]);
+            let step = kernel.line_step(fine, line, store);
             kernel = step.kernel;
             let answer = step.answer;
             written = put_answer(out, written, answer, TaskNo::of_slot(kernel.running));

@@ -1,4 +1,4 @@
-// The refusal table: a method for each row, and the first row that applies.
+// The refusal table: a method for each row, and the first row that applies. A row that speaks of one call looks at the call's number first.
 ghost use mathlib.Core.Path.{_≡_};
 ghost use Rattle.rules.specs.Refusals.{outOfRange, namesNone, sizeDiffers, wrongSize, notForIdle, notWithHold, notHis, hisAlready, notSuspended, isFull, isEmpty, stopsAt, mustWait, noDepth, noTick, firstRow, heldOrWaited, inUse};
 ghost use Rattle.kernel.specs.Rows.{lateRows, rowsFour, rowsTwo, SeesOf};
@@ -70,10 +70,16 @@ fn is_empty(x: Kind) -> bool
 fn stops_at(a: Asked, x: Kind) -> bool
     ensures { λ r. ⌜ r ≡ stopsAt a x ⌝ }
 {
-    let sends = lists::both(asking::is(a, 13), is_full(x));
-    let receives = lists::both(asking::is(a, 14), is_empty(x));
-    let takes = lists::both(asking::is(a, 15), x.is_held());
-    lists::either(sends, lists::either(receives, takes))
+    if asking::is(a, 13) {
+        return is_full(x);
+    }
+    if asking::is(a, 14) {
+        return is_empty(x);
+    }
+    if asking::is(a, 15) {
+        return x.is_held();
+    }
+    false
 }
 
 impl Seen {
@@ -95,8 +101,11 @@ impl Seen {
     fn wrong_size(self, a: Asked, n: usize) -> bool
         ensures { λ r. ⌜ r ≡ wrongSize (seenOf self) a n ⌝ }
     {
-        let x = self.kind;
-        lists::both(asking::is(a, 13), size_differs(x, n))
+        if asking::is(a, 13) {
+            let x = self.kind;
+            return size_differs(x, n);
+        }
+        false
     }
 
     fn not_for_idle(self, a: Asked) -> bool
@@ -105,75 +114,90 @@ impl Seen {
         let t = a.task;
         let u = self.running;
         let of_idle = t.is_idle();
-        let by_idle = u.is_idle();
-        let stops = lists::both(asking::stops(a), of_idle);
-        let sets = lists::both(asking::is(a, 5), lists::both(of_idle, a.priority != 0));
-        let blocks = lists::either(
-            asking::is(a, 6),
-            lists::either(asking::is(a, 15), asking::waits(a)),
-        );
-        lists::either(stops, lists::either(sets, lists::both(blocks, by_idle)))
+        if lists::both(asking::stops(a), of_idle) {
+            return true;
+        }
+        if lists::both(asking::is(a, 5), lists::both(of_idle, a.priority != 0)) {
+            return true;
+        }
+        lists::both(asking::blocks(a), u.is_idle())
     }
 
     fn not_with_hold(self, a: Asked) -> bool
         ensures { λ r. ⌜ r ≡ notWithHold (seenOf self) a ⌝ }
     {
+        if self.hold == 0 {
+            return false;
+        }
         let t = a.task;
         let u = self.running;
         let own = lists::both(asking::stops(a), t.same(u));
         let waits = lists::either(asking::waits(a), own);
-        let gives_way = lists::either(asking::is(a, 6), lists::either(asking::is(a, 7), waits));
-        lists::both(0 < self.hold, gives_way)
+        lists::either(asking::is(a, 6), lists::either(asking::is(a, 7), waits))
     }
 
     fn not_his(self, a: Asked) -> bool
         ensures { λ r. ⌜ r ≡ notHis (seenOf self) a ⌝ }
     {
-        let x = self.kind;
-        let mine = x.held_by(self.running);
-        lists::both(asking::is(a, 16), !mine)
+        if asking::is(a, 16) {
+            let x = self.kind;
+            let mine = x.held_by(self.running);
+            return !mine;
+        }
+        false
     }
 
     fn his_already(self, a: Asked) -> bool
         ensures { λ r. ⌜ r ≡ hisAlready (seenOf self) a ⌝ }
     {
-        let x = self.kind;
-        lists::both(asking::is(a, 15), x.held_by(self.running))
+        if asking::is(a, 15) {
+            let x = self.kind;
+            return x.held_by(self.running);
+        }
+        false
     }
 
     fn not_suspended(self, a: Asked) -> bool
         ensures { λ r. ⌜ r ≡ notSuspended (seenOf self) a ⌝ }
     {
-        let p = self.place;
-        let s = p.is_suspended();
-        lists::both(asking::is(a, 4), !s)
+        if asking::is(a, 4) {
+            let p = self.place;
+            let s = p.is_suspended();
+            return !s;
+        }
+        false
     }
 
     fn must_wait(self, a: Asked) -> bool
         ensures { λ r. ⌜ r ≡ mustWait (seenOf self) a ⌝ }
     {
+        if asking::waits(a) {
+            return false;
+        }
         let x = self.kind;
-        let w = asking::waits(a);
-        lists::both(!w, stops_at(a, x))
+        stops_at(a, x)
     }
 
     fn no_depth(self, a: Asked) -> bool
         ensures { λ r. ⌜ r ≡ noDepth (seenOf self) a ⌝ }
     {
         let h = self.hold;
-        lists::either(
-            lists::both(asking::is(a, 8), h == 255),
-            lists::both(asking::is(a, 9), h == 0),
-        )
+        if asking::is(a, 8) {
+            return h == 255;
+        }
+        if asking::is(a, 9) {
+            return h == 0;
+        }
+        false
     }
 
     fn no_tick(self, a: Asked) -> bool
         ensures { λ r. ⌜ r ≡ noTick (seenOf self) a ⌝ }
     {
-        lists::both(
-            asking::is(a, 17),
-            lists::both(0 < self.hold, self.pended == 65535),
-        )
+        if asking::is(a, 17) {
+            return lists::both(0 < self.hold, self.pended == 65535);
+        }
+        false
     }
 
     // Rows 9 to 16.

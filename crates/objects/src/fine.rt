@@ -50,12 +50,12 @@ fn one_if(b: bool) -> u8
     if b { 1 } else { 0 }
 }
 
-// How far a walk goes that has `n` to find: to the end, or nowhere.
+// How far a walk goes that has `n` to find: to the end, or nowhere. (Asked this way round, the compiler does not see that these are all, and leaves the walk a loop.)
 fn bound(n: u8) -> usize
     ensures { λ r. ⌜ r ≡ min 16 (16 * n) ⌝ }
 {
     let far = 16 * (n as usize);
-    if far < 16 { far } else { 16 }
+    if 16 < far { 16 } else { far }
 }
 
 fn opened(s: u8, c: u8, k: u8) -> bool

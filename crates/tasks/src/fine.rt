@@ -1,13 +1,13 @@
 // What soundness asks of the tasks, tested in numbers: no Task is made, so that the compiler does all sixteen rows at once.
 ghost use Prim.Native.Nat.{_*_, min};
 ghost use mathlib.Core.Path.{_≡_};
-ghost use mathlib.Core.Bool.{_&&_, not};
-ghost use lib.ListN.{getD};
+ghost use mathlib.Core.Bool.{_||_, not};
 ghost use Rattle.lists.specs.Choice.{if_then_else_};
 ghost use Rattle.lists.specs.Lists.{allBelow};
 ghost use Rattle.slots.specs.Fine.{idleFine};
 ghost use Rattle.order.specs.Order.{listed};
 ghost use Rattle.tasks.specs.Rows.{rowAt};
+ghost use Rattle.tasks.specs.Walks.{higherIn};
 ghost use Rattle.tasks.specs.Known.{waits};
 ghost use Rattle.tasks.specs.Fine.{rowFine, wakeFine, rowsFine, wakesFine, waitingIn, waitsAt, runsIn, Fine};
 use crate::Tasks;
@@ -20,12 +20,12 @@ fn one_if(b: bool) -> u8
     if b { 1 } else { 0 }
 }
 
-// How far a walk goes that has `n` to find: to the end, or nowhere.
+// How far a walk goes that has `n` to find: to the end, or nowhere. (Asked this way round, the compiler does not see that these are all, and leaves the walk a loop.)
 fn bound(n: u8) -> usize
     ensures { λ r. ⌜ r ≡ min 16 (16 * n) ⌝ }
 {
     let far = 16 * (n as usize);
-    if far < 16 { far } else { 16 }
+    if 16 < far { 16 } else { far }
 }
 
 fn wide(n: u8) -> usize
@@ -171,22 +171,23 @@ impl Tasks {
         ok
     }
 
-    fn level(self, t: TaskSlot) -> u8
-        ensures { λ r. ⌜ r ≡ rowAt self (t .0) .effective ⌝ }
+    fn stands_top(self, o: Order, p: u8, held: bool) -> bool
+        ensures { λ r. ⌜ r ≡ (held || not (higherIn self p (listed o))) ⌝ }
     {
-        let effective = self.effective;
-        let i = t.slot();
-        if i < 16 { effective[i] } else { 0 }
+        if held {
+            return true;
+        }
+        let outranked = self.higher(o, p);
+        !outranked
     }
 
-    // The running task `u` heads its line, and no row outranks it, unless `held`.
+    // The running task `u` heads its line, and, unless `held`, no listed task is in a higher one.
     pub fn runs_fine(self, o: Order, u: TaskSlot, held: bool) -> bool
         ensures { λ r. ⌜ r ≡ runsIn self (listed o) u held ⌝ }
     {
         let p = self.level(u);
         let heads = self.head(o, p).same(u);
-        let outranked = self.outranked(p);
-        let top = lists::either(held, !outranked);
+        let top = self.stands_top(o, p, held);
         lists::both(u.slot() < 16, lists::both(heads, top))
     }
 }

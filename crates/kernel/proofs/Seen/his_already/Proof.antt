@@ -1,6 +1,6 @@
 use borrow.Author.Needs.{needs}
+use mathlib.Core.Path.{sym, _∙_}
 use Rattle.rules.specs.Refusals.{hisAlready}
-use mathlib.Core.Path.{_∙_}
 use Rattle.kernel.proofs.Seen.his_already.Statement.{statement}
 use Rattle.kernel.proofs.Seen.his_already.Tie as tie
 
@@ -10,12 +10,13 @@ is-requires c κs = search needs
 held-by-requires : tie.Need-held-by-requires
 held-by-requires c κs = search needs
 
-both-requires : tie.Need-both-requires
-both-requires c κs = search needs
-
 returns : tie.Need-returns
 unfolding hisAlready
-returns c = c .both .ensures ∙ rw (c .before .held-by .ensures, c .before .before .is .ensures)
+returns c = rw (sym (c .before .before .is .ensures) ∙ c .before .if1 .taken) (c .held-by .ensures)
+
+returns-2 : tie.Need-returns-2
+unfolding hisAlready
+returns-2 c = rw (sym (c .before .is .ensures) ∙ c .if1 .left)
 
 pub his-already-spec : {M : Type 1} → statement M
-his-already-spec = tie.close (tie.spec is-requires held-by-requires both-requires returns)
+his-already-spec = tie.close (tie.spec is-requires held-by-requires returns returns-2)

@@ -1,6 +1,6 @@
 use borrow.Author.Needs.{needs}
+use mathlib.Core.Path.{sym, _∙_}
 use Rattle.rules.specs.Refusals.{noTick}
-use mathlib.Core.Path.{_∙_}
 use Rattle.kernel.proofs.Seen.no_tick.Statement.{statement}
 use Rattle.kernel.proofs.Seen.no_tick.Tie as tie
 
@@ -10,12 +10,13 @@ is-requires c κs = search needs
 both-requires : tie.Need-both-requires
 both-requires c κs = search needs
 
-both-requires-2 : tie.Need-both-requires-2
-both-requires-2 c κs = search needs
-
 returns : tie.Need-returns
 unfolding noTick
-returns c = c .both2 .ensures ∙ rw (c .before .both .ensures, c .before .before .before .before .is .ensures)
+returns c = rw (sym (c .before .before .before .before .is .ensures) ∙ c .before .before .before .if1 .taken) (c .both .ensures)
+
+returns-2 : tie.Need-returns-2
+unfolding noTick
+returns-2 c = rw (sym (c .before .is .ensures) ∙ c .if1 .left)
 
 pub no-tick-spec : {M : Type 1} → statement M
-no-tick-spec = tie.close (tie.spec is-requires both-requires both-requires-2 returns)
+no-tick-spec = tie.close (tie.spec is-requires both-requires returns returns-2)

@@ -1,21 +1,22 @@
 use borrow.Author.Needs.{needs}
+use mathlib.Core.Path.{sym, _∙_}
 use Rattle.rules.specs.Refusals.{notSuspended}
-use mathlib.Core.Path.{_∙_}
 use Rattle.kernel.proofs.Seen.not_suspended.Statement.{statement}
 use Rattle.kernel.proofs.Seen.not_suspended.Tie as tie
-
-is-suspended-requires : tie.Need-is-suspended-requires
-is-suspended-requires c κs = search needs
 
 is-requires : tie.Need-is-requires
 is-requires c κs = search needs
 
-both-requires : tie.Need-both-requires
-both-requires c κs = search needs
+is-suspended-requires : tie.Need-is-suspended-requires
+is-suspended-requires c κs = search needs
 
 returns : tie.Need-returns
 unfolding notSuspended
-returns c = c .both .ensures ∙ rw (c .before .is .ensures, c .before .before .is-suspended .ensures)
+returns c = rw (sym (c .before .before .is .ensures) ∙ c .before .if1 .taken, ← c .is-suspended .ensures)
+
+returns-2 : tie.Need-returns-2
+unfolding notSuspended
+returns-2 c = rw (sym (c .before .is .ensures) ∙ c .if1 .left)
 
 pub not-suspended-spec : {M : Type 1} → statement M
-not-suspended-spec = tie.close (tie.spec is-suspended-requires is-requires both-requires returns)
+not-suspended-spec = tie.close (tie.spec is-requires is-suspended-requires returns returns-2)

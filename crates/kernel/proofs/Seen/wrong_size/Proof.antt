@@ -1,6 +1,6 @@
 use borrow.Author.Needs.{needs}
+use mathlib.Core.Path.{sym, _∙_}
 use Rattle.rules.specs.Refusals.{wrongSize}
-use mathlib.Core.Path.{_∙_}
 use Rattle.kernel.proofs.Seen.wrong_size.Statement.{statement}
 use Rattle.kernel.proofs.Seen.wrong_size.Tie as tie
 
@@ -10,12 +10,13 @@ is-requires c κs = search needs
 size-differs-requires : tie.Need-size-differs-requires
 size-differs-requires c κs = search needs
 
-both-requires : tie.Need-both-requires
-both-requires c κs = search needs
-
 returns : tie.Need-returns
 unfolding wrongSize
-returns c = c .both .ensures ∙ rw (c .before .size-differs .ensures, c .before .before .is .ensures)
+returns c = rw (sym (c .before .before .is .ensures) ∙ c .before .if1 .taken) (c .size-differs .ensures)
+
+returns-2 : tie.Need-returns-2
+unfolding wrongSize
+returns-2 c = rw (sym (c .before .is .ensures) ∙ c .if1 .left)
 
 pub wrong-size-spec : {M : Type 1} → statement M
-wrong-size-spec = tie.close (tie.spec is-requires size-differs-requires both-requires returns)
+wrong-size-spec = tie.close (tie.spec is-requires size-differs-requires returns returns-2)

@@ -6,10 +6,12 @@ use Rattle.kernel.specs.Stands.{shown}
 use Rattle.kernel.specs.Promises.{Is}
 use Rattle.rules.specs.Session.{stepRead, run, begun}
 use lib.ListN.{length}
-use mathlib.Core.Path.{_≡_, refl, subst}
+use mathlib.Core.Path.{_≡_, refl, sym, subst}
+use Rattle.lists.proofs.Loops.{length-mapped}
+use lib.Seq.{length-take-le}
 use native.Mathlib.Omega.{arith}
 use Rattle.journal.specs.declared.Read.{Read}
-use Rattle.kernel.proofs.Sessions.{Going, set-out, stands-on, so-far, gathers-on, goes-on, stopped, answered-on}
+use Rattle.kernel.proofs.Sessions.{Going, whole-cut, keeps-wide, set-out, stands-on, so-far, gathers-on, goes-on, stopped, answered-on}
 use Rattle.kernel.proofs.Session.answer.Statement.{statement}
 use Rattle.kernel.proofs.Session.answer.Tie as tie
 
@@ -25,7 +27,9 @@ sound-requires : tie.Need-sound-requires Inv-loop μ-loop
 sound-requires c κs = search needs
 
 loop-holds : tie.Need-loop-holds Inv-loop μ-loop
-loop-holds c = (set-out (c .before .before .before .before .before .before .args .out .now) (c .before .before .before .before .before .before .args .block .now) (c .before .sound .result) (c .before .before .before .before .before .before .args .self .kernel) (c .before .before .before .before .before .before .args .store .now) (c .before .before .before .before .before .before .args .self .cut) (c .before .sound .ensures .0) (c .before .sound .ensures .1), refl)
+loop-holds c =
+    let long : length (c .before .before .before .before .before .before .args .self .cut .bytes) ≡ 256 = search length-mapped in
+    (set-out (c .before .before .before .before .before .before .args .out .now) (c .before .before .before .before .before .before .args .block .now) (c .before .sound .result) (c .before .before .before .before .before .before .args .self .kernel) (c .before .before .before .before .before .before .args .store .now) (c .before .before .before .before .before .before .args .self .cut) long (c .before .sound .ensures .0) (c .before .sound .ensures .1), refl)
 
 gather-requires : tie.Need-gather-requires Inv-loop μ-loop
 gather-requires c κs = search needs
@@ -55,13 +59,28 @@ returns c =
 keep-requires : tie.Need-keep-requires Inv-loop μ-loop
 keep-requires c κs = search needs
 
-read-cut-requires : tie.Need-read-cut-requires Inv-loop μ-loop
-read-cut-requires c κs = search needs
+whole-requires : tie.Need-whole-requires Inv-loop μ-loop
+whole-requires c κs = search needs
+
+array-share-prefix-bytes : tie.Need-array-share-prefix-bytes Inv-loop μ-loop
+array-share-prefix-bytes c =
+    let w = gathers-on (c .before .before .before .before .before .before .before .before .loop .inv .0) (c .before .before .before .before .before .before .gather .ensures) in
+    let l = keeps-wide _ (c .before .keep .last .0) (c .before .before .before .before .before .before .gather .result .len) (c .before .keep .result) 10 (w .wide) (c .before .keep .ensures) in
+    omega (arith, l, c .whole .ensures .1)
+
+slice-aggregate-read-call : tie.Need-slice-aggregate-read-call Inv-loop μ-loop
+slice-aggregate-read-call c =
+    let w = gathers-on (c .before .before .before .before .before .before .before .before .before .loop .inv .0) (c .before .before .before .before .before .before .before .gather .ensures) in
+    let l = keeps-wide _ (c .before .before .keep .last .0) (c .before .before .before .before .before .before .before .gather .result .len) (c .before .before .keep .result) 10 (w .wide) (c .before .before .keep .ensures) in
+    sym (length-take-le (c .before .whole .result) (c .before .before .keep .last .0) (omega (arith, l, c .before .whole .ensures .1)))
+
+read-call-requires : tie.Need-read-call-requires Inv-loop μ-loop
+read-call-requires c κs = search needs
 
 line-step-requires : tie.Need-line-step-requires Inv-loop μ-loop
 line-step-requires c κs =
-    let w = c .before .before .before .before .before .before .before .before .before .loop .inv .0 in
-    (w .known, stands-on w, c .before .read-cut .ensures .1)
+    let w = c .before .before .before .before .before .before .before .before .before .before .before .loop .inv .0 in
+    (w .known, stands-on w, whole-cut (c .before .before .before .before .keep .last .0) (c .before .before .before .before .keep .result) (c .before .before .before .whole .result) (c .before .read-call .result) (c .before .before .before .whole .ensures .0) (c .before .read-call .ensures) .1)
 
 of-slot-requires : tie.Need-of-slot-requires Inv-loop μ-loop
 of-slot-requires c κs = search needs
@@ -71,30 +90,30 @@ put-answer-requires c κs = search needs
 
 add-at : tie.Need-add-at Inv-loop μ-loop
 add-at c =
-    let l = c .before .before .before .before .before .before .before .before .before .before .before .before .before .before .before .before .before .before .before in
-    let g = c .before .before .before .before .before .before .before .before .before .before .before .before .before .before .before .before .before .gather in
-    let r = goes-on (g .result .newline) (length (l .loop .out) - l .loop .written) (c .before .before .before .before .before .before .before .before .before .before .before .before .before .before .before .either .result) (c .before .before .before .before .before .before .before .before .before .before .before .before .before .before .before .either .ensures) (c .before .before .before .before .before .before .before .before .before .before .before .before .before .before .if1 .left) in
-    let h = further (c .before .before .before .before .before .before .before .before .before .before .before .before .before .before .before .before .before .before .before .before .before .before .before .before .before .before .args .block .now) (l .loop .at) (cutOf (l .loop .bytes) (l .loop .len)) (g .result) (g .last .1 .1 .0) (g .ensures) (r .0) in
+    let l = c .before .before .before .before .before .before .before .before .before .before .before .before .before .before .before .before .before .before .before .before .before in
+    let g = c .before .before .before .before .before .before .before .before .before .before .before .before .before .before .before .before .before .before .before .gather in
+    let r = goes-on (g .result .newline) (length (l .loop .out) - l .loop .written) (c .before .before .before .before .before .before .before .before .before .before .before .before .before .before .before .before .before .either .result) (c .before .before .before .before .before .before .before .before .before .before .before .before .before .before .before .before .before .either .ensures) (c .before .before .before .before .before .before .before .before .before .before .before .before .before .before .before .before .if1 .left) in
+    let h = further (c .before .before .before .before .before .before .before .before .before .before .before .before .before .before .before .before .before .before .before .before .before .before .before .before .before .before .before .before .args .block .now) (l .loop .at) (cutOf (l .loop .bytes) (l .loop .len)) (g .result) (g .last .1 .1 .0) (g .ensures) (r .0) in
     omega (arith, h .1)
 
 loop-less : tie.Need-loop-less Inv-loop μ-loop
 loop-less c =
-    let l = c .before .before .before .before .before .before .before .before .before .before .before .before .before .before .before .before .before .before .before in
-    let g = c .before .before .before .before .before .before .before .before .before .before .before .before .before .before .before .before .before .gather in
-    let r = goes-on (g .result .newline) (length (l .loop .out) - l .loop .written) (c .before .before .before .before .before .before .before .before .before .before .before .before .before .before .before .either .result) (c .before .before .before .before .before .before .before .before .before .before .before .before .before .before .before .either .ensures) (c .before .before .before .before .before .before .before .before .before .before .before .before .before .before .if1 .left) in
-    let h = further (c .before .before .before .before .before .before .before .before .before .before .before .before .before .before .before .before .before .before .before .before .before .before .before .before .before .before .args .block .now) (l .loop .at) (cutOf (l .loop .bytes) (l .loop .len)) (g .result) (g .last .1 .1 .0) (g .ensures) (r .0) in
+    let l = c .before .before .before .before .before .before .before .before .before .before .before .before .before .before .before .before .before .before .before .before .before in
+    let g = c .before .before .before .before .before .before .before .before .before .before .before .before .before .before .before .before .before .before .before .gather in
+    let r = goes-on (g .result .newline) (length (l .loop .out) - l .loop .written) (c .before .before .before .before .before .before .before .before .before .before .before .before .before .before .before .before .before .either .result) (c .before .before .before .before .before .before .before .before .before .before .before .before .before .before .before .before .before .either .ensures) (c .before .before .before .before .before .before .before .before .before .before .before .before .before .before .before .before .if1 .left) in
+    let h = further (c .before .before .before .before .before .before .before .before .before .before .before .before .before .before .before .before .before .before .before .before .before .before .before .before .before .before .before .before .args .block .now) (l .loop .at) (cutOf (l .loop .bytes) (l .loop .len)) (g .result) (g .last .1 .1 .0) (g .ensures) (r .0) in
     omega (arith, h .0, h .1)
 
 loop-again : tie.Need-loop-again Inv-loop μ-loop
 loop-again c =
-    let l = c .before .before .before .before .before .before .before .before .before .before .before .before .before .before .before .before .before .before .before in
-    let g = c .before .before .before .before .before .before .before .before .before .before .before .before .before .before .before .before .before .gather in
+    let l = c .before .before .before .before .before .before .before .before .before .before .before .before .before .before .before .before .before .before .before .before .before in
+    let g = c .before .before .before .before .before .before .before .before .before .before .before .before .before .before .before .before .before .before .before .gather in
     let q = c .before .before .before .before .before .before .before .before .before .line-step in
-    let cut = cutOf (c .before .before .before .before .before .before .before .before .before .before .before .before .keep .last .0) (c .before .before .before .before .before .before .before .before .before .before .before .before .keep .result) in
-    let r = goes-on (g .result .newline) (length (l .loop .out) - l .loop .written) (c .before .before .before .before .before .before .before .before .before .before .before .before .before .before .before .either .result) (c .before .before .before .before .before .before .before .before .before .before .before .before .before .before .before .either .ensures) (c .before .before .before .before .before .before .before .before .before .before .before .before .before .before .if1 .left) in
-    let newline = stands (c .before .before .before .before .before .before .before .before .before .before .before .before .before .before .before .before .before .before .before .before .before .before .before .before .before .before .args .block .now) (l .loop .at) (cutOf (l .loop .bytes) (l .loop .len)) (g .result) (g .last .1 .1 .0) (g .ensures) (r .0) in (
-      answered-on (gathers-on (l .loop .inv .0) (g .ensures)) cut (q .result) (q .last .1 .1 .1 .0) (c .before .before .before .put-answer .result) (c .before .before .before .put-answer .last .0) (c .before .before .before .before .before .before .before .before .before .before .before .before .keep .ensures)
-          (subst (λ (x : Read). Is (l .loop .kernel) (stepRead (shown (l .loop .kernel)) (l .loop .store) x) (q .result) (q .last .1 .1 .1 .0)) (c .before .before .before .before .before .before .before .before .before .before .before .read-cut .ensures .0) (q .ensures))
+    let cut = cutOf (c .before .before .before .before .before .before .before .before .before .before .before .before .before .before .keep .last .0) (c .before .before .before .before .before .before .before .before .before .before .before .before .before .before .keep .result) in
+    let r = goes-on (g .result .newline) (length (l .loop .out) - l .loop .written) (c .before .before .before .before .before .before .before .before .before .before .before .before .before .before .before .before .before .either .result) (c .before .before .before .before .before .before .before .before .before .before .before .before .before .before .before .before .before .either .ensures) (c .before .before .before .before .before .before .before .before .before .before .before .before .before .before .before .before .if1 .left) in
+    let newline = stands (c .before .before .before .before .before .before .before .before .before .before .before .before .before .before .before .before .before .before .before .before .before .before .before .before .before .before .before .before .args .block .now) (l .loop .at) (cutOf (l .loop .bytes) (l .loop .len)) (g .result) (g .last .1 .1 .0) (g .ensures) (r .0) in (
+      answered-on (gathers-on (l .loop .inv .0) (g .ensures)) cut (q .result) (q .last .1 .1 .1 .0) (c .before .before .before .put-answer .result) (c .before .before .before .put-answer .last .0) (c .before .before .before .before .before .before .before .before .before .before .before .before .before .before .keep .ensures)
+          (subst (λ (x : Read). Is (l .loop .kernel) (stepRead (shown (l .loop .kernel)) (l .loop .store) x) (q .result) (q .last .1 .1 .1 .0)) (whole-cut (c .before .before .before .before .before .before .before .before .before .before .before .before .before .before .keep .last .0) (c .before .before .before .before .before .before .before .before .before .before .before .before .before .before .keep .result) (c .before .before .before .before .before .before .before .before .before .before .before .before .before .whole .result) (c .before .before .before .before .before .before .before .before .before .before .before .read-call .result) (c .before .before .before .before .before .before .before .before .before .before .before .before .before .whole .ensures .0) (c .before .before .before .before .before .before .before .before .before .before .before .read-call .ensures) .0) (q .ensures))
           (rw (← c .before .before .before .before .of-slot .ensures) (c .before .before .before .put-answer .ensures)) (r .1) newline,
       search needs,
     )
@@ -114,7 +133,10 @@ answer-spec =
     same-length-2
     returns
     keep-requires
-    read-cut-requires
+    whole-requires
+    array-share-prefix-bytes
+    slice-aggregate-read-call
+    read-call-requires
     line-step-requires
     of-slot-requires
     put-answer-requires

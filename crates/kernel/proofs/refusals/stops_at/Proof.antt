@@ -1,5 +1,10 @@
 use borrow.Author.Needs.{needs}
-use mathlib.Core.Path.{_∙_}
+use mathlib.Core.Bool.{or-false}
+use Rattle.rules.proofs.Asks.{is-not}
+use mathlib.Core.Bool.{true}
+use mathlib.Core.Path.{_≡_, sym, _∙_}
+use native.Mathlib.Omega.{arith}
+use Rattle.rules.specs.Asking.{is}
 use Rattle.kernel.proofs.refusals.stops_at.Statement.{statement}
 use Rattle.kernel.proofs.refusals.stops_at.Tie as tie
 
@@ -9,8 +14,11 @@ is-requires c κs = search needs
 is-full-requires : tie.Need-is-full-requires
 is-full-requires c κs = search needs
 
-both-requires : tie.Need-both-requires
-both-requires c κs = search needs
+returns : tie.Need-returns
+returns c =
+    let a = c .before .before .before .args .a in
+    let e : is 13 a ≡ true = sym (c .before .before .is .ensures) ∙ c .before .if1 .taken in
+    c .is-full .ensures ∙ sym (rw (e, is-not 13 14 a (λ z. omega arith) e, is-not 13 15 a (λ z. omega arith) e) (or-false _))
 
 is-requires-2 : tie.Need-is-requires-2
 is-requires-2 c κs = search needs
@@ -18,8 +26,11 @@ is-requires-2 c κs = search needs
 is-empty-requires : tie.Need-is-empty-requires
 is-empty-requires c κs = search needs
 
-both-requires-2 : tie.Need-both-requires-2
-both-requires-2 c κs = search needs
+returns-2 : tie.Need-returns-2
+returns-2 c =
+    let a = c .before .before .before .before .before .args .a in
+    let e : is 14 a ≡ true = sym (c .before .before .is2 .ensures) ∙ c .before .if2 .taken in
+    c .is-empty .ensures ∙ sym (rw (sym (c .before .before .before .before .is .ensures) ∙ c .before .before .before .if1 .left, e, is-not 14 15 a (λ z. omega arith) e) (or-false _))
 
 is-requires-3 : tie.Need-is-requires-3
 is-requires-3 c κs = search needs
@@ -27,17 +38,11 @@ is-requires-3 c κs = search needs
 is-held-requires : tie.Need-is-held-requires
 is-held-requires c κs = search needs
 
-both-requires-3 : tie.Need-both-requires-3
-both-requires-3 c κs = search needs
+returns-3 : tie.Need-returns-3
+returns-3 c = rw (sym (c .before .before .before .before .before .before .is .ensures) ∙ c .before .before .before .before .before .if1 .left, sym (c .before .before .before .before .is2 .ensures) ∙ c .before .before .before .if2 .left, sym (c .before .before .is3 .ensures) ∙ c .before .if3 .taken) (c .is-held .ensures)
 
-either-requires : tie.Need-either-requires
-either-requires c κs = search needs
-
-either-requires-2 : tie.Need-either-requires-2
-either-requires-2 c κs = search needs
-
-returns : tie.Need-returns
-returns c = c .either2 .ensures ∙ rw (c .before .either .ensures, c .before .before .both3 .ensures, c .before .before .before .is-held .ensures, c .before .before .before .before .is3 .ensures, c .before .before .before .before .before .both2 .ensures, c .before .before .before .before .before .before .is-empty .ensures, c .before .before .before .before .before .before .before .is2 .ensures, c .before .before .before .before .before .before .before .before .both .ensures, c .before .before .before .before .before .before .before .before .before .is-full .ensures, c .before .before .before .before .before .before .before .before .before .before .is .ensures)
+returns-4 : tie.Need-returns-4
+returns-4 c = rw (sym (c .before .before .before .before .before .is .ensures) ∙ c .before .before .before .before .if1 .left, sym (c .before .before .before .is2 .ensures) ∙ c .before .before .if2 .left, sym (c .before .is3 .ensures) ∙ c .if3 .left)
 
 pub stops-at-spec : {M : Type 1} → statement M
 stops-at-spec =
@@ -45,13 +50,11 @@ stops-at-spec =
     (tie.spec
     is-requires
     is-full-requires
-    both-requires
+    returns
     is-requires-2
     is-empty-requires
-    both-requires-2
+    returns-2
     is-requires-3
     is-held-requires
-    both-requires-3
-    either-requires
-    either-requires-2
-    returns)
+    returns-3
+    returns-4)

@@ -31,13 +31,15 @@ add-tallies c = omega (arith, c .before .before .before .before .loop .inv .0 .f
 
 loop-again : tie.Need-loop-again Inv-loop μ-loop
 loop-again c =
-    let l = c .before .before .before .before .loop in
-    let o = c .before .before .before .before .before .before .before .args .self in
+    let c4 = c .before .before .before .before in
+    let l = c4 .loop in
+    let o = c4 .before .before .before .args .self in
     let t = getD (o .places) (l .i) idle in (
       count-turn (l .inv .0) (search needs)
           (⊎-elim (λ v. v .1 ∙ rw (c .before .slot .ensures)) (λ v. v .1 ∙ bump-past (l .tallies) t (rw (← c .before .slot .ensures) (omega (arith, v .0 .left, l .inv .0 .wide)))) (c .if1 .came)),
       all-turn (l .inv .1)
-          (⊎-elim (λ v. v .2 ∙ listed-low (l .numbers) (t .0) (rw (← c .before .slot .ensures) (v .0 .taken))) (λ v. v .2 ∙ listed-past (l .numbers) (t .0) (rw (← c .before .slot .ensures) (omega (arith, v .0 .left)))) (c .if1 .came)),
+          (⊎-elim (λ v. v .2 ∙ listed-low (l .numbers) (t .0) (rw (← c .before .slot .ensures) (v .0 .taken)))
+          (λ v. v .2 ∙ listed-past (l .numbers) (t .0) (rw (← c .before .slot .ensures) (omega (arith, v .0 .left)))) (c .if1 .came)),
       search needs,
     )
 
