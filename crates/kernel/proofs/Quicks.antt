@@ -6,14 +6,16 @@ use mathlib.Core.List.{List, [], _∷_}
 use native.Mathlib.Omega.{arith}
 use lib.Dec.{eqb, ltb}
 use lib.ListN.{length, getD, List·getD-eq-default}
-use borrow.Author.Tests.{ltb-true, ltb-false}
+use borrow.Author.Tests.{ltb-true, ltb-false, eqb-true}
 use Rattle.lists.specs.Choice.{if_then_else_}
-use Rattle.lists.specs.Lists.{any, kept, allBelow}
-use Rattle.lists.proofs.Bools.{and-left, and-right, and-intro, same-test, at, also, none, all-below, below-all}
+use Rattle.lists.specs.Lists.{kept, isNone, allBelow}
+use Rattle.lists.proofs.Bools.{and-left, and-right, and-intro, off, not-off, untrue, same-test, at, also, none, all-below, below-all}
+use Rattle.lists.proofs.Tests.{any-at, any-none}
 use Rattle.numbers.specs.declared.TaskSlot.{TaskSlot}
 use Rattle.numbers.specs.Numbers.{task, object}
 use Rattle.order.specs.Order.{listed}
 use Rattle.order.specs.Tidy.{count, tidy, talliesOf}
+use Rattle.order.proofs.Tests.{count-kept}
 use Rattle.order.proofs.Tallies.{tallies-count}
 use Rattle.slots.specs.declared.Place.{Place}
 use Rattle.slots.specs.declared.Place.the-variants.{Free, Ready, Delayed, Waiting, Suspended}
@@ -28,7 +30,7 @@ use Rattle.tasks.specs.declared.Tasks.{Tasks}
 use Rattle.tasks.specs.Cells.{placeOf}
 use Rattle.tasks.specs.Rows.{rowAt, rowsOf}
 use Rattle.tasks.specs.Known.{known, wakeKnown, canonical}
-use Rattle.tasks.specs.Walks.{higherIn, lineIn}
+use Rattle.tasks.specs.Walks.{outrankedIn, lineIn}
 use Rattle.tasks.specs.Fine.{aloneFine, rowsFine, wakesFine, idleAlone, waitsBy, waitsAt, runsAt, runsIn, Fine}
 use Rattle.tasks.proofs.Columns.{row-at, rows-many}
 use Rattle.objects.specs.declared.Objects.{Objects}
@@ -44,12 +46,31 @@ use Rattle.rules.specs.Lines.{line, level}
 use Rattle.rules.specs.Sound.{slotTask, slotKind, heads, noHigher, runsFine, counted, sound}
 use Rattle.rules.proofs.Slots.{past-tasks, past-objects}
 use Rattle.kernel.specs.Types.{Kernel}
-use Rattle.kernel.proofs.Ends.{none-any}
 use Rattle.kernel.specs.Stands.{kernelOf, plain, rows, none as noTables, shown}
 
 -- ── small laws
+ready-once : (n : ℕ) (p : Place) → isReady p ≡ true → standsFine n p ≡ true → n ≡ 1
+ready-once n Free e h = absurd (false≢true e)
+ready-once n Ready e h = eqb-true n 1 h
+ready-once n (Delayed w) e h = absurd (false≢true e)
+ready-once n (Waiting o w) e h = absurd (false≢true e)
+ready-once n Suspended e h = absurd (false≢true e)
+
 off-left : (a b : Bool) → a ≡ false → (a && b) ≡ false
 off-left a b e = ap (λ (c : Bool). c && b) e
+
+none-counts : (n : ℕ) (l : List TaskSlot) → l ≡ [] → count n l ≡ 1 → ⊥
+unfolding count
+none-counts n l e h = let z : _≡_ {A = ℕ} 0 1 = sym (ap (count n) e) ∙ h in omega arith
+
+none-kept : (l : List TaskSlot) → isNone l ≡ true → l ≡ []
+none-kept [] e = refl
+none-kept (t ∷ l) e = absurd (false≢true e)
+
+kept-none-at : (p : TaskSlot → Bool) (l : List TaskSlot) → ((t : TaskSlot) → p t ≡ false) → kept p l ≡ []
+unfolding kept
+kept-none-at p [] f = refl
+kept-none-at p (t ∷ l) f = rw (f t, kept-none-at p l f)
 
 -- a state without tables is not sound
 no-tables : (k : Kernel) → sound (noTables k) ≡ true → false ≡ true
@@ -84,16 +105,29 @@ module _ (ts : Tasks) (many : length (rowsOf ts) ≡ 16) where
   same-kept f free [] = refl
   same-kept f free (t ∷ l) = rw (same-row f free t, same-kept f free l)
 
-  same-any : (f : Task → Bool) → ((x : Task) → x .place ≡ Free → f x ≡ false) → (l : List TaskSlot) → any (λ t. f (rowAt ts (t .0))) l ≡ any (λ t. f (taskAt (rowsOf ts) t)) l
-  unfolding any
-  same-any f free [] = refl
-  same-any f free (t ∷ l) = rw (same-row f free t, same-any f free l)
-
   -- ── who runs
-  module _ (l : List TaskSlot) where
-    no-higher : (p : ℕ) → noHigher (rowsOf ts) p l ≡ not (higherIn ts p l)
-    unfolding noHigher higherIn
-    no-higher p = none-any (λ t. inHigher p (taskAt (rowsOf ts) t)) l ∙ ap not (sym (same-any (inHigher p) (λ x e. ap (λ (q : Place). isReady q && ltb p (x .effective)) e) l))
+  module _ (l : List TaskSlot) (once : (n : ℕ) → n < 16 → standsFine (count n l) (rowAt ts n .place) ≡ true) where
+    abbrev higher : ℕ → TaskSlot → Bool
+    higher p t = inHigher p (taskAt (rowsOf ts) t)
+
+    -- a row that stands higher is listed, so its line is occupied
+    row-listed : (p n : ℕ) → kept (higher p) l ≡ [] → inHigher p (taskAt (rowsOf ts) (task n)) ≡ true → ⊥
+    row-listed p n e h = go (ltb n 16) refl
+      where
+        go : (b : Bool) → ltb n 16 ≡ b → ⊥
+        go false q = false≢true (sym (ap (inHigher p) (past-tasks (rowsOf ts) (task n) (omega (arith, many, ltb-false n 16 q)))) ∙ h)
+        go true q =
+            let low = ltb-true n 16 q in
+            let ready = and-left (isReady (taskAt (rowsOf ts) (task n) .place)) _ h in
+            let one = ready-once (count n l) (taskAt (rowsOf ts) (task n) .place) ready (rw (at-row n low) (once n low)) in
+            let counted = count-kept (higher p) n l in
+            none-counts n (kept (higher p) l) e (counted ∙ ap (λ (b : Bool). if b then count n l else 0) h ∙ one)
+
+    no-higher : (p : ℕ) → noHigher (rowsOf ts) p l ≡ not (outrankedIn ts p)
+    unfolding noHigher outrankedIn taskAt
+    no-higher p = same-test _ _
+        (λ e. not-off _ (any-none (inHigher p) (rowsOf ts) freeTask (λ i. untrue _ (row-listed p i (none-kept _ e)))))
+        (λ e. ap isNone (kept-none-at (higher p) l (λ t. untrue _ (λ h. false≢true (sym (off _ e) ∙ any-at (inHigher p) (rowsOf ts) (t .0) freeTask refl h)))))
 
     pub runs-is : (u : TaskSlot) (hold : ℕ) → runsIn ts l u (ltb 0 hold) ≡ runsFine (rowsOf ts) l u hold
     unfolding runsIn runsFine lineIn line
@@ -209,7 +243,7 @@ module _ (k : Kernel) (stands : List ℕ) (hs : Holdings) (fine : Bool) (F : Fin
         also _ _ (rw (F .many, H .many, places))
         (also _ _ (rw (row 0 (omega arith)) (and-left (idleFine (rowAt ts 0)) _ (and-left (idleAlone (getD (hs .held) 0 false) (rowAt ts 0)) _ all-rows)))
         (also _ _ (below-all 16 _ (λ n l. rw (row n l) (once n l)))
-        (also _ _ (sym (runs-is ts (F .many) (listed (k .order)) (k .running) (k .hold)) ∙ and-left runs _ last)
+        (also _ _ (sym (runs-is ts (F .many) (listed (k .order)) once (k .running) (k .hold)) ∙ and-left runs _ last)
         (also _ _ (below-all 16 _ (λ n l. rw (row n l) (sym (waits-is (k .objects) hs H (task n) (rowAt ts n .place)) ∙ all-below 16 (waitsAt ts (hs .open) (hs .taken) (hs .holder)) (and-left waits _ (and-right fine _ tables)) n l)))
         (also _ _ (rw (← holding-at 0 (omega arith)) (and-right (idleFine (rowAt ts 0)) _ (and-left (idleAlone (getD (hs .held) 0 false) (rowAt ts 0)) _ all-rows)))
         (also _ _ (below-all 16 _ (λ n l. rw (← holding-at n l) (third n l)))
@@ -260,7 +294,7 @@ module _ (k : Kernel) (stands : List ℕ) (hs : Holdings) (fine : Bool) (F : Fin
     from-plain =
         and-intro _ _ (and-intro fine _ (F .said ∙ and-intro _ _ idles (and-intro _ _ (below-all 16 _ each-row) (below-all 16 _ each-wake)))
         (and-intro waits _ (below-all 16 _ each-wait) (H .said ∙ below-all 16 _ each-kind)))
-        (and-intro runs _ (runs-is ts (F .many) (listed (k .order)) (k .running) (k .hold) ∙ at _ e 3) (and-intro (tidy (k .order)) pends (at _ e 9) (at _ e 13)))
+        (and-intro runs _ (runs-is ts (F .many) (listed (k .order)) once-too (k .running) (k .hold) ∙ at _ e 3) (and-intro (tidy (k .order)) pends (at _ e 9) (at _ e 13)))
       where
         cells : (n : ℕ) → n < 16 → (known (getD (ts .state) n 0) (getD (ts .object) n 0) && wakeKnown (getD (ts .state) n 0) (getD (ts .wake) n 0)) ≡ true
         cells n l =
@@ -274,6 +308,9 @@ module _ (k : Kernel) (stands : List ℕ) (hs : Holdings) (fine : Bool) (F : Fin
 
         halves : (slotted && unheld) ≡ true
         halves = holders-exist (s .tasks) (s .objects) (F .many) (H .many) ∙ at _ e 7
+
+        once-too : (n : ℕ) → n < 16 → standsFine (count n (listed (k .order))) (rowAt ts n .place) ≡ true
+        once-too n l = rw (← row n l) (all-below 16 _ (at _ e 2) n l)
 
         idles : idleAlone (getD (hs .held) 0 false) (rowAt ts 0) ≡ true
         idles = and-intro (idleFine (rowAt ts 0)) (not (getD (hs .held) 0 false)) (rw (← row 0 (omega arith)) (at _ e 1)) (rw (holding-at 0 (omega arith)) (at _ e 5))

@@ -13,12 +13,6 @@ impl TaskSlot {
         TaskSlot(n)
     }
 
-    pub fn byte(self) -> u8
-        ensures { λ r. ⌜ r ≡ self .0 ⌝ }
-    {
-        self.0
-    }
-
     pub fn slot(self) -> usize
         ensures { λ r. ⌜ r ≡ self .0 ⌝ }
     {
@@ -29,12 +23,6 @@ impl TaskSlot {
         ensures { λ r. ⌜ r ≡ sameTask self t ⌝ }
     {
         self.0 == t.0
-    }
-
-    pub fn number(self) -> u32
-        ensures { λ r. ⌜ r ≡ self .0 ⌝ }
-    {
-        self.0 as u32
     }
 
     pub fn is_idle(self) -> bool
@@ -49,12 +37,6 @@ impl ObjSlot {
         ensures { λ r. ⌜ r ≡ object n ⌝ }
     {
         ObjSlot(n)
-    }
-
-    pub fn byte(self) -> u8
-        ensures { λ r. ⌜ r ≡ self .0 ⌝ }
-    {
-        self.0
     }
 
     pub fn slot(self) -> usize

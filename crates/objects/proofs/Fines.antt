@@ -16,7 +16,6 @@ use Rattle.numbers.specs.declared.TaskSlot.{TaskSlot}
 use Rattle.slots.specs.Objects.{unused, holderOf, mark, marksOf}
 use Rattle.slots.proofs.Sweeps.{by-rows, none-counted}
 use Rattle.slots.specs.Fine.{mayWait, mayWaitOn, ringFine}
-use Rattle.objects.specs.declared.Cells.{Cells}
 use Rattle.objects.specs.declared.Objects.{Objects}
 use Rattle.objects.specs.Rows.{six, ring, noRing, known, cellsAt, kindOf, kindIn, rowsOf, canonical}
 use Rattle.objects.specs.Fine.{rangesFine, fineAt, rowFine, openAt, takenAt, holdingIn, Each}
@@ -47,15 +46,10 @@ fine-is os n = row-is (getD (os .capacity) n 0) (getD (os .size) n 0) (getD (os 
 pub fines-are : (os : Objects) → allBelow 16 (λ n. rowFine (cellsAt os n)) ≡ allBelow 16 (fineAt os)
 fines-are os = all-same 16 (λ n. rowFine (cellsAt os n)) (fineAt os) (λ n l. fine-is os n)
 
--- the numbers of the row n, were its state s
-abbrev were : Objects → ℕ → ℕ → Cells
-were os n s = six s (getD (os .capacity) n 0) (getD (os .size) n 0) (getD (os .first) n 0) (getD (os .count) n 0) (getD (os .holder) n 0)
-
 -- who holds
 holder-is : (os : Objects) (n : ℕ) → holderOf (kindIn os n) .0 ≡ (if leb 3 (getD (os .state) n 0) then getD (os .holder) n 0 else 16)
 unfolding kindIn kindOf
-holder-is os n =
-    by-state (λ s. holderOf (kindOf (were os n s)) .0 ≡ (if leb 3 s then getD (os .holder) n 0 else 16)) refl refl refl (λ s l. rw (held os n s l, le-leb 3 s l)) (getD (os .state) n 0)
+holder-is os n = by-state (λ s. holderOf (kindOf (six s (getD (os .capacity) n 0) (getD (os .size) n 0) (getD (os .first) n 0) (getD (os .count) n 0) (getD (os .holder) n 0))) .0 ≡ (if leb 3 s then getD (os .holder) n 0 else 16)) refl refl refl (λ s l. rw (held os n s l, le-leb 3 s l)) (getD (os .state) n 0)
 
 -- the marks of the rows, in numbers
 abbrev pub marking : List ℕ → List ℕ → List Bool → ℕ → List Bool
@@ -98,19 +92,13 @@ marks-end os f {c} {i} inv e = go (eqb (holdingIn os) 0) refl
 -- who may wait
 pub wait-is : (os : Objects) (t : TaskSlot) (n : ℕ) → (openAt os n || (takenAt os n && not (eqb (getD (os .holder) n 0) (t .0)))) ≡ mayWait t (kindIn os n)
 unfolding kindIn kindOf
-wait-is os t n =
-    by-state (λ s. ((eqb s 1 && room) || (leb 3 s && not (eqb (getD (os .holder) n 0) (t .0)))) ≡ mayWait t (kindOf (were os n s))) refl (or-false room) refl
-    (λ s l. rw (held os n s l, le-leb 3 s l, ne-eqb s 1 (λ e. omega arith))) (getD (os .state) n 0)
+wait-is os t n = by-state (λ s. ((eqb s 1 && (eqb (getD (os .count) n 0) 0 || eqb (getD (os .count) n 0) (getD (os .capacity) n 0))) || (leb 3 s && not (eqb (getD (os .holder) n 0) (t .0)))) ≡ mayWait t (kindOf (six s (getD (os .capacity) n 0) (getD (os .size) n 0) (getD (os .first) n 0) (getD (os .count) n 0) (getD (os .holder) n 0)))) refl (or-false _) refl (λ s l. rw (held os n s l, le-leb 3 s l, ne-eqb s 1 (λ e. omega arith))) (getD (os .state) n 0)
   where
-    room : Bool
-    room = eqb (getD (os .count) n 0) 0 || eqb (getD (os .count) n 0) (getD (os .capacity) n 0)
-
     or-false : (b : Bool) → (b || false) ≡ b
     or-false true = refl
     or-false false = refl
 
-pub waits-is : (os : Objects) (t : TaskSlot) {opens takes : List Bool} (n : ℕ) → Each (openAt os) opens → Each (takenAt os) takes → n < 16
-    → mayWaitOn opens takes (os .holder) t n ≡ mayWait t (kindIn os n)
+pub waits-is : (os : Objects) (t : TaskSlot) {opens takes : List Bool} (n : ℕ) → Each (openAt os) opens → Each (takenAt os) takes → n < 16 → mayWaitOn opens takes (os .holder) t n ≡ mayWait t (kindIn os n)
 waits-is os t n o k l = rw (o .each n l, k .each n l) (wait-is os t n)
 
 -- what is fine is canonical

@@ -17,7 +17,6 @@ use Rattle.slots.specs.Objects.{isUnused, heldBy}
 use Rattle.objects.specs.declared.Cells.{Cells}
 use Rattle.objects.specs.declared.Objects.{Objects}
 
--- an object's numbers; a ring of four of them; an object that is no queue
 abbrev pub six : ℕ → ℕ → ℕ → ℕ → ℕ → ℕ → Cells
 six s c z f k h = record { state = s; capacity = c; size = z; first = f; count = k; holder = h }
 
@@ -34,7 +33,7 @@ cellsOf (Queue q) = six 1 (q .capacity) (q .size) (q .first) (q .count) 0
 cellsOf (Mutex Nobody) = bare 2 0
 cellsOf (Mutex (By t)) = bare 3 (t .0)
 
--- and back: a number above 2 is read as a mutex that is held
+-- and back
 unfoldable pub kindOf : Cells → Kind
 kindOf c =
     if eqb (c .state) 0 then Unused

@@ -5,16 +5,16 @@ use mathlib.Core.List.{List}
 use native.Mathlib.Nat.{not-suc-le-zero, le-of-suc-le-suc}
 use native.Mathlib.Omega.{arith}
 use lib.ListN.{length, getD, set, length-map, List·getD-map, List·getD-eq-default}
-use lib.Seq.{set-out, ext-getD, map-set-same, set-getD}
+use lib.Seq.{set-out, ext-getD}
 use Rattle.slots.proofs.Sweeps.{map-set}
 use Rattle.slots.specs.declared.Wake.the-variants.{Never, At}
 use Rattle.slots.specs.declared.Place.{Place}
 use Rattle.slots.specs.declared.Place.the-variants.{Free, Ready, Delayed, Waiting, Suspended}
 use Rattle.slots.specs.declared.Task.{Task}
-use Rattle.slots.specs.Tasks.{freeTask, ranked}
+use Rattle.slots.specs.Tasks.{freeTask}
 use Rattle.tasks.specs.declared.Tasks.{Tasks}
 use Rattle.tasks.specs.Cells.{cellsOf, placeOf}
-use Rattle.tasks.specs.Rows.{stateOf, objectOf, wakeOf, tasksOf, put, rankIn, rowAt, rowsFrom, rowsOf}
+use Rattle.tasks.specs.Rows.{stateOf, objectOf, wakeOf, tasksOf, put, rowAt, rowsFrom, rowsOf}
 
 -- the numbers of a place say it
 pub place-back : (p : Place) → placeOf (cellsOf p) ≡ p
@@ -30,33 +30,13 @@ place-back Suspended = refl
 pub row-of : (xs : List Task) (n : ℕ) → rowAt (tasksOf xs) n ≡ getD xs n freeTask
 unfolding rowAt tasksOf
 row-of xs n =
-    rw (List·getD-map stateOf xs n freeTask, List·getD-map objectOf xs n freeTask, List·getD-map wakeOf xs n freeTask)
-    (rw (List·getD-map (λ (x : Task). x .own) xs n freeTask, List·getD-map (λ (x : Task). x .effective) xs n freeTask, List·getD-map (λ (x : Task). x .outcome) xs n freeTask)
-    (rw (place-back (getD xs n freeTask .place))))
+    rw (List·getD-map stateOf xs n freeTask, List·getD-map objectOf xs n freeTask, List·getD-map wakeOf xs n freeTask, List·getD-map (λ (x : Task). x .own) xs n freeTask, List·getD-map (λ (x : Task). x .effective) xs n freeTask, List·getD-map (λ (x : Task). x .outcome) xs n freeTask, place-back (getD xs n freeTask .place))
 
 -- a store to them is a store to the list
 pub put-of : (xs : List Task) (n : ℕ) (x : Task) → put (tasksOf xs) n x ≡ tasksOf (set xs n x)
 unfolding put tasksOf
 put-of xs n x =
-    rw (map-set stateOf xs n x, map-set objectOf xs n x, map-set wakeOf xs n x)
-    (rw (map-set (λ (y : Task). y .own) xs n x, map-set (λ (y : Task). y .effective) xs n x, map-set (λ (y : Task). y .outcome) xs n x))
-
--- a row stored with its own priorities keeps them
-pub own-kept : (ts : Tasks) (n : ℕ) → set (ts .own) n (rowAt ts n .own) ≡ ts .own
-unfolding rowAt
-own-kept ts n = set-getD (ts .own) n 0
-
-pub level-kept : (ts : Tasks) (n : ℕ) → set (ts .effective) n (rowAt ts n .effective) ≡ ts .effective
-unfolding rowAt
-level-kept ts n = set-getD (ts .effective) n 0
-
--- a change of priorities
-pub rank-of : (xs : List Task) (n own level : ℕ) → rankIn (tasksOf xs) n own level ≡ tasksOf (set xs n (ranked (getD xs n freeTask) own level))
-unfolding rankIn tasksOf
-rank-of xs n own level =
-    let y = ranked (getD xs n freeTask) own level in
-    rw (map-set-same stateOf xs n y freeTask refl, map-set-same objectOf xs n y freeTask refl, map-set-same wakeOf xs n y freeTask refl)
-    (rw (map-set-same (λ (x : Task). x .outcome) xs n y freeTask refl, map-set (λ (x : Task). x .own) xs n y, map-set (λ (x : Task). x .effective) xs n y))
+    rw (map-set stateOf xs n x, map-set objectOf xs n x, map-set wakeOf xs n x, map-set (λ (y : Task). y .own) xs n x, map-set (λ (y : Task). y .effective) xs n x, map-set (λ (y : Task). y .outcome) xs n x)
 
 -- each column has its sixteen numbers
 pub record Full (ts : Tasks) : Type 0 where
@@ -72,18 +52,12 @@ module _ (ts : Tasks) (f : Full ts) (n : ℕ) (h : 16 ≤ n) where
   pub past-row : rowAt ts n ≡ freeTask
   unfolding rowAt placeOf
   past-row =
-      rw (List·getD-eq-default (ts .state) 0 {n = n} (omega arith), List·getD-eq-default (ts .own) 0 {n = n} (omega arith), List·getD-eq-default (ts .effective) 0 {n = n} (omega arith))
-      (rw (List·getD-eq-default (ts .outcome) 0 {n = n} (omega arith)))
+      rw (List·getD-eq-default (ts .state) 0 {n = n} (omega arith), List·getD-eq-default (ts .own) 0 {n = n} (omega arith), List·getD-eq-default (ts .effective) 0 {n = n} (omega arith), List·getD-eq-default (ts .outcome) 0 {n = n} (omega arith))
 
   pub lost-row : (x : Task) → put ts n x ≡ ts
   unfolding put
   lost-row x =
-      rw (set-out (ts .state) n (stateOf x) (omega arith), set-out (ts .object) n (objectOf x) (omega arith), set-out (ts .wake) n (wakeOf x) (omega arith))
-      (rw (set-out (ts .own) n (x .own) (omega arith), set-out (ts .effective) n (x .effective) (omega arith), set-out (ts .outcome) n (x .outcome) (omega arith)))
-
-  pub lost-rank : (own level : ℕ) → rankIn ts n own level ≡ ts
-  unfolding rankIn
-  lost-rank own level = rw (set-out (ts .own) n own (omega arith), set-out (ts .effective) n level (omega arith))
+      rw (set-out (ts .state) n (stateOf x) (omega arith), set-out (ts .object) n (objectOf x) (omega arith), set-out (ts .wake) n (wakeOf x) (omega arith), set-out (ts .own) n (x .own) (omega arith), set-out (ts .effective) n (x .effective) (omega arith), set-out (ts .outcome) n (x .outcome) (omega arith))
 
 -- the list has sixteen tasks, and each is its row
 pub rows-length : (ts : Tasks) (i n : ℕ) → length (rowsFrom ts i n) ≡ n

@@ -1,19 +1,18 @@
 -- What need not be walked: nobody is due, nobody waits; who stands first in the highest line leads.
 use Prim.Native.Nat.{ℕ, zero, suc, _<_, _≤_}
 use mathlib.Core.Path.{_≡_, refl, sym, ap, _∙_}
-use mathlib.Core.Bool.{Bool, true, false, _&&_, false≢true}
+use mathlib.Core.Bool.{Bool, true, false, not, _&&_, false≢true}
 use mathlib.Core.List.{List, [], _∷_}
 use native.Mathlib.Omega.{arith}
 use lib.Dec.{eqb, ltb}
 use lib.ListN.{length, getD}
 use borrow.Author.Tests.{eqb-true, eqb-false, ne-eqb, ltb-true, ltb-false, lt-ltb, le-ltb}
 use Rattle.lists.specs.Choice.{if_then_else_}
-use Rattle.lists.specs.Lists.{foldl, any, kept, isNone}
+use Rattle.lists.specs.Lists.{foldl, any, kept, larger, isNone}
 use Rattle.lists.proofs.Bools.{or-off, and-left}
-use Rattle.lists.proofs.Tests.{any-none}
 use Rattle.numbers.specs.declared.TaskSlot.{TaskSlot}
 use Rattle.numbers.specs.declared.ObjSlot.{ObjSlot}
-use Rattle.numbers.specs.Numbers.{idle, sameTask}
+use Rattle.numbers.specs.Numbers.{sameTask}
 use Rattle.order.specs.declared.Order.{Order}
 use Rattle.slots.specs.declared.Task.{Task}
 use Rattle.slots.specs.declared.Who.the-variants.{AllReady, WaitersOf}
@@ -21,11 +20,11 @@ use Rattle.slots.specs.declared.Lead.{Lead}
 use Rattle.slots.specs.declared.Lead.the-variants.{Open, Best}
 use Rattle.slots.specs.Places.{isReady, waitsOn, wakesAt}
 use Rattle.slots.specs.Leads.{better, leadOver, leadsOr}
-use Rattle.slots.specs.Tasks.{freeTask, inLine, inHigher}
+use Rattle.slots.specs.Tasks.{freeTask, inLine}
 use Rattle.tasks.specs.declared.Tasks.{Tasks}
 use Rattle.tasks.specs.declared.Woken.{Woken}
 use Rattle.tasks.specs.Rows.{rowAt, rowsOf}
-use Rattle.tasks.specs.Walks.{leadIn, higherIn, outrankedIn, lineIn, headOr, waitedIn}
+use Rattle.tasks.specs.Walks.{leadIn, lineIn, headOr, readyLevel, topIn, waitedIn}
 use Rattle.tasks.specs.Dues.{timed, wakeNow, woken, wakeIn, wakesIn}
 use Rattle.tasks.specs.Fine.{headed}
 use Rattle.tasks.proofs.Columns.{Full, past-row, row-at, rows-many}
@@ -78,32 +77,40 @@ module _ (ts : Tasks) (full : Full ts) where
     none-waited (t ∷ l) = none-waited l ∙ ap (λ (b : Lead). foldl (λ c u. better (WaitersOf o) c u (rowAt ts (u .0))) b l) (sym (rw (not-waits (t .0))))
 
 -- ── the highest line
--- the priority of a ready task, and 0 of another
-abbrev readyLevel : Task → ℕ
-readyLevel x = if isReady (x .place) then x .effective else 0
+larger-left : (a b : ℕ) → a ≤ larger a b
+larger-left a b = go (ltb a b) refl
+  where
+    go : (c : Bool) → ltb a b ≡ c → a ≤ (if c then b else a)
+    go true e = omega (arith, ltb-true a b e)
+    go false e = omega arith
 
--- where no row outranks p, no row stands above it
-module _ (ts : Tasks) (full : Full ts) (p : ℕ) (none : outrankedIn ts p ≡ false) where
-  not-higher : (n : ℕ) → inHigher p (rowAt ts n) ≡ false
-  unfolding outrankedIn
-  not-higher n = go (ltb n 16) refl
-    where
-      go : (b : Bool) → ltb n 16 ≡ b → inHigher p (rowAt ts n) ≡ false
-      go true q =
-          let l : n < length (ts .state) = omega (arith, ltb-true n 16 q) in
-          rw (← row-at ts n l) (none-passes (inHigher p) (rowsOf ts) freeTask none n (rw (rows-many ts) l))
-      go false q = rw (past-row ts full n (ltb-false n 16 q))
+larger-right : (a b : ℕ) → b ≤ larger a b
+larger-right a b = go (ltb a b) refl
+  where
+    go : (c : Bool) → ltb a b ≡ c → b ≤ (if c then b else a)
+    go true e = omega arith
+    go false e = omega (arith, ltb-false a b e)
 
-  row-low : (n : ℕ) → readyLevel (rowAt ts n) ≤ p
-  row-low n = go (isReady (rowAt ts n .place)) (not-higher n)
-    where
-      go : (b : Bool) → (b && ltb p (rowAt ts n .effective)) ≡ false → (if b then rowAt ts n .effective else 0) ≤ p
-      go true e = ltb-false p (rowAt ts n .effective) e
-      go false e = omega arith
+top-start : (m : ℕ) (xs : List Task) → m ≤ foldl (λ k x. larger k (readyLevel x)) m xs
+unfolding foldl
+top-start m [] = omega arith
+top-start m (x ∷ xs) = omega (arith, larger-left m (readyLevel x), top-start (larger m (readyLevel x)) xs)
 
-  pub none-higher : (l : List TaskSlot) → false ≡ higherIn ts p l
-  unfolding higherIn
-  none-higher l = sym (any-none (λ t. inHigher p (rowAt ts (t .0))) l idle (λ i. not-higher (getD l i idle .0)))
+top-row : (m : ℕ) (xs : List Task) (i : ℕ) → i < length xs → readyLevel (getD xs i freeTask) ≤ foldl (λ k x. larger k (readyLevel x)) m xs
+unfolding foldl
+top-row m [] i l = absurd (omega arith)
+top-row m (x ∷ xs) zero l = omega (arith, larger-right m (readyLevel x), top-start (larger m (readyLevel x)) xs)
+top-row m (x ∷ xs) (suc i) l = top-row (larger m (readyLevel x)) xs i (omega arith)
+
+pub row-low : (ts : Tasks) → Full ts → (n : ℕ) → readyLevel (rowAt ts n) ≤ topIn ts
+unfolding topIn
+row-low ts full n = go (ltb n 16) refl
+  where
+    go : (b : Bool) → ltb n 16 ≡ b → readyLevel (rowAt ts n) ≤ foldl (λ k x. larger k (readyLevel x)) 0 (rowsOf ts)
+    go true q =
+        let l : n < length (ts .state) = omega (arith, ltb-true n 16 q) in
+        rw (← row-at ts n l) (top-row 0 (rowsOf ts) n (rw (rows-many ts) l))
+    go false q = rw (past-row ts full n (ltb-false n 16 q)) (omega arith)
 
 -- those who led so far stand lower
 abbrev Under : ℕ → Lead → Type 0
@@ -155,14 +162,14 @@ module _ (row : TaskSlot → Task) (top : ℕ) (low : (t : TaskSlot) → readyLe
       go true f false g h ih k = ih (leadOver b x (row x .effective)) (lower b u x (row x .effective) (omega (arith, eqb-false (row x .effective) top g))) t r k
       go false f c g h ih k = ih b u t r k
 
--- where no row outranks p, and the head of the line of p is a task, it leads
-pub head-leads : (ts : Tasks) → Full ts → (p : ℕ) → outrankedIn ts p ≡ false → (l : List TaskSlot) (t u : TaskSlot) → t ≡ headOr (lineIn ts p l) → t .0 < 16 → t ≡ leadsOr (leadIn ts AllReady l) u
+-- where the head of the highest line is a task, it leads
+pub head-leads : (ts : Tasks) → Full ts → (l : List TaskSlot) (t u : TaskSlot) → t ≡ headOr (lineIn ts (topIn ts) l) → t .0 < 16 → t ≡ leadsOr (leadIn ts AllReady l) u
 unfolding leadIn lineIn
-head-leads ts full p none l t u e h = go (kept (λ x. inLine p (rowAt ts (x .0))) l) refl e
+head-leads ts full l t u e h = go (kept (λ x. inLine (topIn ts) (rowAt ts (x .0))) l) refl e
   where
-    go : (k : List TaskSlot) → kept (λ x. inLine p (rowAt ts (x .0))) l ≡ k → t ≡ headOr k → t ≡ leadsOr (foldl (λ b x. better AllReady b x (rowAt ts (x .0))) Open l) u
+    go : (k : List TaskSlot) → kept (λ x. inLine (topIn ts) (rowAt ts (x .0))) l ≡ k → t ≡ headOr k → t ≡ leadsOr (foldl (λ b x. better AllReady b x (rowAt ts (x .0))) Open l) u
     go [] q f = absurd (omega (arith, ap (λ (x : TaskSlot). x .0) f))
-    go (x ∷ k) q f = f ∙ sym (ap (λ (b : Lead). leadsOr b u) (heads-lead (λ y. rowAt ts (y .0)) p (λ y. row-low ts full p none (y .0)) l Open (omega arith) x k q))
+    go (x ∷ k) q f = f ∙ sym (ap (λ (b : Lead). leadsOr b u) (heads-lead (λ y. rowAt ts (y .0)) (topIn ts) (λ y. row-low ts full (y .0)) l Open (omega arith) x k q))
 
 -- ── the running task
 kept-head : (p : TaskSlot → Bool) (l : List TaskSlot) (t : TaskSlot) (r : List TaskSlot) → kept p l ≡ t ∷ r → p t ≡ true

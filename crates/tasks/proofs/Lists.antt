@@ -8,31 +8,22 @@ use Rattle.lists.specs.Choice.{if_then_else_}
 use Rattle.lists.specs.Lists.{foldl, any, index}
 use Rattle.numbers.specs.declared.TaskSlot.{TaskSlot}
 use Rattle.order.specs.declared.Order.{Order}
-use Rattle.slots.specs.declared.Place.{Place}
 use Rattle.slots.specs.declared.Task.{Task}
 use Rattle.slots.specs.declared.Who.{Who}
 use Rattle.slots.specs.declared.Lead.the-variants.{Open}
 use Rattle.slots.specs.Places.{isFree, wakesAt, away}
-use Rattle.slots.specs.Tasks.{taskAt, placed, ranked, inHigher}
+use Rattle.slots.specs.Tasks.{taskAt, inHigher}
 use Rattle.slots.specs.Leads.{better}
 use Rattle.tasks.specs.declared.Woken.{Woken}
-use Rattle.tasks.specs.Rows.{tasksOf, freeIn, put, rankIn, rowAt}
+use Rattle.tasks.specs.Rows.{tasksOf, freeIn, put, rowAt}
 use Rattle.tasks.specs.Walks.{leadIn, higherIn}
 use Rattle.tasks.specs.Dues.{untilIn, woken, readyOf, tailed, wakeIn, wakesIn}
-use Rattle.tasks.proofs.Columns.{row-of, rows-of, put-of, rank-of}
+use Rattle.tasks.proofs.Columns.{row-of, rows-of, put-of}
 
 -- a row is the task of that slot
 pub task-of : (xs : List Task) (t : TaskSlot) → rowAt (tasksOf xs) (t .0) ≡ taskAt xs t
 unfolding taskAt
 task-of xs t = row-of xs (t .0)
-
--- a row with its place and outcome changed, or its priorities
-pub placed-of : (xs : List Task) (t : TaskSlot) (p : Place) (n : ℕ) → put (tasksOf xs) (t .0) (placed (rowAt (tasksOf xs) (t .0)) p n) ≡ tasksOf (set xs (t .0) (placed (taskAt xs t) p n))
-placed-of xs t p n = rw (task-of xs t) (put-of xs (t .0) (placed (taskAt xs t) p n))
-
-pub ranked-of : (xs : List Task) (t : TaskSlot) (own level : ℕ) → rankIn (tasksOf xs) (t .0) own level ≡ tasksOf (set xs (t .0) (ranked (taskAt xs t) own level))
-unfolding taskAt
-ranked-of xs t own level = rank-of xs (t .0) own level
 
 pub lead-of : (xs : List Task) (w : Who) (l : List TaskSlot) → leadIn (tasksOf xs) w l ≡ foldl (λ b t. better w b t (taskAt xs t)) Open l
 unfolding leadIn
@@ -80,9 +71,7 @@ roused now w t = if wakesAt now (taskAt (w .0) t .place) then (set (w .0) (t .0)
 pub wakes-of : (now : ℕ) (xs : List Task) (o : Order) (l : List TaskSlot)
     → wakesIn now (woken (tasksOf xs) o) l ≡ woken (tasksOf (foldl (roused now) (xs, o) l .0)) (foldl (roused now) (xs, o) l .1)
 unfolding roused
-wakes-of now xs o l =
-    wakes-by (λ w. w .0) (λ w. w .1) (λ w. now) (roused now) (λ w t. refl)
-    (λ w t. sets w t (wakesAt now (taskAt (w .0) t .place))) (λ w t. tails w t (wakesAt now (taskAt (w .0) t .place))) (xs, o) l
+wakes-of now xs o l = wakes-by (λ w. w .0) (λ w. w .1) (λ w. now) (roused now) (λ w t. refl) (λ w t. sets w t (wakesAt now (taskAt (w .0) t .place))) (λ w t. tails w t (wakesAt now (taskAt (w .0) t .place))) (xs, o) l
   where
     sets : (w : List Task × Order) (t : TaskSlot) (b : Bool)
         → (if b then (set (w .0) (t .0) (readyOf (taskAt (w .0) t)), tailed (w .1) t) else w) .0 ≡ (if b then set (w .0) (t .0) (readyOf (taskAt (w .0) t)) else w .0)

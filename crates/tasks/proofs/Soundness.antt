@@ -1,18 +1,20 @@
 -- What soundness asks of the columns that stand for a list, asked of the list.
-use Prim.Native.Nat.{ℕ, _<_, _≤_}
+use Prim.Native.Nat.{ℕ, _+_, _<_, _≤_}
 use mathlib.Core.Path.{_≡_, refl, sym, ap, _∙_}
-use mathlib.Core.Bool.{Bool, true, false, not, _&&_, _||_}
+use mathlib.Core.Bool.{Bool, true, false, not, _&&_, _||_, false≢true}
 use mathlib.Core.List.{List, [], _∷_}
 use native.Mathlib.Omega.{arith}
-use lib.Dec.{ltb}
+use lib.Dec.{eqb, ltb}
 use lib.ListN.{length, getD, List·getD-map, List·getD-eq-default}
-use borrow.Author.Tests.{ltb-true, ltb-false}
+use borrow.Author.Tests.{eqb-true, ltb-true, ltb-false}
 use Rattle.lists.specs.Choice.{if_then_else_}
 use Rattle.lists.specs.Lists.{allBelow, any, kept, isNone}
-use Rattle.lists.proofs.Bools.{all-same}
+use Rattle.lists.proofs.Bools.{all-same, or-off, and-left}
+use Rattle.lists.proofs.Tests.{any-none}
 use Rattle.numbers.specs.declared.TaskSlot.{TaskSlot}
 use Rattle.numbers.specs.declared.ObjSlot.{ObjSlot}
 use Rattle.numbers.specs.Numbers.{task, idle}
+use Rattle.order.specs.Tidy.{count}
 use Rattle.slots.specs.declared.Wake.the-variants.{Never, At}
 use Rattle.slots.specs.declared.Place.{Place}
 use Rattle.slots.specs.declared.Place.the-variants.{Free, Ready, Delayed, Waiting, Suspended}
@@ -21,15 +23,16 @@ use Rattle.slots.specs.declared.Object.{Object}
 use Rattle.slots.specs.Places.{isReady}
 use Rattle.slots.specs.Tasks.{freeTask, taskAt, inLine, inHigher}
 use Rattle.slots.specs.Objects.{unused, kindAt}
-use Rattle.slots.specs.Fine.{notDue, mayWait, mayWaitOn, waitsFine}
+use Rattle.slots.specs.Fine.{standsFine, notDue, mayWait, mayWaitOn, waitsFine}
 use Rattle.tasks.specs.declared.Tasks.{Tasks}
 use Rattle.tasks.specs.Cells.{cellsOf}
 use Rattle.tasks.specs.Rows.{stateOf, objectOf, wakeOf, tasksOf, rowAt, rowsOf}
-use Rattle.tasks.specs.Walks.{higherIn, lineIn}
+use Rattle.tasks.specs.Walks.{outrankedIn, lineIn}
 use Rattle.tasks.specs.Known.{known, wakeKnown}
 use Rattle.tasks.specs.Fine.{aloneFine, rowsFine, wakesFine, idleAlone, Fine, waitsBy, waitsAt, headed, runsAt, runsIn}
 use Rattle.tasks.proofs.Columns.{rows-of}
-use Rattle.tasks.proofs.Lists.{task-of, higher-of}
+use Rattle.tasks.proofs.Heads.{none-passes}
+use Rattle.tasks.proofs.Lists.{task-of}
 
 -- the numbers of a place are known
 place-known : (p : Place) → known (cellsOf p .state) (cellsOf p .object) ≡ true
@@ -75,9 +78,7 @@ module _ (xs : List Task) where
 -- what is asked of each row of a list by itself
 pub record FineOf (xs : List Task) (tick : ℕ) (stands : List ℕ) (holds : List Bool) (r : Bool) : Type 0 where
   pub many : length xs ≡ 16
-  pub said : r
-      ≡ (idleAlone (getD holds 0 false) (taskAt xs idle)
-      && (allBelow 16 (λ n. aloneFine (getD stands n 0) (getD holds n false) (taskAt xs (task n))) && allBelow 16 (λ n. notDue tick (taskAt xs (task n) .place))))
+  pub said : r ≡ (idleAlone (getD holds 0 false) (taskAt xs idle) && (allBelow 16 (λ n. aloneFine (getD stands n 0) (getD holds n false) (taskAt xs (task n))) && allBelow 16 (λ n. notDue tick (taskAt xs (task n) .place))))
 
 pub fine-of : {ts : Tasks} (xs : List Task) {tick : ℕ} {stands : List ℕ} {holds : List Bool} {r : Bool} → ts ≡ tasksOf xs → Fine ts tick stands holds r → FineOf xs tick stands holds r
 fine-of {ts} xs {tick} {stands} {holds} {r} e f = record {
@@ -117,6 +118,59 @@ module _ (os : List Object) (many : length os ≡ 16) (opens takes : List Bool) 
       all-same 16 (waitsAt (tasksOf xs) opens takes holder) (λ n. waitsFine (task n) os (taskAt xs (task n) .place))
       (λ n l. wait-of (task n) (rowAt (tasksOf xs) n .place) ∙ ap (λ (x : Task). waitsFine (task n) os (x .place)) (task-of xs (task n)))
 
+-- ── who runs: where each ready task is listed, a row stands higher if one that is listed does
+pub outranked-of : (xs : List Task) (p : ℕ) → outrankedIn (tasksOf xs) p ≡ any (inHigher p) xs
+unfolding outrankedIn
+outranked-of xs p = rw (rows-of xs)
+
+listed-one : (q : ℕ → Bool) (l : List TaskSlot) (n : ℕ) → 1 ≤ count n l → any (λ (t : TaskSlot). q (t .0)) l ≡ false → q n ≡ false
+unfolding count any
+listed-one q [] n h e = absurd (omega arith)
+listed-one q (t ∷ l) n h e = go (eqb (t .0) n) refl (or-off (q (t .0)) (any (λ (u : TaskSlot). q (u .0)) l) e) (listed-one q l n) h
+  where
+    go : (b : Bool) → eqb (t .0) n ≡ b → (q (t .0) ≡ false) × (any (λ (u : TaskSlot). q (u .0)) l ≡ false)
+        → (1 ≤ count n l → any (λ (u : TaskSlot). q (u .0)) l ≡ false → q n ≡ false) → 1 ≤ (if b then 1 else 0) + count n l → q n ≡ false
+    go true f z ih k = rw (← eqb-true (t .0) n f) (z .0)
+    go false f z ih k = ih (omega arith) (z .1)
+
+same-off : (a b : Bool) → (a ≡ false → b ≡ false) → (b ≡ false → a ≡ false) → a ≡ b
+same-off true true f g = refl
+same-off true false f g = g refl
+same-off false b f g = sym (f refl)
+
+ready-stands : (n : ℕ) (p : Place) → isReady p ≡ true → standsFine n p ≡ true → 1 ≤ n
+ready-stands n Free e s = absurd (false≢true e)
+ready-stands n Ready e s = omega (arith, eqb-true n 1 s)
+ready-stands n (Delayed w) e s = absurd (false≢true e)
+ready-stands n (Waiting o w) e s = absurd (false≢true e)
+ready-stands n Suspended e s = absurd (false≢true e)
+
+module _ (xs : List Task) (l : List TaskSlot) (many : length xs ≡ 16) (stands : (n : ℕ) → n < 16 → standsFine (count n l) (taskAt xs (task n) .place) ≡ true) (p : ℕ) where
+  row-off : any (λ t. inHigher p (taskAt xs t)) l ≡ false → (n : ℕ) → inHigher p (getD xs n freeTask) ≡ false
+  unfolding taskAt
+  row-off e n = go (ltb n 16) refl (inHigher p (getD xs n freeTask)) refl
+    where
+      go : (b : Bool) → ltb n 16 ≡ b → (c : Bool) → inHigher p (getD xs n freeTask) ≡ c → c ≡ false
+      go b q false f = refl
+      go false q true f = absurd (false≢true (rw (List·getD-eq-default xs freeTask {n = n} (omega (arith, ltb-false n 16 q))) at f))
+      go true q true f =
+          sym f ∙ listed-one (λ m. inHigher p (getD xs m freeTask)) l n
+          (ready-stands (count n l) (getD xs n freeTask .place) (and-left (isReady (getD xs n freeTask .place)) _ f) (stands n (ltb-true n 16 q))) e
+
+  listed-off : any (inHigher p) xs ≡ false → (t : TaskSlot) → inHigher p (taskAt xs t) ≡ false
+  unfolding taskAt
+  listed-off e t = go (ltb (t .0) 16) refl
+    where
+      go : (b : Bool) → ltb (t .0) 16 ≡ b → inHigher p (getD xs (t .0) freeTask) ≡ false
+      go true q = none-passes (inHigher p) xs freeTask e (t .0) (omega (arith, ltb-true (t .0) 16 q))
+      go false q = rw (List·getD-eq-default xs freeTask {n = t .0} (omega (arith, ltb-false (t .0) 16 q)))
+
+  pub outranked-listed : any (inHigher p) xs ≡ any (λ t. inHigher p (taskAt xs t)) l
+  outranked-listed =
+      same-off (any (inHigher p) xs) (any (λ t. inHigher p (taskAt xs t)) l)
+      (λ e. any-none (λ t. inHigher p (taskAt xs t)) l idle (λ i. listed-off e (getD l i idle)))
+      (λ e. any-none (inHigher p) xs freeTask (row-off e))
+
 none-kept : {A : Type 0} (q : A → Bool) (l : List A) → not (any q l) ≡ isNone (kept q l)
 unfolding any kept
 none-kept q [] = refl
@@ -126,17 +180,17 @@ none-kept {A} q (x ∷ l) = go (q x) (none-kept q l)
     go true ih = refl
     go false ih = ih
 
--- the running task is ready, heads its line, and, unless there is a hold, no higher line is occupied
-pub runs-of : (xs : List Task) (l : List TaskSlot) (u : TaskSlot) (held : Bool) → runsIn (tasksOf xs) l u held
-    ≡ (isReady (taskAt xs u .place)
-    && (headed (kept (λ t. inLine (taskAt xs u .effective) (taskAt xs t)) l) u && (held || isNone (kept (λ t. inHigher (taskAt xs u .effective) (taskAt xs t)) l))))
+-- the running task is ready, heads its line, and no listed one stands higher unless there is a hold
+pub runs-of : (xs : List Task) (l : List TaskSlot) (u : TaskSlot) (held : Bool) → length xs ≡ 16 → ((n : ℕ) → n < 16 → standsFine (count n l) (taskAt xs (task n) .place) ≡ true)
+    → runsIn (tasksOf xs) l u held
+    ≡ (isReady (taskAt xs u .place) && (headed (kept (λ t. inLine (taskAt xs u .effective) (taskAt xs t)) l) u && (held || isNone (kept (λ t. inHigher (taskAt xs u .effective) (taskAt xs t)) l))))
 unfolding runsIn lineIn
-runs-of xs l u held =
+runs-of xs l u held many stands =
     ap (runsAt (tasksOf xs) l u held) (task-of xs u)
     ∙ (λ i. isReady (taskAt xs u .place) && (headed (kept (λ t. inLine p (task-of xs t i)) l) u && (held || top i)))
   where
     p : ℕ
     p = taskAt xs u .effective
 
-    top : not (higherIn (tasksOf xs) p l) ≡ isNone (kept (λ t. inHigher p (taskAt xs t)) l)
-    top = ap not (higher-of xs p l) ∙ none-kept (λ t. inHigher p (taskAt xs t)) l
+    top : not (outrankedIn (tasksOf xs) p) ≡ isNone (kept (λ t. inHigher p (taskAt xs t)) l)
+    top = ap not (outranked-of xs p ∙ outranked-listed xs l many stands p) ∙ none-kept (λ t. inHigher p (taskAt xs t)) l

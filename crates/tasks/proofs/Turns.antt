@@ -6,9 +6,9 @@ use mathlib.Core.List.{List}
 use native.Mathlib.Omega.{arith}
 use lib.Dec.{eqb, ltb}
 use lib.ListN.{length, getD, set, take, length-take, List·getD-eq-default}
-use lib.Seq.{getD-take}
+use lib.Seq.{getD-take, set-getD}
 use Rattle.lists.specs.Choice.{if_then_else_}
-use Rattle.lists.specs.Lists.{foldl, upTo, any, kept, index}
+use Rattle.lists.specs.Lists.{foldl, upTo, any, kept, index, larger}
 use Rattle.lists.proofs.Bools.{and-left}
 use Rattle.numbers.specs.declared.TaskSlot.{TaskSlot}
 use Rattle.numbers.specs.declared.ObjSlot.{ObjSlot}
@@ -25,9 +25,9 @@ use Rattle.slots.specs.Tasks.{freeTask, inHigher}
 use Rattle.slots.proofs.Sweeps.{by-rows, some-row, first-row}
 use Rattle.tasks.specs.declared.Tasks.{Tasks}
 use Rattle.tasks.specs.Rows.{rowAt, rowsOf, put, freeIn}
-use Rattle.tasks.specs.Walks.{leadIn, higherIn, outrankedIn, lineIn, waitedIn, isMeant}
+use Rattle.tasks.specs.Walks.{leadIn, higherIn, outrankedIn, lineIn, readyLevel, topIn, waitedIn, isMeant, ready}
 use Rattle.tasks.specs.Dues.{timed, untilIn, wakeNow, woken, tailed, wakeIn}
-use Rattle.tasks.proofs.Columns.{Full, row-at, rows-many, own-kept, level-kept}
+use Rattle.tasks.proofs.Columns.{Full, row-at, rows-many}
 use Rattle.tasks.proofs.Tests.{row-meant, row-free, row-line, row-higher, row-away, row-due, row-ended}
 
 -- the first n of a list that is long enough
@@ -98,6 +98,10 @@ module _ (states : List ℕ) (n : ℕ) (t : TaskSlot) (same : n ≡ t .0) where
     pub level-past : length states ≡ 16 → 16 ≤ n → isLevel p states levels t ≡ false
     level-past l h = rw (past-state l h)
 
+pub ready-is : (ts : Tasks) (i : ℕ) → readyLevel (rowAt ts i) ≡ ready (getD (ts .state) i 0) (getD (ts .effective) i 0)
+unfolding rowAt
+ready-is ts i = ap (λ (b : Bool). if b then getD (ts .effective) i 0 else 0) (row-meant ts i AllReady)
+
 -- walks of the rows
 module _ (ts : Tasks) (full : Full ts) where
   many : length (rowsOf ts) ≡ 16
@@ -119,6 +123,11 @@ module _ (ts : Tasks) (full : Full ts) where
   pub now-is : (now : ℕ) → upTo (λ b i. b || eqb (getD (ts .wake) i 0) now) 16 false ≡ wakeNow ts now
   unfolding wakeNow
   now-is now = some-row (λ w. eqb w now) (λ i. eqb (getD (ts .wake) i 0) now) (ts .wake) 0 16 (full .wakes) (λ i h. refl)
+
+  pub top-is : upTo (λ m i. larger m (ready (getD (ts .state) i 0) (getD (ts .effective) i 0))) 16 0 ≡ topIn ts
+  unfolding topIn
+  top-is = by-rows (λ m x. larger m (readyLevel x)) (λ m i. larger m (ready (getD (ts .state) i 0) (getD (ts .effective) i 0))) (rowsOf ts) freeTask
+      (λ m i h. ap (larger m) (sym (ready-is ts i) ∙ sym (ap readyLevel (row i h)))) 0 16 many
 
   pub until-is : (now : ℕ) → upTo (λ m i. min m (if timed (getD (ts .state) i 0) then ahead now (getD (ts .wake) i 0) else 4294967295)) 16 4294967295 ≡ untilIn now ts
   unfolding untilIn
@@ -143,6 +152,14 @@ module _ (now : ℕ) (ts : Tasks) (o : Order) (i : ℕ) where
   abbrev due : Bool
   due = timed (getD (ts .state) i 0) && eqb (getD (ts .wake) i 0) now
 
+  owns : set (ts .own) i (rowAt ts i .own) ≡ ts .own
+  unfolding rowAt
+  owns = set-getD (ts .own) i 0
+
+  levels : set (ts .effective) i (rowAt ts i .effective) ≡ ts .effective
+  unfolding rowAt
+  levels = set-getD (ts .effective) i 0
+
   pub due-turn : {n : ℕ} {p : Order} → due ≡ true → n ≡ (if eqb (getD (ts .state) i 0) 2 then 1 else 2) → p ≡ tailed o (task i)
       → woken (columns (set (ts .state) i 1) (set (ts .object) i 0) (set (ts .wake) i 0) (ts .own) (ts .effective) (set (ts .outcome) i n)) p
       ≡ wakeIn now (woken ts o) (task i)
@@ -150,7 +167,7 @@ module _ (now : ℕ) (ts : Tasks) (o : Order) (i : ℕ) where
   due-turn {n} {p} e q r =
       let d : wakesAt now (rowAt ts i .place) ≡ true = row-due ts i now ∙ e in
       let t : timed (getD (ts .state) i 0) ≡ true = and-left (timed (getD (ts .state) i 0)) (eqb (getD (ts .wake) i 0) now) e in
-      rw (d, q, r, row-ended ts i t, own-kept ts i, level-kept ts i)
+      rw (d, q, r, row-ended ts i t, owns, levels)
 
   pub not-turn : due ≡ false → woken ts o ≡ wakeIn now (woken ts o) (task i)
   unfolding wakeIn

@@ -28,7 +28,6 @@ untilIn now ts = foldl (λ n x. min n (away now (x .place))) 4294967295 (rowsOf 
 unfoldable pub wakeNow : Tasks → ℕ → Bool
 wakeNow ts now = any (λ w. eqb w now) (ts .wake)
 
--- a table and an order, as the wakes leave them
 abbrev pub woken : Tasks → Order → Woken
 woken ts o = record { tasks = ts; order = o }
 
@@ -36,7 +35,6 @@ woken ts o = record { tasks = ts; order = o }
 abbrev pub readyOf : Task → Task
 readyOf x = placed x Ready (outcomeDue (x .place))
 
--- an order with t at its tail
 abbrev pub tailed : Order → TaskSlot → Order
 tailed o t = ordered (without t (listed o) ++ (t ∷ []))
 

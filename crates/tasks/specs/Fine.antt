@@ -16,15 +16,14 @@ use Rattle.slots.specs.Places.{isReady}
 use Rattle.slots.specs.Fine.{idleFine, standsFine, ordersFine, prioritiesFine, outcomeFine, freshIfFree, freeHolds, notDue, mayWaitOn}
 use Rattle.tasks.specs.declared.Tasks.{Tasks}
 use Rattle.tasks.specs.Rows.{tasksOf, rowAt, rowsOf}
-use Rattle.tasks.specs.Walks.{higherIn, lineIn}
+use Rattle.tasks.specs.Walks.{outrankedIn, lineIn}
 use Rattle.tasks.specs.Dues.{timed}
 use Rattle.tasks.specs.Known.{waits, known, wakeKnown}
 
--- the states delayed and waiting
 abbrev pub blocked : ℕ → Bool
 blocked s = eqb s 2 || waits s
 
--- a row by itself, in words and in numbers, where it stands n times in the order and holds a mutex or not
+-- a row by itself, where it stands n times in the order and holds a mutex or not
 abbrev pub aloneFine : ℕ → Bool → Task → Bool
 aloneFine n held x =
     standsFine n (x .place)
@@ -45,7 +44,7 @@ rowFine s o own level outcome n held =
 abbrev pub rowsFine : Tasks → List ℕ → List Bool → ℕ → Bool
 rowsFine ts stands holds i = known (getD (ts .state) i 0) (getD (ts .object) i 0) && aloneFine (getD stands i 0) (getD holds i false) (rowAt ts i)
 
--- its wake tick, in numbers and in words
+-- its wake tick
 unfoldable pub wakeFine : ℕ → ℕ → ℕ → Bool
 wakeFine s w tick = if timed s then leb w 4294967295 && not (eqb w tick) else eqb w 0
 
@@ -77,13 +76,13 @@ waitsAt ts opens takes holder i = waitsBy opens takes holder (task i) (rowAt ts 
 unfoldable pub waitingIn : Tasks → ℕ
 waitingIn ts = upTo (λ n i. n + (if waits (getD (ts .state) i 0) then 1 else 0)) 16 0
 
--- "the running task heads its line, and with hold 0 no higher line is occupied": x is the running task u, and l are those listed
+-- "the running task heads its line, and with hold 0 no higher line is occupied": no row stands higher
 abbrev pub headed : List TaskSlot → TaskSlot → Bool
 headed [] u = false
 headed (t ∷ l) u = sameTask t u
 
 abbrev pub runsAt : Tasks → List TaskSlot → TaskSlot → Bool → Task → Bool
-runsAt ts l u held x = isReady (x .place) && (headed (lineIn ts (x .effective) l) u && (held || not (higherIn ts (x .effective) l)))
+runsAt ts l u held x = isReady (x .place) && (headed (lineIn ts (x .effective) l) u && (held || not (outrankedIn ts (x .effective))))
 
 unfoldable pub runsIn : Tasks → List TaskSlot → TaskSlot → Bool → Bool
 runsIn ts l u held = runsAt ts l u held (rowAt ts (u .0))

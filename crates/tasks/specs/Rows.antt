@@ -42,18 +42,6 @@ put ts n x =
       outcome = set (ts .outcome) n (x .outcome);
     }
 
--- the columns with the priorities of the row `n` changed
-unfoldable pub rankIn : Tasks → ℕ → ℕ → ℕ → Tasks
-rankIn ts n own level =
-    record {
-      state = ts .state;
-      object = ts .object;
-      wake = ts .wake;
-      own = set (ts .own) n own;
-      effective = set (ts .effective) n level;
-      outcome = ts .outcome;
-    }
-
 -- the task that the row `n` says
 unfoldable pub rowAt : Tasks → ℕ → Task
 rowAt ts n =

@@ -3,7 +3,8 @@ use Prim.Native.Nat.{ℕ}
 use mathlib.Core.Bool.{Bool, _&&_, _||_}
 use mathlib.Core.List.{List, [], _∷_}
 use lib.Dec.{eqb}
-use Rattle.lists.specs.Lists.{foldl, any, kept}
+use Rattle.lists.specs.Choice.{if_then_else_}
+use Rattle.lists.specs.Lists.{foldl, any, kept, larger}
 use Rattle.numbers.specs.declared.TaskSlot.{TaskSlot}
 use Rattle.numbers.specs.declared.ObjSlot.{ObjSlot}
 use Rattle.numbers.specs.Numbers.{task}
@@ -12,7 +13,7 @@ use Rattle.slots.specs.declared.Who.{Who}
 use Rattle.slots.specs.declared.Who.the-variants.{AllReady, WaitersOf}
 use Rattle.slots.specs.declared.Lead.{Lead}
 use Rattle.slots.specs.declared.Lead.the-variants.{Open}
-use Rattle.slots.specs.Places.{waitsOn}
+use Rattle.slots.specs.Places.{isReady, waitsOn}
 use Rattle.slots.specs.Leads.{better}
 use Rattle.slots.specs.Tasks.{inLine, inHigher}
 use Rattle.tasks.specs.declared.Tasks.{Tasks}
@@ -37,11 +38,20 @@ abbrev pub headOr : List TaskSlot → TaskSlot
 headOr [] = task 16
 headOr (t ∷ l) = t
 
--- some row waits on the object
+-- the highest priority of a ready row; some row waits on the object
+abbrev pub readyLevel : Task → ℕ
+readyLevel x = if isReady (x .place) then x .effective else 0
+
+unfoldable pub topIn : Tasks → ℕ
+topIn ts = foldl (λ m x. larger m (readyLevel x)) 0 (rowsOf ts)
+
 unfoldable pub waitedIn : Tasks → ObjSlot → Bool
 waitedIn ts o = any (λ (x : Task). waitsOn o (x .place)) (rowsOf ts)
 
--- who is meant, in numbers
+-- who is meant, and a ready task's priority, in numbers
 abbrev pub isMeant : Who → ℕ → ℕ → Bool
 isMeant AllReady s o = eqb s 1
 isMeant (WaitersOf x) s o = (eqb s 3 || eqb s 4) && eqb o (x .0)
+
+abbrev pub ready : ℕ → ℕ → ℕ
+ready s level = if eqb s 1 then level else 0

@@ -1,13 +1,13 @@
 // What soundness asks of the tasks, tested in numbers: no Task is made, so that the compiler does all sixteen rows at once.
 ghost use Prim.Native.Nat.{_*_, min};
 ghost use mathlib.Core.Path.{_≡_};
-ghost use mathlib.Core.Bool.{_||_, not};
+ghost use mathlib.Core.Bool.{_&&_, not};
+ghost use lib.ListN.{getD};
 ghost use Rattle.lists.specs.Choice.{if_then_else_};
 ghost use Rattle.lists.specs.Lists.{allBelow};
 ghost use Rattle.slots.specs.Fine.{idleFine};
 ghost use Rattle.order.specs.Order.{listed};
 ghost use Rattle.tasks.specs.Rows.{rowAt};
-ghost use Rattle.tasks.specs.Walks.{higherIn};
 ghost use Rattle.tasks.specs.Known.{waits};
 ghost use Rattle.tasks.specs.Fine.{rowFine, wakeFine, rowsFine, wakesFine, waitingIn, waitsAt, runsIn, Fine};
 use crate::Tasks;
@@ -171,23 +171,22 @@ impl Tasks {
         ok
     }
 
-    fn stands_top(self, o: Order, p: u8, held: bool) -> bool
-        ensures { λ r. ⌜ r ≡ (held || not (higherIn self p (listed o))) ⌝ }
+    fn level(self, t: TaskSlot) -> u8
+        ensures { λ r. ⌜ r ≡ rowAt self (t .0) .effective ⌝ }
     {
-        if held {
-            return true;
-        }
-        let outranked = self.higher(o, p);
-        !outranked
+        let effective = self.effective;
+        let i = t.slot();
+        if i < 16 { effective[i] } else { 0 }
     }
 
-    // The running task `u` heads its line, and, unless `held`, no listed task is in a higher one.
+    // The running task `u` heads its line, and no row outranks it, unless `held`.
     pub fn runs_fine(self, o: Order, u: TaskSlot, held: bool) -> bool
         ensures { λ r. ⌜ r ≡ runsIn self (listed o) u held ⌝ }
     {
         let p = self.level(u);
         let heads = self.head(o, p).same(u);
-        let top = self.stands_top(o, p, held);
+        let outranked = self.outranked(p);
+        let top = lists::either(held, !outranked);
         lists::both(u.slot() < 16, lists::both(heads, top))
     }
 }

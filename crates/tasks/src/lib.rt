@@ -3,11 +3,10 @@
 ghost use mathlib.Core.Path.{_≡_};
 ghost use lib.ListN.{replicate};
 ghost use mathlib.Core.List.{_∷_};
-ghost use Rattle.slots.specs.Tasks.{freeTask, readyAt, placed};
-ghost use Rattle.tasks.specs.Rows.{tasksOf, rowAt, put, rankIn};
+ghost use Rattle.slots.specs.Tasks.{freeTask, readyAt};
+ghost use Rattle.tasks.specs.Rows.{tasksOf, rowAt, put};
 use numbers::TaskSlot;
 use order::Order;
-use slots::Place;
 use slots::Task;
 
 mod dues;
@@ -107,59 +106,6 @@ impl Tasks {
             own[i] = x.own;
             effective[i] = x.effective;
             outcome[i] = x.outcome;
-        }
-        Tasks {
-            state,
-            object,
-            wake,
-            own,
-            effective,
-            outcome,
-        }
-    }
-
-    // The row's place and outcome changed.
-    pub fn placed(self, t: TaskSlot, p: Place, n: u8) -> Tasks
-        ensures { λ r. ⌜ r ≡ put self (t .0) (placed (rowAt self (t .0)) p n) ⌝ }
-    {
-        let i = t.slot();
-        let cells = Cells::of(p);
-        let mut state = self.state;
-        let mut object = self.object;
-        let mut wake = self.wake;
-        let own = self.own;
-        let effective = self.effective;
-        let mut outcome = self.outcome;
-        if i < 16 {
-            state[i] = cells.state;
-            object[i] = cells.object;
-            wake[i] = cells.wake;
-            outcome[i] = n;
-        }
-        Tasks {
-            state,
-            object,
-            wake,
-            own,
-            effective,
-            outcome,
-        }
-    }
-
-    // The row's priorities changed.
-    pub fn ranked(self, t: TaskSlot, p: u8, level: u8) -> Tasks
-        ensures { λ r. ⌜ r ≡ rankIn self (t .0) p level ⌝ }
-    {
-        let i = t.slot();
-        let state = self.state;
-        let object = self.object;
-        let wake = self.wake;
-        let mut own = self.own;
-        let mut effective = self.effective;
-        let outcome = self.outcome;
-        if i < 16 {
-            own[i] = p;
-            effective[i] = level;
         }
         Tasks {
             state,

@@ -3,10 +3,11 @@ ghost use mathlib.Core.Path.{_≡_};
 ghost use mathlib.Core.Bool.{_&&_};
 ghost use lib.Dec.{eqb, ltb};
 ghost use Rattle.order.specs.Order.{listed};
+ghost use Rattle.lists.specs.Lists.{larger};
 ghost use Rattle.slots.specs.declared.Who.the-variants.{AllReady, WaitersOf};
 ghost use Rattle.slots.specs.Leads.{leadsOr};
-ghost use Rattle.tasks.specs.Rows.{rowAt, freeIn};
-ghost use Rattle.tasks.specs.Walks.{isMeant, leadIn, higherIn, outrankedIn, lineIn, headOr, waitedIn};
+ghost use Rattle.tasks.specs.Rows.{freeIn};
+ghost use Rattle.tasks.specs.Walks.{isMeant, leadIn, higherIn, outrankedIn, lineIn, headOr, ready, topIn, waitedIn};
 use crate::Tasks;
 use numbers::ObjSlot;
 use numbers::TaskSlot;
@@ -39,6 +40,18 @@ fn at_level(state: u8, level: u8, p: u8) -> bool
     ensures { λ r. ⌜ r ≡ (eqb state 1 && eqb level p) ⌝ }
 {
     lists::both(state == 1, level == p)
+}
+
+fn larger(a: u8, b: u8) -> u8
+    ensures { λ r. ⌜ r ≡ larger a b ⌝ }
+{
+    if a < b { b } else { a }
+}
+
+fn ready_level(state: u8, level: u8) -> u8
+    ensures { λ r. ⌜ r ≡ ready state level ⌝ }
+{
+    if state == 1 { level } else { 0 }
 }
 
 impl Tasks {
@@ -88,27 +101,32 @@ impl Tasks {
         TaskSlot::of(16)
     }
 
-    pub(crate) fn level(self, t: TaskSlot) -> u8
-        ensures { λ r. ⌜ r ≡ rowAt self (t .0) .effective ⌝ }
+    // The highest effective priority of a ready row; 0 where none is ready.
+    fn top(self) -> u8
+        ensures { λ r. ⌜ r ≡ topIn self ⌝ }
     {
+        let state = self.state;
         let effective = self.effective;
-        let i = t.slot();
-        if i < 16 { effective[i] } else { 0 }
+        let mut top = 0u8;
+        let mut i = 0usize;
+        while i < 16 {
+            top = larger(top, ready_level(state[i], effective[i]));
+            i += 1;
+        }
+        top
     }
 
-    // Who leads the ready tasks of the order; `u`, the running task, where none is ready. Where no row outranks `u`, the first of its line leads; only where there is no
-    // such line, or a row is higher, the order is walked whole.
+    // Who leads the ready tasks of the order; `u` where none is ready. The first of the highest priority leads; only a table with a ready row that the order does
+    // not list is walked whole.
     pub fn leader(self, o: Order, u: TaskSlot) -> TaskSlot
         ensures { λ r. ⌜ r ≡ leadsOr (leadIn self AllReady (listed o)) u ⌝ }
     {
-        let p = self.level(u);
-        if !self.outranked(p) {
-            let t = self.head(o, p);
-            if t.slot() < 16 {
-                return t;
-            }
+        let t = self.head(o, self.top());
+        if t.slot() < 16 {
+            t
+        } else {
+            self.first(Who::AllReady, o).or(u)
         }
-        self.first(Who::AllReady, o).or(u)
     }
 
     fn waited(self, o: ObjSlot) -> bool
@@ -136,22 +154,8 @@ impl Tasks {
         }
     }
 
-    // Some row is ready above the priority `p`.
-    fn outranked(self, p: u8) -> bool
-        ensures { λ r. ⌜ r ≡ outrankedIn self p ⌝ }
-    {
-        let state = self.state;
-        let effective = self.effective;
-        let mut found = false;
-        let mut i = 0usize;
-        while i < 16 {
-            found = lists::either(found, above(state[i], effective[i], p));
-            i += 1;
-        }
-        found
-    }
-
-    fn higher_listed(self, o: Order, p: u8) -> bool
+    // Some listed task is ready above the priority `p`.
+    pub fn higher(self, o: Order, p: u8) -> bool
         ensures { λ r. ⌜ r ≡ higherIn self p (listed o) ⌝ }
     {
         let state = self.state;
@@ -172,15 +176,19 @@ impl Tasks {
         false
     }
 
-    // Some listed task is ready above the priority `p`. Where no row is, the order is not walked.
-    pub fn higher(self, o: Order, p: u8) -> bool
-        ensures { λ r. ⌜ r ≡ higherIn self p (listed o) ⌝ }
+    // Some row is ready above the priority `p`.
+    pub fn outranked(self, p: u8) -> bool
+        ensures { λ r. ⌜ r ≡ outrankedIn self p ⌝ }
     {
-        if self.outranked(p) {
-            self.higher_listed(o, p)
-        } else {
-            false
+        let state = self.state;
+        let effective = self.effective;
+        let mut found = false;
+        let mut i = 0usize;
+        while i < 16 {
+            found = lists::either(found, above(state[i], effective[i], p));
+            i += 1;
         }
+        found
     }
 
     // The lowest free slot; 16 where there is none.

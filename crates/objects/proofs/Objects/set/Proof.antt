@@ -14,8 +14,7 @@ returns-2 : tie.Need-returns-2
 returns-2 c =
     let os = c .before .before .before .before .before .before .before .before .before .args .self in
     let f : Full os = search needs in
-    let a = c .before .before .before .before .before .before .before .before .before .args in
-    sym (lost-kind os f (a .o .0) (omega arith) (a .k))
+    sym (lost-kind os f (c .before .before .before .before .before .before .before .before .before .args .o .0) (omega arith) (c .before .before .before .before .before .before .before .before .before .args .k))
 
 pub set-spec : {M : Type 1} → statement M
 set-spec =

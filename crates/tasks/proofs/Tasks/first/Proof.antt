@@ -40,11 +40,9 @@ loop-again c =
 
 returns : tie.Need-returns Inv-loop μ-loop
 returns c =
-    let c4 = c .before .before .before .before in
-    let o = c4 .before .before .before .args .o in
+    let o = c .before .before .before .before .before .before .before .args .o in
     let len : length (o .places) ≡ 16 = search length-mapped in
-    done (c .before .loop .inv) (search needs)
-    ∙ rw (c .before .before .reach .ensures, reached o len) (lead-is (c4 .before .before .before .args .self) (listed o) (c4 .before .before .before .args .w))
+    done (c .before .loop .inv) (search needs) ∙ rw (c .before .before .reach .ensures, reached o len) (lead-is (c .before .before .before .before .before .before .before .args .self) (listed o) (c .before .before .before .before .before .before .before .args .w))
 
 pub first-spec : {M : Type 1} → statement M
 first-spec =

@@ -25,9 +25,7 @@ loop-again : tie.Need-loop-again Inv-loop μ-loop
 loop-again c = (all-turn (c .before .before .before .loop .inv .0) (c .both .ensures ∙ rw (c .before .row-fine .ensures)), search needs)
 
 returns : tie.Need-returns Inv-loop μ-loop
-returns c =
-    let c4 = c .before .before .before .before in
-    all-done (c .before .loop .inv .0) 16 (omega arith) ∙ rows-are (c4 .before .before .before .args .self) (c4 .before .before .before .args .t2) (c4 .before .before .before .args .t3)
+returns c = all-done (c .before .loop .inv .0) 16 (omega arith) ∙ rows-are (c .before .before .before .before .before .before .before .args .self) (c .before .before .before .before .before .before .before .args .t2) (c .before .before .before .before .before .before .before .args .t3)
 
 pub rows-fine-spec : {M : Type 1} → statement M
 rows-fine-spec =

@@ -4,7 +4,7 @@ use Rattle.tasks.proofs.Columns.{Full}
 use Rattle.tasks.proofs.Heads.{runs-is}
 use Rattle.tasks.specs.Fine.{runsIn}
 use Rattle.tasks.specs.Rows.{rowAt}
-use Rattle.tasks.specs.Walks.{higherIn}
+use Rattle.tasks.specs.Walks.{outrankedIn}
 use mathlib.Core.Bool.{not, _||_}
 use mathlib.Core.Path.{_∙_}
 use Rattle.tasks.proofs.Tasks.runs_fine.Statement.{statement}
@@ -13,20 +13,18 @@ use Rattle.tasks.proofs.Tasks.runs_fine.Tie as tie
 returns : tie.Need-returns
 unfolding runsIn
 returns c =
-    let ts = c .before .before .before .before .before .before .before .args .self in
+    let ts = c .before .before .before .before .before .before .before .before .args .self in
     let f : Full ts = search needs in
-    let a = c .before .before .before .before .before .before .before .args in
-    let c3 = c .before .before .before in
-    let l = listed (a .o) in
-    let p = rowAt ts (a .u .0) .effective in
+    let u = c .before .before .before .before .before .before .before .before .args .u in
     c .both2 .ensures
-    ∙ rw (c .before .both .ensures, c .before .before .slot .ensures, c3 .stands-top .ensures, c3 .before .same .ensures)
-    (rw (c3 .before .before .head .ensures, c3 .before .before .before .level .ensures) (runs-is ts f l (a .u) p (a .held || not (higherIn ts p l))))
+    ∙ rw (c .before .both .ensures, c .before .before .slot .ensures, c .before .before .before .either .ensures, c .before .before .before .before .outranked .ensures, c .before .before .before .before .before .same .ensures, c .before .before .before .before .before .before .head .ensures, c .before .before .before .before .before .before .before .level .ensures)
+    (runs-is ts f (listed (c .before .before .before .before .before .before .before .before .args .o)) u (rowAt ts (u .0) .effective) (c .before .before .before .before .before .before .before .before .args .held || not (outrankedIn ts (rowAt ts (u .0) .effective))))
 
 pub runs-fine-spec : {M : Type 1} → statement M
 runs-fine-spec =
     tie.close
     (tie.spec
+    (λ c κs. search needs)
     (λ c κs. search needs)
     (λ c κs. search needs)
     (λ c κs. search needs)

@@ -23,11 +23,9 @@ loop-holds c = (start, search needs)
 
 loop-again : tie.Need-loop-again Inv-loop μ-loop
 loop-again c =
-    let c4 = c .before .before .before .before in
-    let c8 = c4 .before .before .before .before in
     let l = c .before .before .before .loop in
-    let ts = columns (l .state) (l .object) (l .wake) (c8 .before .before .args .self .own) (c8 .before .before .args .self .effective) (l .outcome) in
-    let now = c8 .before .before .args .now in
+    let ts = columns (l .state) (l .object) (l .wake) (c .before .before .before .before .before .before .before .before .before .before .args .self .own) (c .before .before .before .before .before .before .before .before .before .before .args .self .effective) (l .outcome) in
+    let now = c .before .before .before .before .before .before .before .before .before .before .args .now in
     let is = sym (c .before .due .ensures) in (
       next (l .inv .0) (⊎-elim
           (λ v. woken-alike (v .4) (v .5) (v .6) (v .7) (v .8) ∙ due-turn now ts (l .order) (l .i) (is ∙ v .0 .taken) (v .1 .ensures) (v .3 .ensures ∙ rw (v .2 .ensures)))
