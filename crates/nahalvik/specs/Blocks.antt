@@ -1,17 +1,25 @@
 -- What comes of the blocks that the program reads.
 use Prim.Native.Nat.{ℕ, _+_, _*_, _≤_}
 use mathlib.Core.Path.{_≡_}
-use mathlib.Core.List.{List}
-use lib.ListN.{length, take, replicate}
+use mathlib.Core.List.{List, [], _∷_}
+use lib.ListN.{length, take}
 use Rattle.lists.specs.Lists.{foldl}
+use Rattle.rules.specs.Session.{Run, begun, fed}
+use Rattle.kernel.specs.declared.Kernel.{Kernel}
 use Rattle.kernel.specs.declared.Session.{Session}
 use Rattle.kernel.specs.declared.Served.{Served}
-use Rattle.kernel.specs.Session.{Run, begun, fed, newSession}
+use Rattle.kernel.specs.Stands.{kernelOf, shown, standing}
 use Rattle.kernel.specs.Promises.{Ran}
+use Rattle.promises.specs.Turns.{begins, atStart}
 
 -- a session goes on over some bytes, every one of which it takes
 abbrev pub fedAll : Session → List ℕ → List ℕ → Run
-fedAll n s bytes = foldl fed (begun (n .kernel) s (n .cut)) bytes
+fedAll n s bytes = foldl fed (begun (shown (n .kernel)) s (n .cut)) bytes
+
+-- the kernel value afterwards: where no byte has come, the one that was
+abbrev pub onward : Session → List ℕ → List ℕ → Kernel
+onward n s [] = n .kernel
+onward n s (b ∷ bytes) = standing (n .kernel) (fedAll n s (b ∷ bytes) .kernel)
 
 -- the room that the answers to a block can take: an answer has at most 64 bytes, and each byte may end a line; none is begun without 256 bytes
 abbrev pub roomFor : List ℕ → ℕ
@@ -20,20 +28,20 @@ roomFor block = 64 * length block + 256
 -- the promise of a block: it is taken whole; session, store, the bytes written and all others of the lent output are what the session's definition says
 pub record Whole (n : Session) (block s lent : List ℕ) (r : Served) (after o : List ℕ) : Type 0 where
   pub taken : r .taken ≡ length block
-  pub ran : Ran (fedAll n s block) lent r after o
+  pub ran : Ran (standing (n .kernel) (fedAll n s block .kernel)) (fedAll n s block) lent r after o
 
 -- the promise of a read: as many bytes came as were taken; they stand first in the buffer, and are answered as a whole block
 pub record Brought (n : Session) (buffer s lent : List ℕ) (r : Served) (after o : List ℕ) : Type 0 where
   pub within : r .taken ≤ length buffer
-  pub ran : Ran (fedAll n s (take (r .taken) buffer)) lent r after o
+  pub ran : Ran (onward n s (take (r .taken) buffer)) (fedAll n s (take (r .taken) buffer)) lent r after o
 
 -- "The program starts from the fresh kernel and a store of zeros."
 abbrev pub fromStart : List ℕ → Run
-fromStart input = fedAll newSession (replicate 9216 0) input
+fromStart input = foldl fed (begins atStart) input
 
 -- the promise of all reads together: session and store are where some input brings the program
 pub record Came (n : Session) (s : List ℕ) : Type 0 where
   pub input : List ℕ
-  pub kernel : n .kernel ≡ fromStart input .kernel
+  pub kernel : n .kernel ≡ kernelOf (fromStart input .kernel)
   pub cut : n .cut ≡ fromStart input .cut
   pub store : s ≡ fromStart input .store

@@ -69,7 +69,7 @@ fn pairs(start: Kernel, a: Call, b: Call, times: u32, store: &mut [u8]) -> u32 {
     let mut i = 0u32;
     while i < times {
         k = both(k, a, b, store);
-        sum = std::num::wrapping_add_u32(sum, k.running.number());
+        sum = std::num::wrapping_add_u32(sum, TaskNo::of_slot(k.running).number());
         i += 1;
     }
     sum

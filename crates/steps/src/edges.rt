@@ -4,8 +4,8 @@ use crate::parlour::stepped;
 use crate::words;
 use calls::Call;
 use calls::ObjNo;
-use calls::TaskNo;
 use kernel::Kernel;
+use numbers::TaskSlot;
 
 pub(crate) fn sizes() {
     words::text(b"\nlengths\n");
@@ -66,7 +66,7 @@ pub(crate) fn unsound() {
     words::text(b"\nnot sound\n");
     let mut none = [0u8; 0];
     let mut k = Kernel::fresh();
-    k.running = TaskNo::of(3);
+    k.running = TaskSlot::of(3);
     let p = Parlour::with(k).does(Call::Tick);
     stepped(p.kernel, Call::Create(32), b"", &mut none);
 }

@@ -2,16 +2,16 @@
 mod edges;
 mod holds;
 mod idle;
+mod lives;
 mod mutexes;
 mod parlour;
 mod queues;
 mod session;
-mod tasks;
 mod words;
 
 fn main() {
     session::whole();
-    tasks::lives();
+    lives::whole();
     idle::alone();
     holds::depths();
     mutexes::loans();

@@ -87,12 +87,9 @@ pub(crate) fn bytes(words: &[u8], store: &[u8], from: usize, to: usize) {
 
 // The outcome of the task `t`.
 pub(crate) fn outcome(k: Kernel, t: TaskNo) {
-    let i = t.slot();
-    if i < 16 {
-        let x = k.tasks[i];
-        two(b"  outcome of", t.number(), b":", x.outcome as u32);
-        text(b"\n");
-    }
+    let x = k.tasks.get(t.slot());
+    two(b"  outcome of", t.number(), b":", x.outcome as u32);
+    text(b"\n");
 }
 
 pub(crate) fn ticks(k: Kernel) {

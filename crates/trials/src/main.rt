@@ -1,19 +1,19 @@
 // Kernel values made by hand: some sound, and one unsound by each clause that the types leave open. What `sound` says of each is written down.
-use calls::ObjNo;
-use calls::TaskNo;
+// A table with an unused number that is not 0 cannot be made here: the columns are private, and a row goes in only through `set`, which writes 0 there.
 use kernel::Kernel;
+use numbers::ObjSlot;
+use numbers::TaskSlot;
 use order::Order;
 use slots::Holder;
 use slots::Kind;
-use slots::Object;
 use slots::Place;
 use slots::Ring;
 use slots::Task;
 use slots::Wake;
 
-mod objects;
+mod kinds;
 mod orders;
-mod tasks;
+mod values;
 
 fn task(place: Place, own: u8, effective: u8, outcome: u8) -> Task {
     Task {
@@ -33,26 +33,21 @@ fn ring(capacity: u8, size: u8, first: u8, count: u8) -> Kind {
     })
 }
 
-fn held_by(n: u32) -> Kind {
-    Kind::Mutex(Holder::By(TaskNo::of(n)))
+fn held_by(n: u8) -> Kind {
+    Kind::Mutex(Holder::By(TaskSlot::of(n)))
 }
 
-fn waiting(o: u32, w: Wake) -> Place {
-    Place::Waiting(ObjNo::of(o), w)
+fn waiting(o: u8, w: Wake) -> Place {
+    Place::Waiting(ObjSlot::of(o), w)
 }
 
-fn put_task(mut k: Kernel, i: usize, x: Task) -> Kernel {
-    if i < 16 {
-        k.tasks[i] = x;
-    }
+fn put_task(mut k: Kernel, i: u8, x: Task) -> Kernel {
+    k.tasks = k.tasks.set(TaskSlot::of(i), x);
     k
 }
 
-fn put_kind(mut k: Kernel, i: usize, kind: Kind) -> Kernel {
-    if i < 16 {
-        let x = Object { kind };
-        k.objects[i] = x;
-    }
+fn put_kind(mut k: Kernel, i: u8, kind: Kind) -> Kernel {
+    k.objects = k.objects.set(ObjSlot::of(i), kind);
     k
 }
 
@@ -62,14 +57,14 @@ fn put_order(mut k: Kernel, o: Order) -> Kernel {
 }
 
 // The number `n` once more, at the end.
-fn listed_too(k: Kernel, n: u32) -> Kernel {
+fn listed_too(k: Kernel, n: u8) -> Kernel {
     let o = k.order;
-    put_order(k, o.appended(TaskNo::of(n)))
+    put_order(k, o.appended(TaskSlot::of(n)))
 }
 
-fn unlisted(k: Kernel, n: u32) -> Kernel {
+fn unlisted(k: Kernel, n: u8) -> Kernel {
     let o = k.order;
-    put_order(k, o.without(TaskNo::of(n)))
+    put_order(k, o.without(TaskSlot::of(n)))
 }
 
 // Task 1 runs and holds mutex 2 for task 6; 2 is ready; 3 is delayed; 4 receives on queue 0; 5 sends on queue 1; 7 is suspended, and listed nowhere.
@@ -79,7 +74,7 @@ fn parlour() -> Kernel {
     let k = put_kind(k, 1, ring(2, 0, 0, 2));
     let k = put_kind(k, 2, held_by(1));
     let mut k = put_kind(k, 3, Kind::Mutex(Holder::Nobody));
-    k.running = TaskNo::of(1);
+    k.running = TaskSlot::of(1);
     k.tick = 5;
     k
 }
@@ -121,13 +116,13 @@ fn good() {
 
 fn main() {
     good();
-    tasks::idle();
-    tasks::priorities();
-    tasks::values();
+    values::idle();
+    values::priorities();
+    values::others();
     orders::listing();
     orders::many();
     orders::running();
-    objects::waits();
-    objects::holders();
-    objects::rings();
+    kinds::waits();
+    kinds::holders();
+    kinds::rings();
 }

@@ -6,8 +6,8 @@ use crate::put_task;
 use crate::say;
 use crate::task;
 use crate::unlisted;
-use calls::TaskNo;
 use kernel::Kernel;
+use numbers::TaskSlot;
 use order::Order;
 use slots::Place;
 
@@ -22,7 +22,7 @@ pub(crate) fn listing() {
     let k = parlour();
     let o = k.order;
     let mut places = o.places;
-    places[9] = TaskNo::of(2);
+    places[9] = TaskSlot::of(2);
     let living = o.living;
     say(
         b"a number behind the listed",
@@ -33,9 +33,9 @@ pub(crate) fn listing() {
 // All sixteen tasks are ready.
 fn crowd() -> Kernel {
     let mut k = Kernel::fresh();
-    let mut i = 1u32;
+    let mut i = 1u8;
     while i < 16 {
-        k = listed_too(put_task(k, i as usize, task(Place::Ready, 0, 0, 0)), i);
+        k = listed_too(put_task(k, i, task(Place::Ready, 0, 0, 0)), i);
         i += 1;
     }
     k
@@ -57,15 +57,15 @@ pub(crate) fn running() {
     let o = k.order;
     say(
         b"the running task behind another in its line",
-        put_order(k, o.to_front(TaskNo::of(2))),
+        put_order(k, o.to_front(TaskSlot::of(2))),
     );
     say(
         b"a higher line occupied with no hold",
         put_task(parlour(), 2, task(Place::Ready, 6, 6, 0)),
     );
     let mut k = parlour();
-    k.running = TaskNo::of(3);
+    k.running = TaskSlot::of(3);
     say(b"a delayed task running", k);
-    k.running = TaskNo::of(16);
+    k.running = TaskSlot::of(16);
     say(b"number 16 running", k);
 }

@@ -4,10 +4,10 @@ use Rattle.nahalvik.proofs.end_input.Statement.{statement}
 use Rattle.nahalvik.proofs.end_input.Tie as tie
 
 slice-reshare-prefix-tell : tie.Need-slice-reshare-prefix-tell
-slice-reshare-prefix-tell c = fits _ _ (c .before .before .end .result) _ _ (c .before .before .end .ensures)
+slice-reshare-prefix-tell c = fits _ _ _ (c .before .before .end .result) _ _ (c .before .before .end .ensures)
 
 slice-aggregate-tell : tie.Need-slice-aggregate-tell
-slice-aggregate-tell c = fits-take _ _ (c .before .before .before .end .result) _ _ (c .before .before .before .end .ensures)
+slice-aggregate-tell c = fits-take _ _ _ (c .before .before .before .end .result) _ _ (c .before .before .before .end .ensures)
 
 pub end-input-spec : {M : Type 1} → statement M
 end-input-spec =

@@ -10,7 +10,7 @@ returns-2 : tie.Need-returns-2
 returns-2 c =
     let a = c .before .before .before .before in
     let n = a .before .before .before .before .before .count in
-    some-brought _ _ _ _ (a .answer-block .result .served) _ _ (n .result) (n .ensures .0 .0) (n .ensures .0 .1) (a .answer-block .ensures)
+    some-brought _ _ _ _ (a .answer-block .result .served) _ _ (n .result) (n .ensures .0 .0) (n .ensures .0 .1) (a .before .before .before .before .if1 .left) (a .answer-block .ensures)
 
 pub read-block-spec : {M : Type 1} → statement M
 read-block-spec =

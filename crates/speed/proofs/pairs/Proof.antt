@@ -17,6 +17,9 @@ loop-holds c = search needs
 both-requires : tie.Need-both-requires Inv-loop μ-loop
 both-requires c κs = search needs
 
+of-slot-requires : tie.Need-of-slot-requires Inv-loop μ-loop
+of-slot-requires c κs = search needs
+
 number-requires : tie.Need-number-requires Inv-loop μ-loop
 number-requires c κs = search needs
 
@@ -46,6 +49,7 @@ pairs-spec =
     μ-loop
     loop-holds
     both-requires
+    of-slot-requires
     number-requires
     wrapping-add-u32-requires
     add-i

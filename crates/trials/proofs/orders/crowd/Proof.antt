@@ -15,9 +15,6 @@ fresh-requires c κs = search needs
 loop-holds : tie.Need-loop-holds Inv-loop μ-loop
 loop-holds c = search needs
 
-cast-put-task : tie.Need-cast-put-task Inv-loop μ-loop
-cast-put-task c = search needs
-
 task-requires : tie.Need-task-requires Inv-loop μ-loop
 task-requires c κs = search needs
 
@@ -47,7 +44,6 @@ crowd-spec =
     μ-loop
     fresh-requires
     loop-holds
-    cast-put-task
     task-requires
     put-task-requires
     listed-too-requires

@@ -3,7 +3,7 @@ use crate::parlour::Parlour;
 use crate::words;
 use calls::Call;
 
-pub(crate) fn lives() {
+pub(crate) fn whole() {
     words::text(b"\ntasks\n");
     let p = turns(Parlour::fresh());
     let p = delays(p);

@@ -37,7 +37,7 @@ pub(crate) fn priorities() {
     );
 }
 
-pub(crate) fn values() {
+pub(crate) fn others() {
     let mut k = parlour();
     k.tick = 10;
     say(b"a delay's wake tick is the tick count", k);
