@@ -1,6 +1,6 @@
 -- The claims are true: each field cites its theorem.
 use Prim.Native.Nat.{ℕ}
-use mathlib.Core.Path.{_≡_, sym, subst}
+use mathlib.Core.Path.{_≡_}
 use mathlib.Core.Logic.{inl, inr}
 use mathlib.Core.List.{List, []}
 use Rattle.journal.specs.Line.{lineOf, HasLine}
@@ -16,19 +16,18 @@ use Rattle.kernel.proofs.Session.end.Met as end-code
 use Rattle.journal.proofs.read_call.Met as reader-code
 use Rattle.journal.proofs.write_call.Met as writer-code
 use Rattle.journal.proofs.write_answer.Met as teller-code
-use Rattle.promises.specs.Program.{Answered}
-use Rattle.promises.specs.ByLines.{ProgramAnswers}
-use Rattle.promises.specs.Turns.{cameIn}
+use Rattle.kernel.specs.Stands.{shown}
+use Rattle.kernel.proofs.Shown.{shown-of}
 use Rattle.promises.proofs.Gate.{both-sides-of-the-gate}
-use Rattle.promises.proofs.Exact.{decided, turned-away-exactly}
-use Rattle.promises.proofs.InWords.{program-answers}
-use Rattle.promises.proofs.LineForLine.{session-is-the-program}
-use Rattle.promises.proofs.Histories.{after-any-calls}
-use Rattle.promises.proofs.Reaches.{session-so-far, program-placed, session-placed}
-use Rattle.histories.proofs.PaidBack.{paid-back, program-pays-back, session-pays-back}
+use Rattle.promises.proofs.Exact.{decided}
+use Rattle.promises.proofs.Reaches.{program-placed}
+use Rattle.histories.proofs.PaidBack.{program-pays-back}
 use Rattle.claims.specs.Types.{Call, Read}
-use Rattle.claims.specs.Claims.{Code, Refused, Ruled, Journalled, Kept, Claims}
+use Rattle.claims.specs.Claims.{Code, Values, Refused, Ruled, Journalled, Kept, Claims}
+use Rattle.claims.proofs.Values.{test-says, says-test, full-stands}
+use Rattle.claims.proofs.Exact.{step-exactly, accepted-so, unsound-stays}
 use Rattle.claims.proofs.Fitting.{total}
+use Rattle.claims.proofs.Reaching.{calls-reach, calls-sound, calls-placed, calls-pay-back, session-so-far, session-sound, session-placed, session-pays-back, journal}
 
 code : Code
 code =
@@ -44,16 +43,19 @@ code =
       write-answer = teller-code.met;
     }
 
+values : Values
+values = record { shows = shown-of; says = test-says; back = says-test; stands = full-stands }
+
 refused : Refused
-refused = record { exactly = turned-away-exactly; decided = decided }
+refused =
+    record {
+      exactly = λ k h c item s r after f. step-exactly k c item s r after f h;
+      decided = λ k. decided (shown k);
+      unsound = λ k n c item s r after f. unsound-stays k c item s r after f n;
+    }
 
 ruled : Ruled
-ruled =
-    record {
-      calls = λ k c item s r after f none. turned-away-exactly k c item s r after f .else none;
-      journal = λ ts all n room. subst (λ (r : Answered). ProgramAnswers (cameIn ts) r) (sym (session-is-the-program ts all n room)) (program-answers (cameIn ts));
-      gate = both-sides-of-the-gate;
-    }
+ruled = record { calls = accepted-so; journal = journal; gate = both-sides-of-the-gate }
 
 journalled : Journalled
 journalled =
@@ -73,14 +75,17 @@ journalled =
 kept : Kept
 kept =
     record {
-      placed = after-any-calls;
-      borrowed = paid-back;
+      calls-reach = calls-reach;
+      sound = calls-sound;
+      placed = calls-placed;
+      borrowed = calls-pay-back;
       lines-placed = program-placed;
       lines-borrowed = program-pays-back;
       session-so-far = session-so-far;
+      session-sound = session-sound;
       session-placed = session-placed;
       session-borrowed = session-pays-back;
     }
 
 pub claims : Claims
-claims = record { code = code; total = total; refused = refused; ruled = ruled; journalled = journalled; kept = kept }
+claims = record { code = code; values = values; total = total; refused = refused; ruled = ruled; journalled = journalled; kept = kept }

@@ -1,3 +1,7 @@
+pub mod Values
 pub mod Unique
+pub mod Exact
+pub mod Runs
 pub mod Fitting
+pub mod Reaching
 pub mod Claimed

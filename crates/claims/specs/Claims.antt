@@ -1,15 +1,17 @@
 -- What all of it is worth: the three demands, sentence by sentence, in their words. Each field cites the definitions that a reader has to believe; that all of it is true: proofs/Claimed.
 use Prim.Native.Nat.{ℕ, _≤_}
 use mathlib.Core.Path.{_≡_}
+use mathlib.Core.Bool.{Bool, true}
 use mathlib.Core.List.{List, [], map}
 use lib.ListN.{length, take, replicate}
-use Rattle.calls.specs.Asked.{asked}
 use Rattle.calls.specs.Table.{called}
 use Rattle.journal.specs.Line.{lineOf, HasLine}
 use Rattle.journal.specs.Told.{aCall, refusal}
 use Rattle.journal.specs.Promise.{Tells, ReadsAs, WritesCall, WritesAnswer}
-use Rattle.kernel.specs.Tables.{fresh}
-use Rattle.kernel.specs.Promises.{Steps, Answers, Closes}
+use Rattle.rules.specs.Tables.{fresh}
+use Rattle.rules.specs.Sound.{sound}
+use Rattle.kernel.specs.Stands.{kernelOf, shown}
+use Rattle.kernel.specs.Promises.{Steps, Answers, Closes, newSession}
 use Rattle.kernel.proofs.Kernel.fresh.Statement as fresh-code
 use Rattle.kernel.proofs.Kernel.sound.Statement as sound-code
 use Rattle.kernel.proofs.Kernel.step.Statement as step-code
@@ -19,15 +21,18 @@ use Rattle.kernel.proofs.Session.end.Statement as end-code
 use Rattle.journal.proofs.read_call.Statement as reader-code
 use Rattle.journal.proofs.write_call.Statement as writer-code
 use Rattle.journal.proofs.write_answer.Statement as teller-code
-use Rattle.promises.specs.TurnedAway.{rows, None, Accepted, Exactly, Decided}
+use Rattle.promises.specs.TurnedAway.{rows, None, Decided}
 use Rattle.promises.specs.History.{Made, reached, Placed}
 use Rattle.promises.specs.Cases.{Case, ran, cases}
 use Rattle.promises.specs.Program.{linesOf, answering}
 use Rattle.promises.specs.ByLines.{ProgramAnswers}
-use Rattle.promises.specs.Turns.{Turn, afterTurns, cameIn, afterEnd, atStart, outcome}
-use Rattle.promises.specs.Reached.{programCalls, SoFar}
+use Rattle.promises.specs.Turns.{Turn, cameIn}
+use Rattle.promises.specs.Reached.{programCalls}
 use Rattle.histories.specs.Borrowed.{PaysBack}
-use Rattle.claims.specs.Types.{TaskNo, Call, Answer, Asked, Read, Says, Written, Count, Kernel, Step, Session, Served}
+use Rattle.claims.specs.Types.{TaskSlot, TaskNo, Call, Answer, Asked, Read, Says, Written, Count, State, Kernel, Step, Session, Served}
+use Rattle.claims.specs.Values.{SoundValue, Full, Stands}
+use Rattle.claims.specs.Exact.{Refusal, Accepted, rowsOf, Exactly}
+use Rattle.claims.specs.Runs.{Called, Port, servedTo, Turned, opened, outcome, CameTo}
 
 -- one value fits, and no second
 pub record OneFits {A : Type 0} (P : A → Type 0) : Type 0 where
@@ -47,25 +52,44 @@ pub record Code : Type 2 where
   pub write-call : {M : Type 1} → writer-code.statement M
   pub write-answer : {M : Type 1} → teller-code.statement M
 
+-- Kernel values, in columns, and the states that the rules speak of: each state has its value, which shows it; the test of a value is true exactly if every sentence of
+-- document 01 holds of it; and a sound value is that of the state that it shows.
+pub record Values : Type 0 where
+  pub shows : (s : State) → shown (kernelOf s) ≡ s
+  pub says : (k : Kernel) → sound (shown k) ≡ true → SoundValue k
+  pub back : (k : Kernel) → SoundValue k → sound (shown k) ≡ true
+  pub stands : (k : Kernel) → Full k → Stands k
+
 -- 1. "Any kernel value, call, line and lent store, of whatever length, gets an answer": each promise is met by one answer, and by no second.
 pub record Total : Type 0 where
+  pub begins : OneFits (λ (x : Kernel). x ≡ kernelOf fresh)
+  -- of each value that code holds: the promise itself says that it stands
+  pub tests : (k : Kernel) → Stands k → OneFits (λ (x : Bool). (x ≡ sound (shown k)) × (x ≡ true → k ≡ kernelOf (shown k)))
   pub steps : (k : Kernel) (c : Call) (item store : List ℕ) → OneFits (λ (x : Step × List ℕ). Steps k c item store (x .0) (x .1))
   pub reads : (line : List ℕ) → OneFits (λ (x : Read). ReadsAs line x)
   -- of each call that code holds: `has-line` below
   pub writes : (c : Call) (item line : List ℕ) → (length item ≤ 64 → HasLine c item) → OneFits (λ (x : Written × List ℕ). WritesCall c item line (x .0) (x .1))
   pub tells : (a : Answer) (running : TaskNo) (line : List ℕ) → OneFits (λ (x : Written × List ℕ). WritesAnswer a running line (x .0) (x .1))
+  pub opens : OneFits (λ (x : Session). x ≡ newSession)
   pub serves : (n : Session) (block store lent : List ℕ) → OneFits (λ (x : Served × List ℕ × List ℕ). Answers n block store lent (x .0) (x .1) (x .2))
   pub closes : (n : Session) (store lent : List ℕ) → OneFits (λ (x : Served × List ℕ). Closes n store lent (x .0) (x .1))
+  -- so too calls one after the other, and turns
+  pub calls : (k : Kernel) (ms : List Made) → OneFits (λ (j : Kernel). Called k ms j)
+  pub turns : (p : Port) (ts : List Turn) → OneFits (λ (q : Port). Turned p ts q)
 
 -- "A refusal carries its number, is given exactly where document 01 says, and leaves the kernel and every lent byte as they were."
 pub record Refused : Type 0 where
-  pub exactly : (k : Kernel) (c : Call) (item store : List ℕ) (r : Step) (after : List ℕ) → Steps k c item store r after → Exactly k c item store r after
-  pub decided : (k : Kernel) (a : Asked) (item store : ℕ) → Decided (rows k a item store)
+  -- of each value that code holds: the promise of `sound` says that it stands
+  pub exactly : (k : Kernel) → Stands k → (c : Call) (item store : List ℕ) (r : Step) (after : List ℕ) → Steps k c item store r after → Exactly k c item store r after
+  pub decided : (k : Kernel) (a : Asked) (item store : ℕ) → Decided (rows (shown k) a item store)
+  -- of any value that is not sound, a number that is not used and not 0 among its faults
+  pub unsound : (k : Kernel) → (SoundValue k → ⊥) → (c : Call) (item store : List ℕ) (r : Step) (after : List ℕ) → Steps k c item store r after → Refusal k store 1 r after
 
 -- 2. "Each call does what the rules say": one that no row turns away; a journal's lines, one after the other, in any blocks; and P1 to P12.
 pub record Ruled : Type 0 where
-  pub calls : (k : Kernel) (c : Call) (item store : List ℕ) (r : Step) (after : List ℕ) → Steps k c item store r after → None (rows k (asked c) (length item) (length store)) → Accepted k c item store r after
-  pub journal : (ts : List Turn) → afterTurns atStart ts .waits ≡ [] → (n : ℕ) → 256 ≤ n → ProgramAnswers (cameIn ts) (outcome (afterEnd (afterTurns atStart ts) n))
+  pub calls : (k : Kernel) (c : Call) (item store : List ℕ) (r : Step) (after : List ℕ) → Steps k c item store r after → None (rowsOf k c item store) → Accepted k c item store r after
+  pub journal : (ts : List Turn) (p : Port) → Turned opened ts p → p .waits ≡ [] → (lent : List ℕ) → 256 ≤ length lent
+      → (r : Served) (o : List ℕ) → Closes (p .session) (p .store) lent r o → ProgramAnswers (cameIn ts) (outcome (servedTo p [] r (p .store) o))
   pub gate : map ran cases ≡ map (λ (c : Case). c .expected) cases
 
 -- "Each call whose item is at most 64 bytes has one journal line; reading it gives back the call, and any other line is refused." Of each call that code holds: its writer
@@ -82,16 +106,21 @@ pub record Journalled : Type 0 where
 -- 3. "From the fresh kernel, after any calls, refused ones among them": "each task in exactly one state and listed only where that state belongs; unless held, no ready task
 -- outranks the running one; borrowed priority is what the rule says." So it is after any calls, after every line of every journal, and at any time of a session, however its input is cut.
 pub record Kept : Type 0 where
-  pub placed : (ms : List Made) → Placed (reached ms)
-  pub borrowed : (ms : List Made) (t : TaskNo) → PaysBack ms (reached ms) t
+  -- the code is where the rules are, and sound
+  pub calls-reach : (ms : List Made) (k : Kernel) → Called (kernelOf fresh) ms k → k ≡ kernelOf (reached ms)
+  pub sound : (ms : List Made) (k : Kernel) → Called (kernelOf fresh) ms k → SoundValue k
+  pub placed : (ms : List Made) (k : Kernel) → Called (kernelOf fresh) ms k → Placed (shown k)
+  pub borrowed : (ms : List Made) (k : Kernel) → Called (kernelOf fresh) ms k → (t : TaskSlot) → PaysBack ms (shown k) t
   pub lines-placed : (ls : List (List ℕ)) → Placed (answering fresh (replicate 9216 0) ls .kernel)
-  pub lines-borrowed : (ls : List (List ℕ)) (t : TaskNo) → PaysBack (programCalls ls) (answering fresh (replicate 9216 0) ls .kernel) t
-  pub session-so-far : (ts : List Turn) → SoFar ts
-  pub session-placed : (ts : List Turn) → Placed (afterTurns atStart ts .kernel)
-  pub session-borrowed : (ts : List Turn) (t : TaskNo) → PaysBack (programCalls (linesOf (session-so-far ts .taken))) (afterTurns atStart ts .kernel) t
+  pub lines-borrowed : (ls : List (List ℕ)) (t : TaskSlot) → PaysBack (programCalls ls) (answering fresh (replicate 9216 0) ls .kernel) t
+  pub session-so-far : (ts : List Turn) (p : Port) → Turned opened ts p → CameTo ts p
+  pub session-sound : (ts : List Turn) (p : Port) → Turned opened ts p → SoundValue (p .session .kernel)
+  pub session-placed : (ts : List Turn) (p : Port) → Turned opened ts p → Placed (shown (p .session .kernel))
+  pub session-borrowed : (ts : List Turn) (p : Port) (f : Turned opened ts p) (t : TaskSlot) → PaysBack (programCalls (linesOf (session-so-far ts p f .taken))) (shown (p .session .kernel)) t
 
 pub record Claims : Type 2 where
   pub code : Code
+  pub values : Values
   pub total : Total
   pub refused : Refused
   pub ruled : Ruled

@@ -1,2 +1,5 @@
 pub mod Types
+pub mod Values
+pub mod Exact
+pub mod Runs
 pub mod Claims

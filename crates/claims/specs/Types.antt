@@ -1,4 +1,5 @@
 -- The declared records and variants, under one name.
+pub use Rattle.numbers.specs.declared.TaskSlot.{TaskSlot}
 pub use Rattle.calls.specs.declared.TaskNo.{TaskNo}
 pub use Rattle.calls.specs.declared.Call.{Call}
 pub use Rattle.calls.specs.declared.Answer.{Answer}
@@ -7,6 +8,7 @@ pub use Rattle.journal.specs.declared.Read.{Read}
 pub use Rattle.journal.specs.declared.Reading.the-variants.{Says}
 pub use Rattle.journal.specs.declared.Written.{Written}
 pub use Rattle.journal.specs.declared.Written.the-variants.{Count, Refused as NotWritten}
+pub use Rattle.rules.specs.State.{State}
 pub use Rattle.kernel.specs.declared.Kernel.{Kernel}
 pub use Rattle.kernel.specs.declared.Step.{Step}
 pub use Rattle.kernel.specs.declared.Session.{Session}

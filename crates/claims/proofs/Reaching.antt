@@ -1,0 +1,168 @@
+-- The code's runs from the fresh kernel are the rules' runs: so what is proved of these holds of the kernel values that the code hands back.
+use Prim.Native.Nat.{ℕ, _+_, _≤_}
+use mathlib.Core.Path.{_≡_, refl, sym, ap, _∙_, subst}
+use mathlib.Core.Bool.{Bool, true, false}
+use mathlib.Core.List.{List, [], _∷_, _++_}
+use lib.Dec.{eqb}
+use lib.ListN.{length, take, drop}
+use lib.Seq.{take-append-seam}
+use Rattle.lists.specs.Choice.{if_then_else_}
+use Rattle.lists.specs.Lists.{foldl}
+use Rattle.cuts.specs.declared.Cut.{Cut}
+use Rattle.cuts.specs.Keeping.{kept}
+use Rattle.rules.specs.Tables.{fresh}
+use Rattle.rules.specs.Sound.{sound}
+use Rattle.rules.specs.Step.{step}
+use Rattle.rules.specs.Session.{readCut, lineStep, Run, answeredBy, fed, noRoom, run, begun, closed}
+use Rattle.rules.proofs.Every.{fresh-sound, step-kept}
+use Rattle.kernel.specs.Stands.{kernelOf, shown}
+use Rattle.kernel.specs.Promises.{Closes, newSession}
+use Rattle.kernel.proofs.Shown.{shown-of}
+use Rattle.kernel.proofs.Sessions.{line-keeps}
+use Rattle.promises.specs.History.{Made, after, reached, Placed}
+use Rattle.promises.specs.Program.{linesOf, Answered, program}
+use Rattle.promises.specs.ByLines.{ProgramAnswers}
+use Rattle.promises.specs.Turns.{Turn, Pause, afterTurn, afterTurns, cameIn, afterEnd, atStart, outcome as rulesOutcome}
+use Rattle.promises.specs.Reached.{programCalls}
+use Rattle.promises.proofs.Histories.{reached-sound, after-any-calls}
+use Rattle.promises.proofs.InWords.{program-answers}
+use Rattle.promises.proofs.LineForLine.{closed-stays, session-is-the-program}
+use Rattle.promises.proofs.Reaches.{program-reached, program-placed, session-so-far as rules-so-far}
+use Rattle.histories.specs.Borrowed.{PaysBack}
+use Rattle.histories.proofs.PaidBack.{paid-back, program-pays-back}
+use Rattle.claims.specs.Types.{TaskSlot, State, Kernel, Served}
+use Rattle.claims.specs.Values.{SoundValue}
+use Rattle.claims.specs.Runs.{Called, Port, servedTo, Turned, opened, outcome, CameTo}
+use Rattle.claims.proofs.Values.{test-says}
+use Rattle.claims.proofs.Runs.{stepOf, called-is, turnOf, turned-is}
+
+-- the value of a sound state is sound
+sound-value : (s : State) → sound s ≡ true → (k : Kernel) → k ≡ kernelOf s → SoundValue k
+sound-value s e k h = test-says k (ap (λ (x : Kernel). sound (shown x)) h ∙ ap sound (shown-of s) ∙ e)
+
+-- ── calls
+step-reaches : (s : State) (m : Made) → sound s ≡ true → stepOf (kernelOf s) m ≡ kernelOf (step s (m .call) (m .item) (m .store) .kernel)
+step-reaches s m e = rw (shown-of s, e)
+
+steps-reach : (s : State) (ms : List Made) → sound s ≡ true → foldl stepOf (kernelOf s) ms ≡ kernelOf (after s ms)
+unfolding foldl after
+steps-reach s [] e = refl
+steps-reach s (m ∷ ms) e = ap (λ (x : Kernel). foldl stepOf x ms) (step-reaches s m e) ∙ steps-reach _ ms (step-kept s (m .call) (m .item) (m .store) e)
+
+module _ (ms : List Made) (k : Kernel) (f : Called (kernelOf fresh) ms k) where
+  pub calls-reach : k ≡ kernelOf (reached ms)
+  calls-reach = called-is f ∙ steps-reach fresh ms fresh-sound
+
+  shows-reached : shown k ≡ reached ms
+  shows-reached = ap shown calls-reach ∙ shown-of (reached ms)
+
+  pub calls-sound : SoundValue k
+  calls-sound = sound-value (reached ms) (reached-sound ms) k calls-reach
+
+  pub calls-placed : Placed (shown k)
+  calls-placed = subst (λ (s : State). Placed s) (sym shows-reached) (after-any-calls ms)
+
+  pub calls-pay-back : (t : TaskSlot) → PaysBack ms (shown k) t
+  calls-pay-back t = subst (λ (s : State). PaysBack ms s t) (sym shows-reached) (paid-back ms t)
+
+-- ── turns: a session keeps soundness
+fed-keeps : (r : Run) (b : ℕ) → sound (r .kernel) ≡ true → sound (fed r b .kernel) ≡ true
+unfolding fed lineStep
+fed-keeps r b e = go (eqb b 10)
+  where
+    c : Cut
+    c = kept (r .cut) b
+
+    other : Run
+    other = record { taken = r .taken + 1; kernel = r .kernel; store = r .store; cut = c; answers = r .answers }
+
+    go : (t : Bool) → sound ((if t then answeredBy r c (lineStep (r .kernel) (r .store) c) else other) .kernel) ≡ true
+    go true = line-keeps (r .kernel) (r .store) (readCut c) ∙ e
+    go false = e
+
+run-keeps : (n : ℕ) (r : Run) (l : List ℕ) → sound (r .kernel) ≡ true → sound (run n r l .kernel) ≡ true
+unfolding run
+run-keeps n r [] e = e
+run-keeps n r (b ∷ l) e = go (noRoom n r b) (run-keeps n (fed r b) l (fed-keeps r b e))
+  where
+    go : (t : Bool) → sound (run n (fed r b) l .kernel) ≡ true → sound ((if t then r else run n (fed r b) l) .kernel) ≡ true
+    go true h = e
+    go false h = h
+
+-- the port that stands for a pause of the rules' session
+abbrev portOf : Pause → Port
+portOf p = record { session = record { kernel = kernelOf (p .kernel); cut = p .cut }; store = p .store; waits = p .waits; answers = p .answers }
+
+turn-reaches : (p : Pause) (t : Turn) → sound (p .kernel) ≡ true → turnOf (portOf p) t ≡ portOf (afterTurn p t)
+unfolding afterTurn
+turn-reaches p t e = rw (shown-of (p .kernel), e)
+
+turn-keeps : (p : Pause) (t : Turn) → sound (p .kernel) ≡ true → sound (afterTurn p t .kernel) ≡ true
+unfolding afterTurn
+turn-keeps p t e = run-keeps (t .lent) (begun (p .kernel) (p .store) (p .cut)) (p .waits ++ t .came) e
+
+turns-reach : (p : Pause) (ts : List Turn) → sound (p .kernel) ≡ true → foldl turnOf (portOf p) ts ≡ portOf (afterTurns p ts)
+unfolding foldl
+turns-reach p [] e = refl
+turns-reach p (t ∷ ts) e = ap (λ (x : Port). foldl turnOf x ts) (turn-reaches p t e) ∙ turns-reach (afterTurn p t) ts (turn-keeps p t e)
+
+opens-so : opened ≡ portOf atStart
+unfolding newSession
+opens-so = refl
+
+module _ (ts : List Turn) (p : Port) (f : Turned opened ts p) where
+  session-reach : p ≡ portOf (afterTurns atStart ts)
+  session-reach = turned-is f ∙ ap (λ (x : Port). foldl turnOf x ts) opens-so ∙ turns-reach atStart ts fresh-sound
+
+  pub session-so-far : CameTo ts p
+  session-so-far =
+      let h = rules-so-far ts in
+      record {
+        taken = h .taken;
+        nothing-lost = ap (λ (x : Port). h .taken ++ x .waits) session-reach ∙ h .nothing-lost;
+        kernel = ap (λ (x : Port). x .session .kernel) session-reach ∙ ap kernelOf (h .kernel);
+        store = ap (λ (x : Port). x .store) session-reach ∙ h .store;
+      }
+
+  shows-program : shown (p .session .kernel) ≡ program (session-so-far .taken) .kernel
+  shows-program = ap shown (session-so-far .kernel) ∙ shown-of (program (session-so-far .taken) .kernel)
+
+  pub session-sound : SoundValue (p .session .kernel)
+  session-sound =
+      let ls = linesOf (session-so-far .taken) in
+      sound-value (program (session-so-far .taken) .kernel) (ap sound (program-reached ls) ∙ reached-sound (programCalls ls)) (p .session .kernel) (session-so-far .kernel)
+
+  pub session-placed : Placed (shown (p .session .kernel))
+  session-placed = subst (λ (s : State). Placed s) (sym shows-program) (program-placed (linesOf (session-so-far .taken)))
+
+  pub session-pays-back : (t : TaskSlot) → PaysBack (programCalls (linesOf (session-so-far .taken))) (shown (p .session .kernel)) t
+  session-pays-back t =
+      subst (λ (s : State). PaysBack (programCalls (linesOf (session-so-far .taken))) s t) (sym shows-program) (program-pays-back (linesOf (session-so-far .taken)) t)
+
+-- ── the input's end
+end-reaches : (p : Pause) (lent : List ℕ) (r : Served) (o : List ℕ) → Closes (portOf p .session) (p .store) lent r o
+    → outcome (servedTo (portOf p) [] r (p .store) o) ≡ rulesOutcome (afterEnd p (length lent))
+unfolding afterEnd
+end-reaches p lent r o R =
+    let last = closed (length lent) (p .kernel) (p .store) (p .cut) in
+    let same : closed (length lent) (shown (kernelOf (p .kernel))) (p .store) (p .cut) ≡ last = ap (λ (s : State). closed (length lent) s (p .store) (p .cut)) (shown-of (p .kernel)) in
+    let told : take (r .written) o ≡ last .answers =
+    ap (λ (n : ℕ). take n o) (R .written ∙ ap (λ (d : Run). length (d .answers)) same)
+    ∙ ap (take (length (last .answers))) (R .output ∙ ap (λ (d : Run). d .answers ++ drop (length (d .answers)) lent) same)
+    ∙ take-append-seam (last .answers) (drop (length (last .answers)) lent) in
+    let kernel : shown (r .session .kernel) ≡ last .kernel = ap shown (R .kernel) ∙ shown-of (p .kernel) ∙ sym (closed-stays (length lent) (p .kernel) (p .store) (p .cut) .0) in
+    let store : p .store ≡ last .store = sym (closed-stays (length lent) (p .kernel) (p .store) (p .cut) .1) in
+    λ i. record { kernel = kernel i; store = store i; answers = p .answers ++ told i }
+
+pub journal : (ts : List Turn) (p : Port) → Turned opened ts p → p .waits ≡ [] → (lent : List ℕ) → 256 ≤ length lent
+    → (r : Served) (o : List ℕ) → Closes (p .session) (p .store) lent r o → ProgramAnswers (cameIn ts) (outcome (servedTo p [] r (p .store) o))
+journal ts p f = subst Told (sym (session-reach ts p f)) of-rules
+  where
+    Told : Port → Type 0
+    Told x =
+        x .waits ≡ [] → (lent : List ℕ) → 256 ≤ length lent
+        → (r : Served) (o : List ℕ) → Closes (x .session) (x .store) lent r o → ProgramAnswers (cameIn ts) (outcome (servedTo x [] r (x .store) o))
+
+    of-rules : Told (portOf (afterTurns atStart ts))
+    of-rules all lent room r o R =
+        subst (λ (a : Answered). ProgramAnswers (cameIn ts) a) (sym (end-reaches (afterTurns atStart ts) lent r o R ∙ session-is-the-program ts all (length lent) room)) (program-answers (cameIn ts))

@@ -1,0 +1,39 @@
+-- The test of a kernel value is true exactly if it is sound, and a sound value whose columns are full is that of its state.
+use mathlib.Core.Path.{_≡_, refl, sym}
+use mathlib.Core.Bool.{Bool, true, false, false≢true}
+use Rattle.lists.specs.Choice.{if_then_else_}
+use Rattle.lists.proofs.Bools.{and-left, and-right, at}
+use Rattle.tasks.specs.Known.{canonical as plainTasks}
+use Rattle.tasks.proofs.Tables.{tasks-back}
+use Rattle.objects.proofs.Tables.{objects-back}
+use Rattle.rules.specs.Sound.{sound}
+use Rattle.rules.proofs.Says.{sound-says, says-sound}
+use Rattle.kernel.specs.Stands.{kernelOf, plain, rows, none, shown}
+use Rattle.claims.specs.Types.{Kernel}
+use Rattle.claims.specs.Values.{SoundValue, Full, Stands}
+
+-- a state without tables is not sound
+no-tables : (k : Kernel) → sound (none k) ≡ true → false ≡ true
+unfolding sound
+no-tables k e = at _ e 0
+
+pub test-says : (k : Kernel) → sound (shown k) ≡ true → SoundValue k
+unfolding shown
+test-says k = go (plain k) refl
+  where
+    go : (b : Bool) → plain k ≡ b → sound (if b then rows k else none k) ≡ true → SoundValue k
+    go true p e = record { unused = p; state = sound-says (rows k) e }
+    go false p e = absurd (false≢true (no-tables k e))
+
+pub says-test : (k : Kernel) → SoundValue k → sound (shown k) ≡ true
+unfolding shown
+says-test k S = rw (S .unused) (says-sound (rows k) (S .state))
+
+-- where every number that is not used is 0, full columns are those of what they read as
+pub full-stands : (k : Kernel) → Full k → Stands k
+unfolding shown kernelOf plain
+full-stands k F e =
+    let p = test-says k e .unused in
+    let ts = tasks-back (k .tasks) (F .tasks) (and-left (plainTasks (k .tasks)) _ p) in
+    let os = objects-back (k .objects) (F .objects) (and-right (plainTasks (k .tasks)) _ p) in
+    rw p (λ i. record { tasks = sym ts i; objects = sym os i; order = k .order; running = k .running; tick = k .tick; hold = k .hold; pended = k .pended })
