@@ -13,7 +13,7 @@ use Rattle.calls.specs.Asked.{asked}
 use Rattle.calls.specs.Said.{Word, done, made, waiting, refused, says}
 use Rattle.order.specs.Order.{listed}
 use Rattle.items.specs.Bytes.{putAt}
-use Rattle.slots.specs.Places.{isReady, isSuspended, waitsOn, waited, wakesAt, outcomeDue}
+use Rattle.slots.specs.Places.{isReady, isSuspended, waitsOn, wakesAt, outcomeDue}
 use Rattle.slots.specs.Tasks.{brokenOff, taskAt}
 use Rattle.slots.specs.Objects.{holderOf, kindAt}
 use Rattle.promises.specs.Types.{TaskSlot, ObjSlot, Asked, Call, Create, Delete, Suspend, Delay, Hold, Release, MakeQueue, MakeMutex, Send, Receive, Take, Give, Tick, Wake, Never, At, Place, Free, Ready, Delayed, Waiting, Suspended, Task, State}
@@ -115,12 +115,20 @@ behind k t = if isReady (taskAt (k .tasks) t .place) then toTail k t else k
 abbrev pub losesTurn : State → State
 losesTurn k = let next = chosen k in if sameTask (next .running) (k .running) then next else behind next (k .running)
 
+-- it waits on an object
+abbrev pub onObject : Place → Bool
+onObject Free = false
+onObject Ready = false
+onObject (Delayed w) = false
+onObject (Waiting o w) = true
+onObject Suspended = false
+
 -- "Letting a suspended task stay in an object's list, so an item lands in its slip.": a waiter that is suspended stays in the order, from which the lists are read,
 -- and a send to an empty queue finds it there as if it still waited; a kernel that lists a suspended task is not sound, so this one does not ask that
 abbrev pub staysIfWaiting : State → TaskSlot → State
 staysIfWaiting k t =
     let x = taskAt (k .tasks) t in
-    if ltb (waited (x .place) .0) 16 then withTask k t (brokenOff x) else suspended k t
+    if onObject (x .place) then withTask k t (brokenOff x) else suspended k t
 
 -- the first of those who wait on the queue or stand suspended in the order, if it is a suspended one: a list of one, or of none
 abbrev pub stillFirst : State → ObjSlot → List TaskSlot

@@ -39,14 +39,6 @@ waitsFine t os (Delayed w) = true
 waitsFine t os (Waiting o w) = mayWait t (kindAt os o)
 waitsFine t os Suspended = true
 
--- the same as the code tests it: x is the kind of the object that it waits on
-abbrev pub waitsOnFine : TaskSlot → Kind → Place → Bool
-waitsOnFine t x Free = true
-waitsOnFine t x Ready = true
-waitsOnFine t x (Delayed w) = true
-waitsOnFine t x (Waiting o w) = mayWait t x
-waitsOnFine t x Suspended = true
-
 -- "effective is at least own, and equal to it for a task that holds nothing"; "Priorities 0 to 31"
 abbrev pub prioritiesFine : Bool → Task → Bool
 prioritiesFine holds x = leb (x .own) (x .effective) && (leb (x .effective) 31 && (holds || eqb (x .own) (x .effective)))
@@ -67,13 +59,6 @@ holderSlot (Mutex (By t)) = ltb (t .0) 16
 
 abbrev pub freeHolds : Bool → Place → Bool
 freeHolds holds p = not (isFree p) || not holds
-
--- the same as the code tests it: p is where the holder stands
-abbrev pub holderIn : Place → Kind → Bool
-holderIn p Unused = true
-holderIn p (Queue q) = true
-holderIn p (Mutex Nobody) = true
-holderIn p (Mutex (By t)) = not (isFree p)
 
 -- "no wake tick of a delayed or waiting task equals the tick count"
 abbrev pub wakeInRange : Wake → Bool
@@ -117,18 +102,3 @@ ordersFine n Ready = true
 ordersFine n (Delayed w) = eqb n 1
 ordersFine n (Waiting o w) = true
 ordersFine n Suspended = eqb n 0
-
--- all that is asked of the task t, x: it stands n times in the order, waits on an object of the kind o if it waits, and holds a mutex or not
-unfoldable pub taskFine : ℕ → TaskSlot → ℕ → Kind → Bool → Task → Bool
-taskFine tick t n o holds x =
-    standsFine n (x .place)
-    && (ordersFine n (x .place)
-    && (waitsOnFine t o (x .place)
-    && (prioritiesFine holds x
-    && (notDue tick (x .place)
-    && (outcomeFine x
-    && freshIfFree x)))))
-
--- all that is asked of an object whose holder, if it has one, stands at p
-unfoldable pub kindFine : Place → Kind → Bool
-kindFine p x = holderIn p x && ringInRange x
