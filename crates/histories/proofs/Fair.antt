@@ -4,14 +4,14 @@ use mathlib.Core.Bool.{true, false, false≢true}
 use mathlib.Core.List.{[], map}
 use Rattle.lists.specs.Lists.{larger}
 use Rattle.lists.proofs.Bools.{and-left, and-right, off, untrue}
-use Rattle.slots.specs.Places.{isFree, waited}
+use Rattle.slots.specs.Places.{isFree}
 use Rattle.slots.specs.Tasks.{taskAt}
 use Rattle.slots.specs.Objects.{kindAt}
 use Rattle.rules.specs.Lines.{level}
 use Rattle.rules.specs.Sentences.{Holds}
 use Rattle.rules.proofs.Says.{held-one}
 use Rattle.histories.specs.Types.{TaskSlot, ObjSlot}
-use Rattle.histories.specs.Moments.{Moment, hasMutex, waitsIn, begins, tasksBelow}
+use Rattle.histories.specs.Moments.{Moment, hasMutex, waitsIn, waited, begins, tasksBelow}
 use Rattle.histories.specs.Borrowed.{largest, isCreated, isChanged, givenAt, lastOf, lends, lentAt}
 use Rattle.histories.proofs.Largest.{larger-none, none-pass}
 use Rattle.histories.proofs.QuietCalls.{Quietly}

@@ -7,7 +7,6 @@ use Rattle.lists.specs.Choice.{if_then_else_}
 use Rattle.lists.specs.Lists.{larger, kept}
 use Rattle.numbers.specs.Numbers.{sameTask}
 use Rattle.calls.specs.Asked.{asked}
-use Rattle.slots.specs.Places.{waited}
 use Rattle.slots.specs.Objects.{heldBy, kindAt}
 use Rattle.slots.specs.Tasks.{taskAt}
 use Rattle.rules.specs.Lines.{level}
@@ -15,7 +14,7 @@ use Rattle.rules.specs.Sentences.{Exists}
 use Rattle.rules.specs.Asking.{is}
 use Rattle.promises.specs.History.{Made}
 use Rattle.histories.specs.Types.{TaskSlot, State}
-use Rattle.histories.specs.Moments.{Moment, moments, hasMutex, appears, begins, accepted, tasksBelow}
+use Rattle.histories.specs.Moments.{Moment, moments, hasMutex, appears, waited, begins, accepted, tasksBelow}
 
 -- the largest of several, 0 for none
 unfoldable pub largest : List ℕ → ℕ

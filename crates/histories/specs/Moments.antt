@@ -3,13 +3,14 @@ use Prim.Native.Nat.{ℕ, zero, suc}
 use mathlib.Core.Bool.{Bool, true, false, not, _&&_}
 use mathlib.Core.List.{List, [], _∷_}
 use Rattle.numbers.specs.Numbers.{task}
+use Rattle.calls.specs.Door.{noObject}
 use Rattle.calls.specs.Said.{Word, done, made, waiting, refused, Saying}
 use Rattle.slots.specs.Places.{isFree, waitsOn}
 use Rattle.slots.specs.Tasks.{taskAt}
 use Rattle.rules.specs.Tables.{fresh, holds}
 use Rattle.rules.specs.Step.{step}
 use Rattle.promises.specs.History.{Made}
-use Rattle.histories.specs.Types.{TaskSlot, ObjSlot, Call, State}
+use Rattle.histories.specs.Types.{TaskSlot, ObjSlot, Call, Place, Free, Ready, Delayed, Waiting, Suspended, State}
 
 pub record Moment : Type 0 where
   pub before : State
@@ -46,6 +47,14 @@ waitsIn k u o = waitsOn o (taskAt (k .tasks) u .place)
 -- the task is there after it, and was not before
 abbrev pub appears : Moment → TaskSlot → Bool
 appears m t = exists (m .after) t && not (exists (m .before) t)
+
+-- the object that a task waits on; one that no table has, where it waits on none
+abbrev pub waited : Place → ObjSlot
+waited Free = noObject
+waited Ready = noObject
+waited (Delayed w) = noObject
+waited (Waiting o w) = o
+waited Suspended = noObject
 
 -- "began to wait": it waits on the object after it, and did not before
 abbrev pub begins : Moment → TaskSlot → ObjSlot → Bool
