@@ -1,12 +1,10 @@
 -- Five faults that the published models or FreeRTOS itself have, and that cannot happen here: after any calls from the fresh kernel.
 use Prim.Native.Nat.{ℕ, _<_, _≤_}
-use mathlib.Core.Path.{_≡_, refl, ap, _∙_}
-use mathlib.Core.Bool.{Bool, true, false}
-use mathlib.Core.List.{List, [], _∷_}
-use lib.Dec.{eqb}
+use mathlib.Core.Path.{_≡_, ap, _∙_}
+use mathlib.Core.Bool.{true}
+use mathlib.Core.List.{List}
 use lib.ListN.{length}
 use native.Mathlib.Omega.{arith}
-use Rattle.lists.specs.Choice.{if_then_else_}
 use Rattle.lists.specs.Lists.{larger}
 use Rattle.numbers.specs.Numbers.{idle}
 use Rattle.calls.specs.declared.TaskNo.{TaskNo}
@@ -15,30 +13,21 @@ use Rattle.calls.specs.Asked.{asked}
 use Rattle.slots.specs.Tasks.{ranked, taskAt}
 use Rattle.slots.specs.Objects.{kindAt}
 use Rattle.rules.specs.Tables.{fresh}
-use Rattle.rules.specs.Lines.{level, first, runsIf, chosen}
+use Rattle.rules.specs.Lines.{level}
 use Rattle.rules.specs.Sentences.{Holds, Exists, MayWait, receiver, sender, taker, Sound}
 use Rattle.rules.specs.Loans.{prioritized, newPriority}
 use Rattle.rules.specs.Effects.{effect}
 use Rattle.rules.specs.Step.{accepted, step}
+use Rattle.rules.proofs.Chosen.{chosen-tasks}
 use Rattle.rules.proofs.Says.{sound-says, some-holds}
 use Rattle.rules.proofs.Slotted.{at-same}
 use Rattle.rules.proofs.Blocks.{prioritized-tasks}
 use Rattle.rules.proofs.Keeps.{exists-low}
-use Rattle.promises.specs.Types.{TaskSlot, ObjSlot, SetPriority, Wake, Ready, Waiting, Kind, Unused, AllReady, State}
+use Rattle.promises.specs.Types.{TaskSlot, ObjSlot, SetPriority, Wake, Ready, Waiting, Kind, Unused, State}
 use Rattle.promises.specs.History.{Made, reached}
 use Rattle.promises.specs.Depth.{isAccepted, depth}
 use Rattle.promises.proofs.Histories.{exists-there, reached-sound}
 use Rattle.promises.proofs.Depths.{depth-by-calls}
-
--- choose changes no task
-chosen-tasks : (j : State) → chosen j .tasks ≡ j .tasks
-unfolding chosen
-chosen-tasks j = go (eqb (j .hold) 0) (first j AllReady)
-  where
-    go : (b : Bool) (l : List TaskSlot) → (if b then runsIf j l else j) .tasks ≡ j .tasks
-    go true [] = refl
-    go true (t ∷ l) = refl
-    go false l = refl
 
 module _ (ms : List Made) where
   abbrev k : State

@@ -5,5 +5,4 @@ pub mod Heads
 pub mod Fines
 pub mod Lists
 pub mod Tables
-pub mod Soundness
 pub mod Plain
