@@ -7,7 +7,8 @@ use native.Mathlib.Omega.{arith}
 use lib.ListN.{length, drop, getD, length-append}
 use borrow.Author.Tests.{lt-ltb, le-ltb, eq-eqb, ne-eqb}
 use Rattle.fields.specs.Decimal.{digits, dec}
-use Rattle.fields.specs.Number.{digitOf, grow, more, number}
+use Rattle.fields.specs.Digit.{among, digitOf}
+use Rattle.fields.specs.Number.{grow, more, number}
 use Rattle.fields.specs.declared.Number.the-variants.{Got}
 use Rattle.fields.proofs.Places.{below-or, past}
 
@@ -67,11 +68,11 @@ dec-snoc v d p h b =
 -- ---- one digit
 
 digit-of : (d : ℕ) → d < 10 → digitOf (48 + d) ≡ d
-unfolding digitOf
+unfolding among
 digit-of d h = rw (le-ltb (48 + d) 48 (omega arith), le-ltb 57 (48 + d) (omega arith)) (omega arith)
 
 digit-is : (x : ℕ) → digitOf x < 10 → x ≡ 48 + digitOf x
-unfolding digitOf
+unfolding among
 digit-is x = go (below-or x 48) (below-or 57 x)
   where
     go : (x < 48) ⊎ (48 ≤ x) → (57 < x) ⊎ (x ≤ 57) → digitOf x < 10 → x ≡ 48 + digitOf x
@@ -83,7 +84,7 @@ grow-to : (v d : ℕ) → d < 10 → v * 10 + d < 4294967296 → grow v (48 + d)
 unfolding grow
 grow-to v d h b = rw (digit-of d h, lt-ltb d 10 h) (omega arith)
 
-grow-stop : (v x : ℕ) → digitOf x ≡ 10 → grow v x ≡ 4294967296
+grow-stop : (v x : ℕ) → digitOf x ≡ 256 → grow v x ≡ 4294967296
 unfolding grow
 grow-stop v x e = rw e
 
@@ -155,7 +156,7 @@ module _ (line : List ℕ) where
 
 -- what comes next is no digit
 abbrev pub Stops : List ℕ → Type 0
-Stops l = digitOf (getD l 0 10) ≡ 10
+Stops l = digitOf (getD l 0 10) ≡ 256
 
 more-stops : (v i : ℕ) (l : List ℕ) → Stops l → more v i l ≡ Got v i
 more-stops v i [] s = refl

@@ -1,5 +1,5 @@
 -- The laws of an item in a line: what the reader takes is the item's digits, and it takes them all.
-use Prim.Native.Nat.{ℕ, zero, suc, _+_, _-_, _*_, _/_, _%_, _<_, _≤_}
+use Prim.Native.Nat.{ℕ, zero, suc, _+_, _-_, _*_, _/_, _%_, _<_, _≤_, min}
 use mathlib.Core.Path.{_≡_, refl, sym, ap, _∙_}
 use mathlib.Core.Logic.{_⊎_, inl, inr, ⊎-elim}
 use mathlib.Core.List.{List, [], _∷_, _++_}
@@ -7,10 +7,11 @@ use native.Mathlib.Omega.{arith}
 use native.Mathlib.Numerals.{add-one}
 use lib.ListN.{length, drop, set, length-drop}
 use lib.Seq.{sets, drop-drop}
-use borrow.Author.Tests.{lt-ltb, le-ltb, le-leb, lt-leb}
+use borrow.Author.Tests.{lt-ltb, le-ltb}
 use Rattle.fields.specs.Texts.{texts}
 use Rattle.fields.specs.Hex.{hexDigit, twoDigits, hex, Bytes}
-use Rattle.fields.specs.Item.{nibbleOf, pairOf, byteOf, bytesOf}
+use Rattle.fields.specs.Digit.{among, nibbleOf}
+use Rattle.fields.specs.Item.{pairOf, byteOf, bytesOf}
 use Rattle.fields.specs.declared.Item.{Item}
 use Rattle.fields.proofs.Places.{below-or}
 
@@ -22,39 +23,49 @@ hex-length (x ∷ b) = omega (arith, hex-length b)
 -- ---- the digits
 
 nibble-of : (n : ℕ) → n < 16 → nibbleOf (hexDigit n) ≡ n
-unfolding nibbleOf hexDigit
+unfolding nibbleOf among hexDigit
 nibble-of n h =
-    ⊎-elim (λ (a : n < 10). rw (lt-ltb n 10 a, le-ltb (48 + n) 48 (omega arith), le-leb (48 + n) 57 (omega arith)) (omega arith))
-    (λ (a : 10 ≤ n). rw (le-ltb n 10 a, le-ltb (87 + n) 48 (omega arith), lt-leb (87 + n) 57 (omega arith), le-ltb (87 + n) 97 (omega arith), le-leb (87 + n) 102 (omega arith)) (omega arith))
+    ⊎-elim (λ (a : n < 10). rw (lt-ltb n 10 a, le-ltb (48 + n) 48 (omega arith), le-ltb 57 (48 + n) (omega arith), lt-ltb (48 + n) 97 (omega arith)) (omega arith))
+    (λ (a : 10 ≤ n). rw (le-ltb n 10 a, le-ltb (87 + n) 48 (omega arith), lt-ltb 57 (87 + n) (omega arith), le-ltb (87 + n) 97 (omega arith), le-ltb 102 (87 + n) (omega arith)) (omega arith))
     (below-or n 10)
 
-nibble-is : (x : ℕ) → nibbleOf x < 16 → x ≡ hexDigit (nibbleOf x)
-unfolding nibbleOf hexDigit
+-- a byte is the digit of its value, or it has none
+nibble-is : (x : ℕ) → ((nibbleOf x < 16) × (x ≡ hexDigit (nibbleOf x))) ⊎ (nibbleOf x ≡ 256)
+unfolding nibbleOf among hexDigit
 nibble-is x = go (below-or x 48) (below-or 57 x) (below-or x 97) (below-or 102 x)
   where
-    go : (x < 48) ⊎ (48 ≤ x) → (57 < x) ⊎ (x ≤ 57) → (x < 97) ⊎ (97 ≤ x) → (102 < x) ⊎ (x ≤ 102) → nibbleOf x < 16 → x ≡ hexDigit (nibbleOf x)
-    go (inl a) b c d = rw (lt-ltb x 48 a) (λ h. absurd (omega arith))
-    go (inr a) (inr b) c d = rw (le-ltb x 48 a, le-leb x 57 b, lt-ltb (x - 48) 10 (omega arith)) (λ h. omega arith)
-    go (inr a) (inl b) (inl c) d = rw (le-ltb x 48 a, lt-leb x 57 b, lt-ltb x 97 c) (λ h. absurd (omega arith))
-    go (inr a) (inl b) (inr c) (inr d) = rw (le-ltb x 48 a, lt-leb x 57 b, le-ltb x 97 c, le-leb x 102 d, le-ltb (x - 87) 10 (omega arith)) (λ h. omega arith)
-    go (inr a) (inl b) (inr c) (inl d) = rw (le-ltb x 48 a, lt-leb x 57 b, le-ltb x 97 c, lt-leb x 102 d) (λ h. absurd (omega arith))
+    go : (x < 48) ⊎ (48 ≤ x) → (57 < x) ⊎ (x ≤ 57) → (x < 97) ⊎ (97 ≤ x) → (102 < x) ⊎ (x ≤ 102) → ((nibbleOf x < 16) × (x ≡ hexDigit (nibbleOf x))) ⊎ (nibbleOf x ≡ 256)
+    go (inl a) b c d = rw (lt-ltb x 48 a, lt-ltb x 97 (omega arith)) (inr refl)
+    go (inr a) (inr b) c d =
+        let e : min (0 + (x - 48)) 256 ≡ x - 48 = omega arith in
+        rw (le-ltb x 48 a, le-ltb 57 x b, lt-ltb x 97 (omega arith), e, lt-ltb (x - 48) 10 (omega arith)) (inl (omega arith, omega arith))
+    go (inr a) (inl b) (inl c) d = rw (le-ltb x 48 a, lt-ltb 57 x b, lt-ltb x 97 c) (inr refl)
+    go (inr a) (inl b) (inr c) (inr d) =
+        let e : min 256 (10 + (x - 97)) ≡ 10 + (x - 97) = omega arith in
+        rw (le-ltb x 48 a, lt-ltb 57 x b, le-ltb x 97 c, le-ltb 102 x d, e, le-ltb (10 + (x - 97)) 10 (omega arith)) (inl (omega arith, omega arith))
+    go (inr a) (inl b) (inr c) (inl d) = rw (le-ltb x 48 a, lt-ltb 57 x b, le-ltb x 97 c, lt-ltb 102 x d) (inr refl)
+
+pub nibble-fits : (x : ℕ) → nibbleOf x ≤ 256
+nibble-fits x = ⊎-elim (λ (a : (nibbleOf x < 16) × (x ≡ hexDigit (nibbleOf x))). let h = a .0 in omega arith) (λ (e : nibbleOf x ≡ 256). omega arith) (nibble-is x)
 
 pair-of : (b : ℕ) → b < 256 → pairOf (hexDigit (b / 16)) (hexDigit (b % 16)) ≡ b
 unfolding pairOf
-pair-of b h =
-    rw (nibble-of (b / 16) (omega arith), nibble-of (b % 16) (omega arith), lt-ltb (b / 16) 16 (omega arith), lt-ltb (b % 16) 16 (omega arith)) (omega arith)
+pair-of b h = rw (nibble-of (b / 16) (omega arith), nibble-of (b % 16) (omega arith)) (omega arith)
 
 pair-is : (x y : ℕ) → pairOf x y < 256 → (x ≡ hexDigit (pairOf x y / 16)) × (y ≡ hexDigit (pairOf x y % 16))
 unfolding pairOf
-pair-is x y = go (below-or (nibbleOf x) 16) (below-or (nibbleOf y) 16)
+pair-is x y h = go (nibble-is x) (nibble-is y)
   where
-    go : (nibbleOf x < 16) ⊎ (16 ≤ nibbleOf x) → (nibbleOf y < 16) ⊎ (16 ≤ nibbleOf y) → pairOf x y < 256 → (x ≡ hexDigit (pairOf x y / 16)) × (y ≡ hexDigit (pairOf x y % 16))
-    go (inl a) (inl b) = rw (lt-ltb (nibbleOf x) 16 a, lt-ltb (nibbleOf y) 16 b) (λ h.
-        let q : (nibbleOf x * 16 + nibbleOf y) / 16 ≡ nibbleOf x = omega arith in
-        let r : (nibbleOf x * 16 + nibbleOf y) % 16 ≡ nibbleOf y = omega arith in
-        (nibble-is x a ∙ ap hexDigit (sym q), nibble-is y b ∙ ap hexDigit (sym r)))
-    go (inl a) (inr b) = rw (lt-ltb (nibbleOf x) 16 a, le-ltb (nibbleOf y) 16 b) (λ h. absurd (omega arith))
-    go (inr a) b = rw (le-ltb (nibbleOf x) 16 a) (λ h. absurd (omega arith))
+    go : ((nibbleOf x < 16) × (x ≡ hexDigit (nibbleOf x))) ⊎ (nibbleOf x ≡ 256) → ((nibbleOf y < 16) × (y ≡ hexDigit (nibbleOf y))) ⊎ (nibbleOf y ≡ 256)
+        → (x ≡ hexDigit (pairOf x y / 16)) × (y ≡ hexDigit (pairOf x y % 16))
+    go (inl a) (inl b) =
+        let i = a .0 in
+        let j = b .0 in
+        let q : min (nibbleOf x * 16 + nibbleOf y) 256 / 16 ≡ nibbleOf x = omega arith in
+        let r : min (nibbleOf x * 16 + nibbleOf y) 256 % 16 ≡ nibbleOf y = omega arith in
+        (a .1 ∙ ap hexDigit (sym q), b .1 ∙ ap hexDigit (sym r))
+    go (inl a) (inr e) = absurd (omega arith)
+    go (inr e) b = absurd (omega arith)
 
 -- the digits of a byte are at the front
 byte-is : (l : List ℕ) → byteOf l < 256 → l ≡ twoDigits (byteOf l) ++ drop 2 l
@@ -115,10 +126,14 @@ bytes-whole (x ∷ b) (suc k) l w h s =
     rw (pair-of x (w .0), lt-ltb x 256 (w .0)) (ap (λ (m : List ℕ). x ∷ m) (bytes-whole b k l (w .1) (omega arith) s))
 
 -- no digit of a byte is a tab
+tab-none : nibbleOf 9 ≡ 256
+unfolding nibbleOf among
+tab-none = refl
+
 pub tab-stops : (l : List ℕ) → byteOf (9 ∷ l) ≡ 256
-unfolding pairOf nibbleOf
+unfolding pairOf
 tab-stops [] = refl
-tab-stops (y ∷ l) = refl
+tab-stops (y ∷ l) = rw tab-none (omega arith)
 
 -- ---- the loop that reads an item: n bytes are in bs, the place is i, l is left, and up to k more are taken
 

@@ -1,19 +1,16 @@
 -- What is read as an item at a place.
-use Prim.Native.Nat.{ℕ, zero, suc, _+_, _-_, _*_}
+use Prim.Native.Nat.{ℕ, zero, suc, _+_, _*_, min}
 use mathlib.Core.List.{List, [], _∷_}
 use lib.ListN.{length, drop, replicate}
 use lib.Seq.{sets}
-use lib.Dec.{ltb, leb}
+use lib.Dec.{ltb}
 use Rattle.lists.specs.Choice.{if_then_else_}
+use Rattle.fields.specs.Digit.{nibbleOf}
 use Rattle.fields.specs.declared.Item.{Item}
-
--- a lower-case digit's value, and 16 for any other byte
-unfoldable pub nibbleOf : ℕ → ℕ
-nibbleOf b = if ltb b 48 then 16 else if leb b 57 then b - 48 else if ltb b 97 then 16 else if leb b 102 then b - 87 else 16
 
 -- the byte of two digits, and 256 where they are not both digits
 unfoldable pub pairOf : ℕ → ℕ → ℕ
-pairOf x y = if ltb (nibbleOf x) 16 then if ltb (nibbleOf y) 16 then nibbleOf x * 16 + nibbleOf y else 256 else 256
+pairOf x y = min (nibbleOf x * 16 + nibbleOf y) 256
 
 -- the byte whose digits are at the front, and 256 where there are none
 abbrev pub byteOf : List ℕ → ℕ

@@ -1,14 +1,11 @@
 -- What is read as a number at a place.
-use Prim.Native.Nat.{ℕ, _+_, _-_, _*_, min}
+use Prim.Native.Nat.{ℕ, _+_, _*_, min}
 use mathlib.Core.List.{List, [], _∷_}
 use lib.Dec.{ltb, eqb}
 use Rattle.lists.specs.Choice.{if_then_else_}
+use Rattle.fields.specs.Digit.{digitOf}
 use Rattle.fields.specs.declared.Number.{Number}
 use Rattle.fields.specs.declared.Number.the-variants.{Got, Missing}
-
--- a digit's value, and 10 for any other byte
-unfoldable pub digitOf : ℕ → ℕ
-digitOf b = if ltb b 48 then 10 else if ltb 57 b then 10 else b - 48
 
 -- v with the digit b after it; 2 ^ 32 where b is no digit or the number would not be below that
 unfoldable pub grow : ℕ → ℕ → ℕ

@@ -2,23 +2,11 @@
 ghost use mathlib.Core.Path.{_≡_};
 ghost use lib.ListN.{drop};
 ghost use Rattle.fields.specs.Decimal.{dec};
-ghost use Rattle.fields.specs.Number.{digitOf, grow, number};
+ghost use Rattle.fields.specs.Number.{grow, number};
 ghost use Rattle.fields.specs.Wrote.{Wrote};
 use crate::Number;
 use crate::bytes::put;
-
-// A digit's value, and 10 for any other byte.
-fn digit(b: u8) -> u32
-    ensures { λ r. ⌜ r ≡ digitOf b ⌝ }
-{
-    if b < 48 {
-        return 10;
-    }
-    if b > 57 {
-        return 10;
-    }
-    (b - 48) as u32
-}
+use crate::digit::digit;
 
 // v with the digit b after it; 2^32 where b is no digit or the number would not fit 32 bits.
 fn grown(v: u32, b: u8) -> u64
@@ -62,14 +50,24 @@ pub fn read_number(line: &[u8], at: usize) -> Number
     Number::Got(v, i)
 }
 
-// A number's digits.
-pub fn put_number(line: &mut [u8], at: usize, n: u64) -> usize
+// A number's digits, from the last one back.
+fn put_digits(line: &mut [u8], at: usize, n: u64) -> usize
     ensures { λ r. ⌜ Wrote (now (line .entry)) at (dec n) r (now (line .exit)) ⌝ }
 {
     if n < 10 {
         put(line, at, (48 + n) as u8)
     } else {
-        let last = put_number(line, at, n / 10);
+        let last = put_digits(line, at, n / 10);
         put(line, last, (48 + n % 10) as u8)
     }
+}
+
+// A number's digits. Most numbers have one, and a call of a function that calls itself costs more than that digit.
+pub fn put_number(line: &mut [u8], at: usize, n: u64) -> usize
+    ensures { λ r. ⌜ Wrote (now (line .entry)) at (dec n) r (now (line .exit)) ⌝ }
+{
+    if n < 10 {
+        return put(line, at, (48 + n) as u8);
+    }
+    put_digits(line, at, n)
 }

@@ -3,43 +3,17 @@ ghost use mathlib.Core.Path.{_≡_};
 ghost use Prim.Native.Nat.{_<_};
 ghost use lib.ListN.{drop};
 ghost use Rattle.fields.specs.Hex.{hexDigit, twoDigits, hex};
-ghost use Rattle.fields.specs.Item.{nibbleOf, pairOf, byteOf, item};
+ghost use Rattle.fields.specs.Item.{pairOf, byteOf, item};
 ghost use Rattle.fields.specs.Wrote.{Wrote};
 use crate::Item;
 use crate::bytes::put;
-
-// The value of a lower-case digit, and 16 for any other byte.
-fn nibble(b: u8) -> u32
-    ensures { λ r. ⌜ r ≡ nibbleOf b ⌝ }
-{
-    if b < 48 {
-        return 16;
-    }
-    if b <= 57 {
-        return (b - 48) as u32;
-    }
-    if b < 97 {
-        return 16;
-    }
-    if b <= 102 {
-        return (b - 87) as u32;
-    }
-    16
-}
+use crate::digit::nibble;
 
 // The byte that two digits stand for, and 256 where they are not both digits.
 fn pair(x: u8, y: u8) -> u32
     ensures { λ r. ⌜ r ≡ pairOf x y ⌝ }
 {
-    let h = nibble(x);
-    if h >= 16 {
-        return 256;
-    }
-    let l = nibble(y);
-    if l >= 16 {
-        return 256;
-    }
-    h * 16 + l
+    lists::lesser(nibble(x) * 16 + nibble(y), 256)
 }
 
 // The byte whose two digits stand at a place, and 256 where there are none.

@@ -1,6 +1,7 @@
 // The fields of a line: numbers in decimal and items in hexadecimal. A field is read at a place of a line, or written from a place on.
 mod bytes;
 mod decimal;
+mod digit;
 mod hex;
 
 pub use bytes::put;

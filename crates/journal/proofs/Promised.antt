@@ -12,7 +12,7 @@ use Rattle.lists.proofs.Bools.{and-left, and-right}
 use Rattle.fields.specs.Decimal.{dec}
 use Rattle.fields.specs.Texts.{texts}
 use Rattle.fields.specs.Item.{filled}
-use Rattle.fields.specs.Number.{digitOf}
+use Rattle.fields.specs.Digit.{among}
 use Rattle.fields.proofs.Places.{within}
 use Rattle.fields.proofs.Stores.{sets-append}
 use Rattle.journal.specs.Types.{Call, Item, Says, NoCall, Read, Place, Numbers, Shape}
@@ -122,7 +122,7 @@ module _ (l : List ℕ) (n : ℕ) (vs b : List ℕ) (h : length vs ≡ 2) (w : S
   lasts = take (shape .after) (drop (shape .before) vs)
 
   rest-read : (at : ℕ) → drop at l ≡ shapeText shape vs b → readSent l n shape (nums l (shape .before) 0 (0 ∷ 0 ∷ []) at) ≡ says (callOf n (kept shape vs)) (filled b) (length b)
-  unfolding digitOf
+  unfolding among
   rest-read at e =
       let m = shape-small n in
       let c : length firsts ≡ shape .before = length-take (shape .before) vs ∙ omega arith in
@@ -137,7 +137,7 @@ module _ (l : List ℕ) (n : ℕ) (vs b : List ℕ) (h : length vs ≡ 2) (w : S
       (z .0 ∙ ap (λ (q : List ℕ). sets q (shape .before) lasts) (a .0)) (g .0) (g .1)
 
   frame-read : n ≤ 4294967295 → l ≡ dec n ++ shapeText shape vs b → readOf l ≡ says (callOf n (kept shape vs)) (filled b) (length b)
-  unfolding readOf digitOf
+  unfolding readOf among
   frame-read u e =
       let p = place-whole l 0 n (shapeText shape vs b) e u (tabbed-stops firsts _ (sent-stops (shape .item) b _ (tabbed-stops lasts (10 ∷ []) refl))) in
       ap (λ (m : ℕ). readSent l m (shapeOf m) (nums l (shapeOf m .before) 0 (0 ∷ 0 ∷ []) (numberAt l 0 .next))) (p .0)

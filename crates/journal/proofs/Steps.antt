@@ -12,7 +12,8 @@ use borrow.Author.Tests.{eqb-true}
 use Rattle.fields.specs.Decimal.{dec}
 use Rattle.fields.specs.Hex.{hex, Bytes}
 use Rattle.fields.specs.Texts.{texts}
-use Rattle.fields.specs.Number.{digitOf, number}
+use Rattle.fields.specs.Digit.{among}
+use Rattle.fields.specs.Number.{number}
 use Rattle.fields.specs.Item.{byteOf, bytesOf, filled}
 use Rattle.fields.proofs.Places.{past, within}
 use Rattle.fields.proofs.Digits.{number-front, number-whole, Stops}
@@ -33,12 +34,12 @@ ItemFits false b = b ≡ []
 
 -- what follows a number is no digit
 pub tabbed-stops : (ns r : List ℕ) → Stops r → Stops (texts tabbed ns ++ r)
-unfolding texts digitOf
+unfolding texts among
 tabbed-stops [] r s = s
 tabbed-stops (n ∷ ns) r s = refl
 
 pub sent-stops : (i : Bool) (b r : List ℕ) → Stops r → Stops (sentText i b ++ r)
-unfolding digitOf
+unfolding among
 sent-stops true b r s = refl
 sent-stops false b r s = s
 

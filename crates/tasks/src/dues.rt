@@ -12,12 +12,6 @@ use crate::Woken;
 use numbers::TaskSlot;
 use order::Order;
 
-fn lesser(a: u32, b: u32) -> u32
-    ensures { λ r. ⌜ r ≡ min a b ⌝ }
-{
-    if a < b { a } else { b }
-}
-
 // The state has a wake tick.
 fn timed(state: u8) -> bool
     ensures { λ r. ⌜ r ≡ timed state ⌝ }
@@ -58,7 +52,7 @@ impl Tasks {
         let mut n = 4294967295u32;
         let mut i = 0usize;
         while i < 16 {
-            n = lesser(n, away(state[i], wake[i], now));
+            n = lists::lesser(n, away(state[i], wake[i], now));
             i += 1;
         }
         n
