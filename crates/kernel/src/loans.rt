@@ -6,12 +6,6 @@ ghost use Rattle.kernel.specs.Does.{Does};
 use crate::Kernel;
 use numbers::TaskSlot;
 
-fn larger(a: u8, b: u8) -> u8
-    ensures { λ r. ⌜ r ≡ larger a b ⌝ }
-{
-    if a < b { b } else { a }
-}
-
 impl Kernel {
     fn moved(self, t: TaskSlot) -> Kernel
         ensures { λ r. ⌜ Does self (λ s. moved s t) r ⌝ }
@@ -43,8 +37,8 @@ impl Kernel {
     {
         let x = self.task(t);
         let p = x.place;
-        let next = self.with_task(t, x.ranked(own, effective));
-        next.moved_if(p.is_ready(), x.effective == effective, t)
+        self.ranked(t, own, effective)
+            .moved_if(p.is_ready(), x.effective == effective, t)
     }
 
     pub(crate) fn new_priority(self, t: TaskSlot, p: u8) -> Kernel
@@ -52,7 +46,7 @@ impl Kernel {
     {
         if self.holds(t) {
             let x = self.task(t);
-            self.prioritized(t, p, larger(x.effective, p))
+            self.prioritized(t, p, lists::larger(x.effective, p))
         } else {
             self.prioritized(t, p, p)
         }
@@ -64,7 +58,7 @@ impl Kernel {
     {
         let x = self.task(h);
         let y = self.task(self.running);
-        self.prioritized(h, x.own, larger(x.effective, y.effective))
+        self.prioritized(h, x.own, lists::larger(x.effective, y.effective))
     }
 
     // A giver that still holds a mutex keeps what was lent.

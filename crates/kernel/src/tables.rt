@@ -1,6 +1,6 @@
 // The fresh kernel, the rows of the two tables, and a kernel with one part changed.
 ghost use mathlib.Core.Path.{_≡_};
-ghost use Rattle.slots.specs.Tasks.{taskAt};
+ghost use Rattle.slots.specs.Tasks.{taskAt, placed, ranked};
 ghost use Rattle.slots.specs.Objects.{kindAt};
 ghost use Rattle.rules.specs.Tables.{fresh, holds, withTask, withObject, withOrder, withTick, withHold};
 ghost use Rattle.kernel.specs.Stands.{kernelOf};
@@ -11,6 +11,7 @@ use numbers::TaskSlot;
 use objects::Objects;
 use order::Order;
 use slots::Kind;
+use slots::Place;
 use slots::Task;
 use tasks::Tasks;
 
@@ -47,6 +48,20 @@ impl Kernel {
         ensures { λ r. ⌜ Does self (λ s. withTask s t x) r ⌝ }
     {
         self.tasks = self.tasks.set(t, x);
+        self
+    }
+
+    pub(crate) fn placed(mut self, t: TaskSlot, p: Place, n: u8) -> Kernel
+        ensures { λ r. ⌜ Does self (λ s. withTask s t (placed (taskAt (s .tasks) t) p n)) r ⌝ }
+    {
+        self.tasks = self.tasks.placed(t, p, n);
+        self
+    }
+
+    pub(crate) fn ranked(mut self, t: TaskSlot, own: u8, effective: u8) -> Kernel
+        ensures { λ r. ⌜ Does self (λ s. withTask s t (ranked (taskAt (s .tasks) t) own effective)) r ⌝ }
+    {
+        self.tasks = self.tasks.ranked(t, own, effective);
         self
     }
 

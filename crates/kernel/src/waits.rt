@@ -24,8 +24,7 @@ impl Kernel {
     pub(crate) fn readied(self, t: TaskSlot, n: u8) -> Kernel
         ensures { λ r. ⌜ Does self (λ s. readied s t n) r ⌝ }
     {
-        let x = self.task(t);
-        self.with_task(t, x.placed(Place::Ready, n)).to_tail(t)
+        self.placed(t, Place::Ready, n).to_tail(t)
     }
 
     // The caller begins a delay or a wait.
@@ -33,8 +32,7 @@ impl Kernel {
         ensures { λ r. ⌜ Does self (λ s. blocked s p) r ⌝ }
     {
         let t = self.running;
-        let x = self.task(t);
-        self.with_task(t, x.placed(p, 0)).to_tail(t)
+        self.placed(t, p, 0).to_tail(t)
     }
 
     pub(crate) fn wait_for(self, o: ObjSlot, w: u32) -> Kernel

@@ -1,5 +1,4 @@
 // What soundness asks of the objects and must know of them, in numbers: no Kind is made, so that the compiler does many rows at once.
-ghost use Prim.Native.Nat.{_*_, min};
 ghost use mathlib.Core.Path.{_≡_};
 ghost use mathlib.Core.Bool.{_&&_, _||_};
 ghost use lib.Dec.{eqb, leb};
@@ -44,20 +43,6 @@ fn by_whom(s: u8, h: u8) -> usize
     if 3 <= s { h as usize } else { 16 }
 }
 
-fn one_if(b: bool) -> u8
-    ensures { λ r. ⌜ r ≡ if b then 1 else 0 ⌝ }
-{
-    if b { 1 } else { 0 }
-}
-
-// How far a walk goes that has `n` to find: to the end, or nowhere. (Asked this way round, the compiler does not see that these are all, and leaves the walk a loop.)
-fn bound(n: u8) -> usize
-    ensures { λ r. ⌜ r ≡ min 16 (16 * n) ⌝ }
-{
-    let far = 16 * (n as usize);
-    if 16 < far { 16 } else { far }
-}
-
 fn opened(s: u8, c: u8, k: u8) -> bool
     ensures { λ r. ⌜ r ≡ (eqb s 1 && (eqb k 0 || eqb k c)) ⌝ }
 {
@@ -99,19 +84,19 @@ impl Objects {
         let mut n = 0u8;
         let mut i = 0usize;
         while i < 16 {
-            n += one_if(3 <= state[i]);
+            n += lists::one_if(3 <= state[i]);
             i += 1;
         }
         n
     }
 
-    // For each task slot, whether its task holds a mutex. The walk's bound is no constant, so that it costs nothing where nobody holds.
+    // For each task slot, whether its task holds a mutex. Where nobody holds the walk costs nothing.
     fn marks(self) -> [bool; 16]
         ensures { λ r. ⌜ r ≡ marksOf (rowsOf self) ⌝ }
     {
         let state = self.state;
         let holder = self.holder;
-        let n = bound(self.holding());
+        let n = lists::bound(self.holding());
         let mut held = [false; 16];
         let mut i = 0usize;
         while i < n {

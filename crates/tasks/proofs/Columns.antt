@@ -5,16 +5,16 @@ use mathlib.Core.List.{List}
 use native.Mathlib.Nat.{not-suc-le-zero, le-of-suc-le-suc}
 use native.Mathlib.Omega.{arith}
 use lib.ListN.{length, getD, set, length-map, List·getD-map, List·getD-eq-default}
-use lib.Seq.{set-out, ext-getD}
+use lib.Seq.{set-out, map-set-same, ext-getD}
 use Rattle.slots.proofs.Sweeps.{map-set}
 use Rattle.slots.specs.declared.Wake.the-variants.{Never, At}
 use Rattle.slots.specs.declared.Place.{Place}
 use Rattle.slots.specs.declared.Place.the-variants.{Free, Ready, Delayed, Waiting, Suspended}
 use Rattle.slots.specs.declared.Task.{Task}
-use Rattle.slots.specs.Tasks.{freeTask}
+use Rattle.slots.specs.Tasks.{freeTask, placed, ranked}
 use Rattle.tasks.specs.declared.Tasks.{Tasks}
 use Rattle.tasks.specs.Cells.{cellsOf, placeOf}
-use Rattle.tasks.specs.Rows.{stateOf, objectOf, wakeOf, tasksOf, put, rowAt, rowsFrom, rowsOf}
+use Rattle.tasks.specs.Rows.{stateOf, objectOf, wakeOf, tasksOf, put, placedAt, rankedAt, rowAt, rowsFrom, rowsOf}
 
 -- the numbers of a place say it
 pub place-back : (p : Place) → placeOf (cellsOf p) ≡ p
@@ -38,6 +38,19 @@ unfolding put tasksOf
 put-of xs n x =
     rw (map-set stateOf xs n x, map-set objectOf xs n x, map-set wakeOf xs n x, map-set (λ (y : Task). y .own) xs n x, map-set (λ (y : Task). y .effective) xs n x, map-set (λ (y : Task). y .outcome) xs n x)
 
+-- and so is a store of a place and an outcome alone, or of the priorities
+pub placed-of : (xs : List Task) (n : ℕ) (p : Place) (o : ℕ) → placedAt (tasksOf xs) n p o ≡ tasksOf (set xs n (placed (getD xs n freeTask) p o))
+unfolding placedAt tasksOf
+placed-of xs n p o =
+    let x : Task = placed (getD xs n freeTask) p o in
+    rw (← map-set stateOf xs n x, ← map-set objectOf xs n x, ← map-set wakeOf xs n x, map-set-same (λ (y : Task). y .own) xs n x freeTask refl, map-set-same (λ (y : Task). y .effective) xs n x freeTask refl, ← map-set (λ (y : Task). y .outcome) xs n x)
+
+pub ranked-of : (xs : List Task) (n own effective : ℕ) → rankedAt (tasksOf xs) n own effective ≡ tasksOf (set xs n (ranked (getD xs n freeTask) own effective))
+unfolding rankedAt tasksOf
+ranked-of xs n own effective =
+    let x : Task = ranked (getD xs n freeTask) own effective in
+    rw (map-set-same stateOf xs n x freeTask refl, map-set-same objectOf xs n x freeTask refl, map-set-same wakeOf xs n x freeTask refl, ← map-set (λ (y : Task). y .own) xs n x, ← map-set (λ (y : Task). y .effective) xs n x, map-set-same (λ (y : Task). y .outcome) xs n x freeTask refl)
+
 -- each column has its sixteen numbers
 pub record Full (ts : Tasks) : Type 0 where
   pub states : length (ts .state) ≡ 16
@@ -58,6 +71,15 @@ module _ (ts : Tasks) (f : Full ts) (n : ℕ) (h : 16 ≤ n) where
   unfolding put
   lost-row x =
       rw (set-out (ts .state) n (stateOf x) (omega arith), set-out (ts .object) n (objectOf x) (omega arith), set-out (ts .wake) n (wakeOf x) (omega arith), set-out (ts .own) n (x .own) (omega arith), set-out (ts .effective) n (x .effective) (omega arith), set-out (ts .outcome) n (x .outcome) (omega arith))
+
+  pub lost-place : (p : Place) (o : ℕ) → placedAt ts n p o ≡ ts
+  unfolding placedAt
+  lost-place p o =
+      rw (set-out (ts .state) n (cellsOf p .state) (omega arith), set-out (ts .object) n (cellsOf p .object) (omega arith), set-out (ts .wake) n (cellsOf p .wake) (omega arith), set-out (ts .outcome) n o (omega arith))
+
+  pub lost-rank : (own effective : ℕ) → rankedAt ts n own effective ≡ ts
+  unfolding rankedAt
+  lost-rank own effective = rw (set-out (ts .own) n own (omega arith), set-out (ts .effective) n effective (omega arith))
 
 -- the list has sixteen tasks, and each is its row
 pub rows-length : (ts : Tasks) (i n : ℕ) → length (rowsFrom ts i n) ≡ n

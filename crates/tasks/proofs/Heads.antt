@@ -12,7 +12,7 @@ use Rattle.lists.specs.Lists.{foldl, any, kept, larger, isNone}
 use Rattle.lists.proofs.Bools.{or-off, and-left}
 use Rattle.numbers.specs.declared.TaskSlot.{TaskSlot}
 use Rattle.numbers.specs.declared.ObjSlot.{ObjSlot}
-use Rattle.numbers.specs.Numbers.{sameTask}
+use Rattle.numbers.specs.Numbers.{sameTask, task}
 use Rattle.order.specs.declared.Order.{Order}
 use Rattle.slots.specs.declared.Task.{Task}
 use Rattle.slots.specs.declared.Who.the-variants.{AllReady, WaitersOf}
@@ -163,13 +163,26 @@ module _ (row : TaskSlot → Task) (top : ℕ) (low : (t : TaskSlot) → readyLe
       go false f c g h ih k = ih b u t r k
 
 -- where the head of the highest line is a task, it leads
-pub head-leads : (ts : Tasks) → Full ts → (l : List TaskSlot) (t u : TaskSlot) → t ≡ headOr (lineIn ts (topIn ts) l) → t .0 < 16 → t ≡ leadsOr (leadIn ts AllReady l) u
+top-leads : (ts : Tasks) → Full ts → (l : List TaskSlot) (t u : TaskSlot) → t ≡ headOr (lineIn ts (topIn ts) l) → t .0 < 16 → t ≡ leadsOr (leadIn ts AllReady l) u
 unfolding leadIn lineIn
-head-leads ts full l t u e h = go (kept (λ x. inLine (topIn ts) (rowAt ts (x .0))) l) refl e
+top-leads ts full l t u e h = go (kept (λ x. inLine (topIn ts) (rowAt ts (x .0))) l) refl e
   where
     go : (k : List TaskSlot) → kept (λ x. inLine (topIn ts) (rowAt ts (x .0))) l ≡ k → t ≡ headOr k → t ≡ leadsOr (foldl (λ b x. better AllReady b x (rowAt ts (x .0))) Open l) u
     go [] q f = absurd (omega (arith, ap (λ (x : TaskSlot). x .0) f))
     go (x ∷ k) q f = f ∙ sym (ap (λ (b : Lead). leadsOr b u) (heads-lead (λ y. rowAt ts (y .0)) (topIn ts) (λ y. row-low ts full (y .0)) l Open (omega arith) x k q))
+
+nobody-heads : (ts : Tasks) (l : List TaskSlot) → l ≡ [] → headOr (lineIn ts 0 l) ≡ task 16
+unfolding lineIn kept
+nobody-heads ts l e = rw e
+
+-- so it does where the highest line is looked for only if somebody is listed
+pub head-leads : (ts : Tasks) → Full ts → (n : ℕ) (l : List TaskSlot) → (n ≡ 0 → l ≡ []) → (t u : TaskSlot) → t ≡ headOr (lineIn ts (if eqb n 0 then 0 else topIn ts) l) → t .0 < 16
+    → t ≡ leadsOr (leadIn ts AllReady l) u
+head-leads ts full n l none t u = go (eqb n 0) refl
+  where
+    go : (b : Bool) → eqb n 0 ≡ b → t ≡ headOr (lineIn ts (if b then 0 else topIn ts) l) → t .0 < 16 → t ≡ leadsOr (leadIn ts AllReady l) u
+    go true e f h = absurd (omega (arith, h, ap (λ (x : TaskSlot). x .0) (f ∙ nobody-heads ts l (none (eqb-true n 0 e)))))
+    go false e f h = top-leads ts full l t u f h
 
 -- ── the running task
 kept-head : (p : TaskSlot → Bool) (l : List TaskSlot) (t : TaskSlot) (r : List TaskSlot) → kept p l ≡ t ∷ r → p t ≡ true

@@ -1,10 +1,11 @@
 -- What each walk finds in numbers is what its definition says.
-use Prim.Native.Nat.{ℕ, _<_, _≤_, min}
+use Prim.Native.Nat.{ℕ, zero, suc, _*_, _<_, _≤_, min}
 use mathlib.Core.Path.{_≡_, refl, sym, ap, _∙_}
 use mathlib.Core.Bool.{Bool, true, false, _&&_, _||_}
 use mathlib.Core.List.{List}
 use native.Mathlib.Omega.{arith}
 use lib.Dec.{eqb, ltb}
+use borrow.Author.Tests.{ne-eqb}
 use lib.ListN.{length, getD, set, take, length-take, List·getD-eq-default}
 use lib.Seq.{getD-take, set-getD}
 use Rattle.lists.specs.Choice.{if_then_else_}
@@ -124,10 +125,15 @@ module _ (ts : Tasks) (full : Full ts) where
   unfolding wakeNow
   now-is now = some-row (λ w. eqb w now) (λ i. eqb (getD (ts .wake) i 0) now) (ts .wake) 0 16 (full .wakes) (λ i h. refl)
 
-  pub top-is : upTo (λ m i. larger m (ready (getD (ts .state) i 0) (getD (ts .effective) i 0))) 16 0 ≡ topIn ts
+  top-is : upTo (λ m i. larger m (ready (getD (ts .state) i 0) (getD (ts .effective) i 0))) 16 0 ≡ topIn ts
   unfolding topIn
   top-is = by-rows (λ m x. larger m (readyLevel x)) (λ m i. larger m (ready (getD (ts .state) i 0) (getD (ts .effective) i 0))) (rowsOf ts) freeTask
       (λ m i h. ap (larger m) (sym (ready-is ts i) ∙ sym (ap readyLevel (row i h)))) 0 16 many
+
+  pub top-or : (n : ℕ) → upTo (λ m i. larger m (ready (getD (ts .state) i 0) (getD (ts .effective) i 0))) (min 16 (16 * n)) 0 ≡ if eqb n 0 then 0 else topIn ts
+  unfolding upTo
+  top-or zero = refl
+  top-or (suc n) = let e : min 16 (16 * suc n) ≡ 16 = omega arith in rw (e, ne-eqb (suc n) 0 (λ q. omega (arith, q))) top-is
 
   pub until-is : (now : ℕ) → upTo (λ m i. min m (if timed (getD (ts .state) i 0) then ahead now (getD (ts .wake) i 0) else 4294967295)) 16 4294967295 ≡ untilIn now ts
   unfolding untilIn

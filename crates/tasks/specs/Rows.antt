@@ -3,6 +3,7 @@ use Prim.Native.Nat.{ℕ, zero, suc}
 use mathlib.Core.List.{List, [], _∷_, map}
 use lib.ListN.{length, getD, set}
 use Rattle.lists.specs.Lists.{index}
+use Rattle.slots.specs.declared.Place.{Place}
 use Rattle.slots.specs.declared.Task.{Task}
 use Rattle.slots.specs.Places.{isFree}
 use Rattle.tasks.specs.declared.Tasks.{Tasks}
@@ -40,6 +41,30 @@ put ts n x =
       own = set (ts .own) n (x .own);
       effective = set (ts .effective) n (x .effective);
       outcome = set (ts .outcome) n (x .outcome);
+    }
+
+-- the columns with another place and outcome in the row `n`
+unfoldable pub placedAt : Tasks → ℕ → Place → ℕ → Tasks
+placedAt ts n p o =
+    record {
+      state = set (ts .state) n (cellsOf p .state);
+      object = set (ts .object) n (cellsOf p .object);
+      wake = set (ts .wake) n (cellsOf p .wake);
+      own = ts .own;
+      effective = ts .effective;
+      outcome = set (ts .outcome) n o;
+    }
+
+-- the columns with other priorities in the row `n`
+unfoldable pub rankedAt : Tasks → ℕ → ℕ → ℕ → Tasks
+rankedAt ts n own effective =
+    record {
+      state = ts .state;
+      object = ts .object;
+      wake = ts .wake;
+      own = set (ts .own) n own;
+      effective = set (ts .effective) n effective;
+      outcome = ts .outcome;
     }
 
 -- the task that the row `n` says

@@ -1,5 +1,4 @@
 // What soundness asks of the tasks, tested in numbers: no Task is made, so that the compiler does all sixteen rows at once.
-ghost use Prim.Native.Nat.{_*_, min};
 ghost use mathlib.Core.Path.{_≡_};
 ghost use mathlib.Core.Bool.{_&&_, not};
 ghost use lib.ListN.{getD};
@@ -13,20 +12,6 @@ ghost use Rattle.tasks.specs.Fine.{rowFine, wakeFine, rowsFine, wakesFin
 use crate::Tasks;
 use numbers::TaskSlot;
 use order::Order;
-
-fn one_if(b: bool) -> u8
-    ensures { λ r. ⌜ r ≡ if b then 1 else 0 ⌝ }
-{
-    if b { 1 } else { 0 }
-}
-
-// How far a walk goes that has `n` to find: to the end, or nowhere. (Asked this way round, the compiler does not see that these are all, and leaves the walk a loop.)
-fn bound(n: u8) -> usize
-    ensures { λ r. ⌜ r ≡ min 16 (16 * n) ⌝ }
-{
-    let far = 16 * (n as usize);
-    if 16 < far { 16 } else { far }
-}
 
 fn wide(n: u8) -> usize
     ensures { λ r. ⌜ r ≡ n ⌝ }
@@ -58,7 +43,7 @@ fn row_fine(s: u8, o: u8, own: u8, level: u8, outcome: u8, n: u8, held: bool) ->
     lists::both(
         known,
         lists::both(
-            n == one_if(listed),
+            n == lists::one_if(listed),
             lists::both(ranks, lists::both(ends, fresh)),
         ),
     )
@@ -141,19 +126,19 @@ impl Tasks {
         let mut n = 0u8;
         let mut i = 0usize;
         while i < 16 {
-            n += one_if(waits(state[i]));
+            n += lists::one_if(waits(state[i]));
             i += 1;
         }
         n
     }
 
-    // Each waiting task waits on an object that is open, or taken by another. The walk's bound is no constant, so that it costs nothing where nobody waits.
+    // Each waiting task waits on an object that is open, or taken by another. Where nobody waits the walk costs nothing.
     pub fn waits_fine(self, opens: [bool; 16], takes: [bool; 16], holder: [u8; 16]) -> bool
         ensures { λ r. ⌜ r ≡ allBelow 16 (waitsAt self opens takes holder) ⌝ }
     {
         let state = self.state;
         let object = self.object;
-        let n = bound(self.waiting());
+        let n = lists::bound(self.waiting());
         let mut ok = true;
         let mut i = 0usize;
         while i < n {

@@ -4,9 +4,10 @@ ghost use mathlib.Core.Path.{_≡_};
 ghost use lib.ListN.{replicate};
 ghost use mathlib.Core.List.{_∷_};
 ghost use Rattle.slots.specs.Tasks.{freeTask, readyAt};
-ghost use Rattle.tasks.specs.Rows.{tasksOf, rowAt, put};
+ghost use Rattle.tasks.specs.Rows.{tasksOf, rowAt, put, placedAt, rankedAt};
 use numbers::TaskSlot;
 use order::Order;
+use slots::Place;
 use slots::Task;
 
 mod dues;
@@ -113,6 +114,59 @@ impl Tasks {
             wake,
             own,
             effective,
+            outcome,
+        }
+    }
+
+    // The row of `t` with another place and outcome.
+    pub fn placed(self, t: TaskSlot, p: Place, n: u8) -> Tasks
+        ensures { λ r. ⌜ r ≡ placedAt self (t .0) p n ⌝ }
+    {
+        let i = t.slot();
+        let cells = Cells::of(p);
+        let mut state = self.state;
+        let mut object = self.object;
+        let mut wake = self.wake;
+        let own = self.own;
+        let effective = self.effective;
+        let mut outcome = self.outcome;
+        if i < 16 {
+            state[i] = cells.state;
+            object[i] = cells.object;
+            wake[i] = cells.wake;
+            outcome[i] = n;
+        }
+        Tasks {
+            state,
+            object,
+            wake,
+            own,
+            effective,
+            outcome,
+        }
+    }
+
+    // The row of `t` with other priorities.
+    pub fn ranked(self, t: TaskSlot, own: u8, effective: u8) -> Tasks
+        ensures { λ r. ⌜ r ≡ rankedAt self (t .0) own effective ⌝ }
+    {
+        let i = t.slot();
+        let state = self.state;
+        let object = self.object;
+        let wake = self.wake;
+        let mut owns = self.own;
+        let mut effectives = self.effective;
+        let outcome = self.outcome;
+        if i < 16 {
+            owns[i] = own;
+            effectives[i] = effective;
+        }
+        Tasks {
+            state,
+            object,
+            wake,
+            own: owns,
+            effective: effectives,
             outcome,
         }
     }

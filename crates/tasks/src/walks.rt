@@ -3,7 +3,7 @@ ghost use mathlib.Core.Path.{_≡_};
 ghost use mathlib.Core.Bool.{_&&_};
 ghost use lib.Dec.{eqb, ltb};
 ghost use Rattle.order.specs.Order.{listed};
-ghost use Rattle.lists.specs.Lists.{larger};
+ghost use Rattle.lists.specs.Choice.{if_then_else_};
 ghost use Rattle.slots.specs.declared.Who.the-variants.{AllReady, WaitersOf};
 ghost use Rattle.slots.specs.Leads.{leadsOr};
 ghost use Rattle.tasks.specs.Rows.{freeIn};
@@ -40,12 +40,6 @@ fn at_level(state: u8, level: u8, p: u8) -> bool
     ensures { λ r. ⌜ r ≡ (eqb state 1 && eqb level p) ⌝ }
 {
     lists::both(state == 1, level == p)
-}
-
-fn larger(a: u8, b: u8) -> u8
-    ensures { λ r. ⌜ r ≡ larger a b ⌝ }
-{
-    if a < b { b } else { a }
 }
 
 fn ready_level(state: u8, level: u8) -> u8
@@ -101,16 +95,17 @@ impl Tasks {
         TaskSlot::of(16)
     }
 
-    // The highest effective priority of a ready row; 0 where none is ready.
-    fn top(self) -> u8
-        ensures { λ r. ⌜ r ≡ topIn self ⌝ }
+    // The highest effective priority of a ready row, 0 where none is ready; where none is listed nobody asks.
+    fn top(self, listed: u8) -> u8
+        ensures { λ r. ⌜ r ≡ if eqb listed 0 then 0 else topIn self ⌝ }
     {
         let state = self.state;
         let effective = self.effective;
+        let n = lists::bound(listed);
         let mut top = 0u8;
         let mut i = 0usize;
-        while i < 16 {
-            top = larger(top, ready_level(state[i], effective[i]));
+        while i < n {
+            top = lists::larger(top, ready_level(state[i], effective[i]));
             i += 1;
         }
         top
@@ -121,7 +116,7 @@ impl Tasks {
     pub fn leader(self, o: Order, u: TaskSlot) -> TaskSlot
         ensures { λ r. ⌜ r ≡ leadsOr (leadIn self AllReady (listed o)) u ⌝ }
     {
-        let t = self.head(o, self.top());
+        let t = self.head(o, self.top(o.living));
         if t.slot() < 16 {
             t
         } else {

@@ -7,14 +7,8 @@ use Rattle.slots.specs.Tasks.{placed, taskAt}
 use Rattle.kernel.proofs.Kernel.blocked.Statement.{statement}
 use Rattle.kernel.proofs.Kernel.blocked.Tie as tie
 
-task-requires : tie.Need-task-requires
-task-requires c κs = search needs
-
 placed-requires : tie.Need-placed-requires
 placed-requires c κs = search needs
-
-with-task-requires : tie.Need-with-task-requires
-with-task-requires c κs = search needs
 
 to-tail-requires : tie.Need-to-tail-requires
 to-tail-requires c κs = search needs
@@ -22,10 +16,9 @@ to-tail-requires c κs = search needs
 returns : tie.Need-returns
 unfolding blocked
 returns c = λ s h.
-    c .to-tail .ensures (withTask s (s .running) (placed (taskAt (s .tasks) (s .running)) (c .before .before .before .before .before .args .p) 0))
-    (c .before .with-task .ensures s h ∙ rw (c .before .before .placed .ensures, c .before .before .before .task .ensures s h, same-running _ s h))
+    c .to-tail .ensures (withTask s (s .running) (placed (taskAt (s .tasks) (s .running)) (c .before .before .before .args .p) 0))
+    (c .before .placed .ensures s h ∙ rw (same-running _ s h))
     ∙ rw (same-running _ s h)
 
 pub blocked-spec : {M : Type 1} → statement M
-blocked-spec =
-    tie.close (tie.spec task-requires placed-requires with-task-requires to-tail-requires returns)
+blocked-spec = tie.close (tie.spec placed-requires to-tail-requires returns)

@@ -12,9 +12,6 @@ task-requires c κs = search needs
 ranked-requires : tie.Need-ranked-requires
 ranked-requires c κs = search needs
 
-with-task-requires : tie.Need-with-task-requires
-with-task-requires c κs = search needs
-
 is-ready-requires : tie.Need-is-ready-requires
 is-ready-requires c κs = search needs
 
@@ -24,18 +21,11 @@ moved-if-requires c κs = search needs
 returns : tie.Need-returns
 unfolding prioritized
 returns c = λ s h.
-    let a = c .before .before .before .before .before .before .args in
-    c .moved-if .ensures (withTask s (a .t) (ranked (taskAt (s .tasks) (a .t)) (a .own) (a .effective)))
-    (c .before .before .before .with-task .ensures s h ∙ rw (c .before .before .before .before .ranked .ensures, c .before .before .before .before .before .task .ensures s h))
-    ∙ rw (c .before .before .is-ready .ensures, c .before .before .before .before .before .task .ensures s h)
+    let a = c .before .before .before .before .before .args in
+    c .moved-if .ensures (withTask s (a .t) (ranked (taskAt (s .tasks) (a .t)) (a .own) (a .effective))) (c .before .before .before .ranked .ensures s h)
+    ∙ rw (c .before .before .is-ready .ensures, c .before .before .before .before .task .ensures s h)
 
 pub prioritized-spec : {M : Type 1} → statement M
 prioritized-spec =
     tie.close
-    (tie.spec
-    task-requires
-    ranked-requires
-    with-task-requires
-    is-ready-requires
-    moved-if-requires
-    returns)
+    (tie.spec task-requires ranked-requires is-ready-requires moved-if-requires returns)

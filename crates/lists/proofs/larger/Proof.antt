@@ -1,7 +1,7 @@
 use borrow.Author.Tests.{lt-ltb, le-ltb}
 use native.Mathlib.Omega.{arith}
-use Rattle.tasks.proofs.walks.larger.Statement.{statement}
-use Rattle.tasks.proofs.walks.larger.Tie as tie
+use Rattle.lists.proofs.larger.Statement.{statement}
+use Rattle.lists.proofs.larger.Tie as tie
 
 returns : tie.Need-returns
 returns c = rw (lt-ltb _ _ (c .if1 .taken))

@@ -1,0 +1,18 @@
+use borrow.Author.Needs.{needs}
+use Rattle.kernel.specs.Stands.{kernelOf}
+use Rattle.tasks.proofs.Columns.{ranked-of}
+use Rattle.slots.specs.Tasks.{taskAt}
+use Rattle.kernel.proofs.Kernel.ranked.Statement.{statement}
+use Rattle.kernel.proofs.Kernel.ranked.Tie as tie
+
+ranked-requires : tie.Need-ranked-requires
+ranked-requires c κs = search needs
+
+returns : tie.Need-returns
+unfolding kernelOf taskAt
+returns c = λ s h.
+    let a = c .before .args in
+    rw (c .ranked .ensures, h, ranked-of (s .tasks) (a .t .0) (a .own) (a .effective))
+
+pub ranked-spec : {M : Type 1} → statement M
+ranked-spec = tie.close (tie.spec ranked-requires returns)

@@ -1,0 +1,22 @@
+use borrow.Author.Needs.{needs}
+use Rattle.tasks.proofs.Columns.{Full, lost-rank}
+use Rattle.tasks.specs.Rows.{rankedAt}
+use mathlib.Core.Path.{sym}
+use native.Mathlib.Omega.{arith}
+use Rattle.tasks.proofs.Tasks.ranked.Statement.{statement}
+use Rattle.tasks.proofs.Tasks.ranked.Tie as tie
+
+returns : tie.Need-returns
+unfolding rankedAt
+returns c = rw (c .before .before .before .before .before .before .before .slot .ensures)
+
+returns-2 : tie.Need-returns-2
+returns-2 c =
+    let a = c .before .before .before .before .before .before .before .before .args in
+    let f : Full (a .self) = search needs in
+    sym (lost-rank (a .self) f (a .t .0) (omega arith) (a .own) (a .effective))
+
+pub ranked-spec : {M : Type 1} → statement M
+ranked-spec =
+    tie.close
+    (tie.spec (λ c κs. search needs) (λ c. search needs) (λ c. search needs) returns returns-2)
