@@ -71,30 +71,30 @@ digit-of : (d : ℕ) → d < 10 → digitOf (48 + d) ≡ d
 unfolding among
 digit-of d h = rw (le-ltb (48 + d) 48 (omega arith), le-ltb 57 (48 + d) (omega arith)) (omega arith)
 
-digit-is : (x : ℕ) → digitOf x < 10 → x ≡ 48 + digitOf x
+digit-is : (x : ℕ) → digitOf x < 256 → (digitOf x < 10) × (x ≡ 48 + digitOf x)
 unfolding among
 digit-is x = go (below-or x 48) (below-or 57 x)
   where
-    go : (x < 48) ⊎ (48 ≤ x) → (57 < x) ⊎ (x ≤ 57) → digitOf x < 10 → x ≡ 48 + digitOf x
-    go (inl a) b = rw (lt-ltb x 48 a) (omega arith)
-    go (inr a) (inl b) = rw (le-ltb x 48 a, lt-ltb 57 x b) (omega arith)
-    go (inr a) (inr b) = rw (le-ltb x 48 a, le-ltb 57 x b) (omega arith)
+    go : (x < 48) ⊎ (48 ≤ x) → (57 < x) ⊎ (x ≤ 57) → digitOf x < 256 → (digitOf x < 10) × (x ≡ 48 + digitOf x)
+    go (inl a) b = rw (lt-ltb x 48 a) (λ h. absurd (omega arith))
+    go (inr a) (inl b) = rw (le-ltb x 48 a, lt-ltb 57 x b) (λ h. absurd (omega arith))
+    go (inr a) (inr b) = rw (le-ltb x 48 a, le-ltb 57 x b) (λ h. (omega arith, omega arith))
 
 grow-to : (v d : ℕ) → d < 10 → v * 10 + d < 4294967296 → grow v (48 + d) ≡ v * 10 + d
 unfolding grow
-grow-to v d h b = rw (digit-of d h, lt-ltb d 10 h) (omega arith)
+grow-to v d h b = rw (digit-of d h, lt-ltb d 256 (omega arith)) (omega arith)
 
 grow-stop : (v x : ℕ) → digitOf x ≡ 256 → grow v x ≡ 4294967296
 unfolding grow
 grow-stop v x e = rw e
 
-grow-is : (v x : ℕ) → grow v x < 4294967296 → (digitOf x < 10) × (grow v x ≡ v * 10 + digitOf x)
+grow-is : (v x : ℕ) → grow v x < 4294967296 → (digitOf x < 256) × (grow v x ≡ v * 10 + digitOf x)
 unfolding grow
-grow-is v x = go (below-or (digitOf x) 10)
+grow-is v x = go (below-or (digitOf x) 256)
   where
-    go : (digitOf x < 10) ⊎ (10 ≤ digitOf x) → grow v x < 4294967296 → (digitOf x < 10) × (grow v x ≡ v * 10 + digitOf x)
-    go (inl a) = rw (lt-ltb (digitOf x) 10 a) (λ h. (a, omega arith))
-    go (inr a) = rw (le-ltb (digitOf x) 10 a) (λ h. absurd (omega arith))
+    go : (digitOf x < 256) ⊎ (256 ≤ digitOf x) → grow v x < 4294967296 → (digitOf x < 256) × (grow v x ≡ v * 10 + digitOf x)
+    go (inl a) = rw (lt-ltb (digitOf x) 256 a) (λ h. (a, omega arith))
+    go (inr a) = rw (le-ltb (digitOf x) 256 a) (λ h. absurd (omega arith))
 
 -- ---- what is read is the number's digits
 
@@ -122,9 +122,10 @@ module _ (line : List ℕ) where
       go : (grow v x < 4294967296) ⊎ (4294967296 ≤ grow v x) → more v i (x ∷ l) ≡ Got w j → Ends (dec v ++ (x ∷ l)) w j
       go (inl a) = rw (lt-ltb (grow v x) 4294967296 a) (λ e.
           let g = grow-is v x a in
+          let q = digit-is x (g .0) in
           let s = ih (grow v x) (omega (arith, g .1)) a e in
           let t : dec (grow v x) ≡ dec v ++ (x ∷ []) =
-          ap dec (g .1) ∙ dec-snoc v (digitOf x) p (g .0) (omega (arith, g .1)) ∙ ap (λ (y : ℕ). dec v ++ (y ∷ [])) (sym (digit-is x (g .0))) in
+          ap dec (g .1) ∙ dec-snoc v (digitOf x) p (q .0) (omega (arith, g .1)) ∙ ap (λ (y : ℕ). dec v ++ (y ∷ [])) (sym (q .1)) in
           (sym (append-assoc (dec v) (x ∷ []) l) ∙ ap (λ (h : List ℕ). h ++ l) (sym t) ∙ s .0, s .1))
       go (inr a) = rw (le-ltb (grow v x) 4294967296 a) (stopped (x ∷ l) v i w j d b)
 
@@ -134,20 +135,22 @@ module _ (line : List ℕ) where
 
   number-ends : (l : List ℕ) (i w j : ℕ) → drop i line ≡ l → number i l ≡ Got w j → Ends l w j
   number-ends [] i w j d e = let z : _≡_ {A = ℕ} 0 1 = cc in absurd (omega arith)
-  number-ends (x ∷ l) i w j d e = go (below-or (digitOf x) 10) (below-or 0 (digitOf x)) e
+  number-ends (x ∷ l) i w j d e = go (below-or (digitOf x) 256) (below-or 0 (digitOf x)) e
     where
-      first : digitOf x < 10 → x ∷ l ≡ dec (digitOf x) ++ l
-      first a = ap (λ (y : ℕ). y ∷ l) (digit-is x a) ∙ ap (λ (h : List ℕ). h ++ l) (sym (dec-small (digitOf x) a))
+      first : digitOf x < 256 → x ∷ l ≡ dec (digitOf x) ++ l
+      first a =
+          let q = digit-is x a in
+          ap (λ (y : ℕ). y ∷ l) (q .1) ∙ ap (λ (h : List ℕ). h ++ l) (sym (dec-small (digitOf x) (q .0)))
 
-      go : (digitOf x < 10) ⊎ (10 ≤ digitOf x) → (0 < digitOf x) ⊎ (digitOf x ≤ 0) → number i (x ∷ l) ≡ Got w j → Ends (x ∷ l) w j
-      go (inl a) (inl p) = rw (lt-ltb (digitOf x) 10 a, ne-eqb (digitOf x) 0 (omega arith)) (λ e.
+      go : (digitOf x < 256) ⊎ (256 ≤ digitOf x) → (0 < digitOf x) ⊎ (digitOf x ≤ 0) → number i (x ∷ l) ≡ Got w j → Ends (x ∷ l) w j
+      go (inl a) (inl p) = rw (lt-ltb (digitOf x) 256 a, ne-eqb (digitOf x) 0 (omega arith)) (λ e.
           let s = more-ends l (digitOf x) (i + 1) w j (next i x l d) p (omega arith) e in
           (first a ∙ s .0, s .1))
-      go (inl a) (inr p) = rw (lt-ltb (digitOf x) 10 a, eq-eqb (digitOf x) 0 (omega arith)) (λ e.
+      go (inl a) (inr p) = rw (lt-ltb (digitOf x) 256 a, eq-eqb (digitOf x) 0 (omega arith)) (λ e.
           let z : digitOf x ≡ 0 = omega arith in
           let s = stopped l 0 (i + 1) w j (next i x l d) (omega arith) e in
           (first a ∙ ap (λ (v : ℕ). dec v ++ l) z ∙ s .0, s .1))
-      go (inr a) p = rw (le-ltb (digitOf x) 10 a) (λ e. let z : _≡_ {A = ℕ} 0 1 = cc in absurd (omega arith))
+      go (inr a) p = rw (le-ltb (digitOf x) 256 a) (λ e. let z : _≡_ {A = ℕ} 0 1 = cc in absurd (omega arith))
 
   pub number-front : (at w j : ℕ) → number at (drop at line) ≡ Got w j → (drop at line ≡ dec w ++ drop j line) × (w ≤ 4294967295)
   number-front at w j e = number-ends (drop at line) at w j refl e
@@ -169,7 +172,7 @@ last-digit n i l f =
     rw (g, lt-ltb n 4294967296 f)
 
 one-digit : (n i : ℕ) (l : List ℕ) → 0 < n → n < 10 → number i ((48 + n) ∷ l) ≡ more n (i + 1) l
-one-digit n i l p b = rw (digit-of n b, lt-ltb n 10 b, ne-eqb n 0 (omega arith))
+one-digit n i l p b = rw (digit-of n b, lt-ltb n 256 (omega arith), ne-eqb n 0 (omega arith))
 
 number-digits : (k n i : ℕ) (l : List ℕ) → 0 < n → n < tens k → n < 4294967296 → number i (digits k n ++ l) ≡ more n (i + length (digits k n)) l
 number-digits zero n i l p b f = rw (digits-small 0 n b) (one-digit n i l p b)

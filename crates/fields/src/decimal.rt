@@ -13,7 +13,7 @@ fn grown(v: u32, b: u8) -> u64
     ensures { λ r. ⌜ r ≡ grow v b ⌝ }
 {
     let d = digit(b);
-    if d >= 10 {
+    if d >= 256 {
         return 4294967296;
     }
     let w = (v as u64) * 10 + (d as u64);
@@ -31,7 +31,7 @@ pub fn read_number(line: &[u8], at: usize) -> Number
         return Number::Missing;
     }
     let first = digit(line[at]);
-    if first >= 10 {
+    if first >= 256 {
         return Number::Missing;
     }
     let mut i = at + 1;
