@@ -5,10 +5,6 @@ use Rattle.kernel.specs.Types.{Kernel}
 use Rattle.kernel.specs.Stands.{kernelOf}
 
 module _ (k : Kernel) (s : State) (h : k ≡ kernelOf s) where
-  pub same-order : k .order ≡ s .order
-  unfolding kernelOf
-  same-order = ap (λ (n : Kernel). n .order) h
-
   pub same-running : k .running ≡ s .running
   unfolding kernelOf
   same-running = ap (λ (n : Kernel). n .running) h

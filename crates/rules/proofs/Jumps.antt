@@ -1,8 +1,8 @@
 -- Ticks on which nobody is due: only the count changes. So several ticks are a jump to the next one on which somebody is due, then a plain tick, and so on.
 use Prim.Native.Nat.{ℕ, zero, suc, _+_, _%_, _<_, _≤_, min}
 use mathlib.Core.Path.{_≡_, refl, sym, ap, _∙_}
-use mathlib.Core.Bool.{Bool, true, false}
-use mathlib.Core.List.{List, [], _∷_, _++_}
+use mathlib.Core.Bool.{Bool, false}
+use mathlib.Core.List.{List, [], _∷_}
 use native.Mathlib.Nat.{mod-add-mod}
 use native.Mathlib.Omega.{arith}
 use lib.Dec.{eqb}
@@ -11,13 +11,11 @@ use borrow.Author.Tests.{ne-eqb}
 use Rattle.lists.specs.Choice.{if_then_else_}
 use Rattle.lists.specs.Lists.{foldl, upTo}
 use Rattle.numbers.specs.Numbers.{task, byNumber}
-use Rattle.order.specs.Order.{listed, ordered, without}
 use Rattle.slots.specs.Places.{wakesAt, outcomeDue, ahead, away}
-use Rattle.slots.specs.Tasks.{freeTask, placed, taskAt}
-use Rattle.rules.specs.Types.{TaskSlot, Order, Never, At, Place, Free, Ready, Delayed, Waiting, Suspended, Task, State}
-use Rattle.rules.specs.Tables.{withTask, withOrder, withTick}
+use Rattle.slots.specs.Tasks.{freeTask, taskAt}
+use Rattle.rules.specs.Types.{TaskSlot, Never, At, Place, Free, Ready, Delayed, Waiting, Suspended, Task, State}
+use Rattle.rules.specs.Tables.{withTick}
 use Rattle.rules.specs.Waits.{later, readied}
-use Rattle.rules.specs.Lines.{toTail}
 use Rattle.rules.specs.Ticks.{wokenIfDue, wakes, oneTick, untilDue, ticks}
 
 -- ── one task: it is not due before its wake tick
@@ -31,28 +29,6 @@ not-yet now d i (Delayed w) n h l = before-wake now w d i n h l
 not-yet now d i (Waiting o Never) n h l = refl
 not-yet now d i (Waiting o (At w)) n h l = before-wake now w d i n h l
 not-yet now d i Suspended n h l = refl
-
--- ── by number, one after the other
-fold-more : (k : State) (l : List TaskSlot) (t : TaskSlot) → foldl wokenIfDue k (l ++ (t ∷ [])) ≡ wokenIfDue (foldl wokenIfDue k l) t
-unfolding foldl
-fold-more k [] t = refl
-fold-more k (u ∷ l) t = fold-more (wokenIfDue k u) l t
-
-pub by-number : (n : ℕ) (k : State) → upTo (λ j i. wokenIfDue j (task i)) n k ≡ wakes k (byNumber n)
-unfolding upTo wakes byNumber foldl
-by-number zero k = refl
-by-number (suc n) k = ap (λ (j : State). wokenIfDue j (task n)) (by-number n k) ∙ sym (fold-more k (byNumber n) (task n))
-
--- one turn of it: the task of slot i is due, or it is not
-pub due-turn : (k : State) (i : ℕ) {y : Task} {o : Order} → wakesAt (k .tick) (taskAt (k .tasks) (task i) .place) ≡ true
-    → y ≡ placed (taskAt (k .tasks) (task i)) Ready (outcomeDue (taskAt (k .tasks) (task i) .place)) → o ≡ ordered (without (task i) (listed (k .order)) ++ (task i ∷ []))
-    → withOrder (withTask k (task i) y) o ≡ wokenIfDue k (task i)
-unfolding wokenIfDue readied toTail
-due-turn k i e p q = rw e (λ x. withOrder (withTask k (task i) (p x)) (q x))
-
-pub not-turn : (k : State) (i : ℕ) → wakesAt (k .tick) (taskAt (k .tasks) (task i) .place) ≡ false → k ≡ wokenIfDue k (task i)
-unfolding wokenIfDue
-not-turn k i e = rw e
 
 -- ── nobody is due: the wakes change nothing
 none-woken : (k : State) → ((t : TaskSlot) → wakesAt (k .tick) (taskAt (k .tasks) t .place) ≡ false) → (l : List TaskSlot) → wakes k l ≡ k

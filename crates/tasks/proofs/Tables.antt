@@ -1,22 +1,22 @@
 -- The table read as a list: a store to it, and, where every number that is not used is 0, the way back.
 use Prim.Native.Nat.{ℕ, zero, suc, _<_}
 use mathlib.Core.Path.{_≡_, refl, sym, ap, _∙_}
-use mathlib.Core.Bool.{Bool, true, false, _&&_}
+use mathlib.Core.Bool.{true, _&&_}
 use mathlib.Core.List.{List, map}
 use native.Mathlib.Omega.{arith}
-use lib.Dec.{eqb, leb}
-use lib.ListN.{length, getD, set, length-map, length-set, List·getD-map}
-use lib.Seq.{ext-getD, getD-set-same, getD-set-other}
-use borrow.Author.Tests.{eqb-true, eqb-false, leb-true}
+use lib.Dec.{leb}
+use lib.ListN.{length, getD, length-map, List·getD-map}
+use lib.Seq.{ext-getD}
+use borrow.Author.Tests.{eqb-true, leb-true}
 use Rattle.lists.proofs.Bools.{and-left, and-right, all-below}
 use Rattle.slots.specs.declared.Task.{Task}
 use Rattle.slots.specs.Tasks.{freeTask}
 use Rattle.tasks.specs.declared.Tasks.{Tasks}
 use Rattle.tasks.specs.declared.Cells.{Cells}
 use Rattle.tasks.specs.Cells.{cells, cellsOf, placeOf}
-use Rattle.tasks.specs.Rows.{stateOf, objectOf, wakeOf, tasksOf, put, rowAt, rowsOf}
+use Rattle.tasks.specs.Rows.{stateOf, objectOf, wakeOf, tasksOf, rowAt, rowsOf}
 use Rattle.tasks.specs.Known.{known, wakeKnown, canonical}
-use Rattle.tasks.proofs.Columns.{Full, place-back, rows-many, row-at}
+use Rattle.tasks.proofs.Columns.{Full, rows-many, row-at}
 
 -- numbers that say a place, with zeros for what it does not use, are its numbers
 cells-back : (s o w : ℕ) → known s o ≡ true → wakeKnown s w ≡ true → cellsOf (placeOf (cells s o w)) ≡ cells s o w
@@ -63,37 +63,3 @@ module _ (ts : Tasks) (full : Full ts) where
       same : (i : ℕ) → i < 16 → cellsOf (placeOf (cellsAt i)) ≡ cellsAt i
       same i l =
           cells-back (getD (ts .state) i 0) (getD (ts .object) i 0) (getD (ts .wake) i 0) (and-left _ _ (fine i l)) (and-right (known (getD (ts .state) i 0) (getD (ts .object) i 0)) _ (fine i l))
-
-module _ (ts : Tasks) (full : Full ts) (n : ℕ) (x : Task) where
-  put-same : n < 16 → rowAt (put ts n x) n ≡ x
-  unfolding rowAt put
-  put-same h =
-      rw (getD-set-same (ts .state) n (stateOf x) 0 (omega arith), getD-set-same (ts .object) n (objectOf x) 0 (omega arith), getD-set-same (ts .wake) n (wakeOf x) 0 (omega arith), getD-set-same (ts .own) n (x .own) 0 (omega arith), getD-set-same (ts .effective) n (x .effective) 0 (omega arith), getD-set-same (ts .outcome) n (x .outcome) 0 (omega arith), place-back (x .place))
-
-  put-other : (i : ℕ) → (i ≡ n → ⊥) → rowAt (put ts n x) i ≡ rowAt ts i
-  unfolding rowAt put
-  put-other i d =
-      rw (getD-set-other (ts .state) n i (stateOf x) 0 d, getD-set-other (ts .object) n i (objectOf x) 0 d, getD-set-other (ts .wake) n i (wakeOf x) 0 d, getD-set-other (ts .own) n i (x .own) 0 d, getD-set-other (ts .effective) n i (x .effective) 0 d, getD-set-other (ts .outcome) n i (x .outcome) 0 d)
-
-  put-long : length (put ts n x .state) ≡ length (ts .state)
-  unfolding put
-  put-long = length-set (ts .state) n (stateOf x)
-
-  -- a store to the columns is a store to the list that they read as
-  pub rows-put : rowsOf (put ts n x) ≡ set (rowsOf ts) n x
-  rows-put = ext-getD freeTask (rowsOf (put ts n x)) (set (rowsOf ts) n x) (long ∙ sym (length-set (rowsOf ts) n x ∙ rows-many ts ∙ full .states)) at
-    where
-      long : length (rowsOf (put ts n x)) ≡ 16
-      long = rows-many (put ts n x) ∙ put-long ∙ full .states
-
-      at : (i : ℕ) → i < length (rowsOf (put ts n x)) → getD (rowsOf (put ts n x)) i freeTask ≡ getD (set (rowsOf ts) n x) i freeTask
-      at i h = go (omega (arith, long)) (eqb i n) refl
-        where
-          go : i < 16 → (b : Bool) → eqb i n ≡ b → getD (rowsOf (put ts n x)) i freeTask ≡ getD (set (rowsOf ts) n x) i freeTask
-          go l true e =
-              let q : i ≡ n = eqb-true i n e in
-              let m : n < 16 = omega arith in
-              row-at (put ts n x) i (omega (arith, put-long)) ∙ rw q (put-same m ∙ sym (getD-set-same (rowsOf ts) n x freeTask (omega (arith, rows-many ts))))
-          go l false e =
-              let d = eqb-false i n e in
-              row-at (put ts n x) i (omega (arith, put-long)) ∙ put-other i d ∙ sym (row-at ts i (omega arith)) ∙ sym (getD-set-other (rowsOf ts) n i x freeTask d)
