@@ -8,7 +8,7 @@ use lib.Dec.{eqb, ltb}
 use borrow.Author.Tests.{eqb-true}
 use Rattle.lists.specs.Choice.{if_then_else_}
 use Rattle.lists.specs.Lists.{foldl, upTo}
-use Rattle.numbers.specs.Numbers.{task, byNumber}
+use Rattle.numbers.specs.Numbers.{byNumber}
 use Rattle.order.specs.Order.{listed}
 use Rattle.slots.specs.Places.{isFree, isBlocked, isListed, waitsOn, wakesAt, outcomeDue}
 use Rattle.slots.specs.Tasks.{brokenOff, taskAt}

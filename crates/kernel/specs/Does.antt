@@ -5,7 +5,7 @@ use Rattle.lists.specs.Choice.{if_then_else_}
 use Rattle.numbers.specs.declared.TaskSlot.{TaskSlot}
 use Rattle.calls.specs.declared.Asked.{Asked}
 use Rattle.calls.specs.Door.{number}
-use Rattle.calls.specs.Said.{Saying, says, said, done, made, waiting}
+use Rattle.calls.specs.Said.{Saying, says, done, made, waiting}
 use Rattle.slots.specs.Places.{isBlocked}
 use Rattle.slots.specs.Tasks.{taskAt}
 use Rattle.rules.specs.State.{State}

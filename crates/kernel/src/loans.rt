@@ -1,6 +1,4 @@
 // How a priority comes about: given, lent, paid back.
-ghost use mathlib.Core.Path.{_≡_};
-ghost use Rattle.lists.specs.Lists.{larger};
 ghost use Rattle.rules.specs.Loans.{moved, movedIf, prioritized, newPriority, lent, ownAgain};
 ghost use Rattle.kernel.specs.Does.{Does};
 use crate::Kernel;

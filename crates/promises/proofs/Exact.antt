@@ -16,7 +16,7 @@ use Rattle.slots.specs.Tasks.{taskAt}
 use Rattle.rules.specs.Lines.{chosen}
 use Rattle.rules.specs.Sound.{sound}
 use Rattle.rules.specs.Asking.{makes, newSlot}
-use Rattle.rules.specs.Refusals.{Row, row, firstRow, table, laterRow, refusal}
+use Rattle.rules.specs.Refusals.{Row, firstRow, table, laterRow, refusal}
 use Rattle.rules.specs.Effects.{effect}
 use Rattle.rules.specs.Step.{Stepped, answered, accepted, turnedAway, step}
 use Rattle.promises.specs.Types.{Asked, Call, State}

@@ -10,7 +10,7 @@ use lib.ListN.{getD}
 use borrow.Author.Tests.{ne-eqb}
 use Rattle.lists.specs.Choice.{if_then_else_}
 use Rattle.lists.specs.Lists.{foldl, upTo}
-use Rattle.numbers.specs.Numbers.{task, byNumber}
+use Rattle.numbers.specs.Numbers.{byNumber}
 use Rattle.slots.specs.Places.{wakesAt, outcomeDue, ahead, away}
 use Rattle.slots.specs.Tasks.{freeTask, taskAt}
 use Rattle.rules.specs.Types.{TaskSlot, Never, At, Place, Free, Ready, Delayed, Waiting, Suspended, Task, State}

@@ -17,7 +17,7 @@ use Rattle.slots.specs.Places.{waitsOn}
 use Rattle.slots.specs.Tasks.{ranked, taskAt}
 use Rattle.slots.specs.Objects.{isUnused, isMutex, heldBy, isHeld, kindAt}
 use Rattle.slots.specs.Fine.{notDue}
-use Rattle.rules.specs.Types.{TaskSlot, ObjSlot, Wake, Place, Free, Ready, Waiting, Task, Nobody, By, Kind, Unused, Queue, Mutex, WaitersOf, Take, State, AMutex}
+use Rattle.rules.specs.Types.{TaskSlot, ObjSlot, Wake, Place, Free, Ready, Waiting, Task, Nobody, By, Kind, Unused, Queue, Mutex, WaitersOf, State, AMutex}
 use Rattle.rules.specs.Tables.{holds, withObject}
 use Rattle.rules.specs.Lines.{level, first, toTail}
 use Rattle.rules.specs.Sentences.{Holds, Exists, MayWait, taker, Sound}

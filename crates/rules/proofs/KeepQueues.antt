@@ -11,7 +11,7 @@ use Rattle.lists.proofs.Bools.{on, not-off}
 use Rattle.calls.specs.Asked.{onObject}
 use Rattle.slots.specs.Places.{waitsOn}
 use Rattle.slots.specs.Objects.{isUnused, isQueue, isMutex, kindAt}
-use Rattle.rules.specs.Types.{TaskSlot, ObjSlot, Wake, Place, Free, Ready, Delayed, Waiting, Suspended, Ring, Kind, Unused, Queue, Mutex, WaitersOf, toWaiter, toQueue, toCaller, Send, State, AQueue}
+use Rattle.rules.specs.Types.{TaskSlot, ObjSlot, Wake, Place, Free, Ready, Delayed, Waiting, Suspended, Ring, Kind, Unused, Queue, Mutex, WaitersOf, toWaiter, toQueue, toCaller, State, AQueue}
 use Rattle.slots.specs.Tasks.{taskAt}
 use Rattle.rules.specs.Tables.{withObject}
 use Rattle.rules.specs.Lines.{first, toTail}

@@ -17,7 +17,7 @@ use Rattle.order.proofs.Lines.{one-number}
 use Rattle.slots.specs.Places.{isFree, wakesAt, outcomeDue}
 use Rattle.slots.specs.Tasks.{placed, taskAt}
 use Rattle.slots.specs.Fine.{wakesInRange, notDue}
-use Rattle.rules.specs.Types.{TaskSlot, Place, Free, Ready, Delayed, Waiting, Suspended, Task, Hold, State}
+use Rattle.rules.specs.Types.{TaskSlot, Place, Free, Ready, Delayed, Waiting, Suspended, Task, State}
 use Rattle.rules.specs.Tables.{withTick, withHold}
 use Rattle.rules.specs.Lines.{level, toTail}
 use Rattle.rules.specs.Sound.{noHigher}

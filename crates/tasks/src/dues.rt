@@ -1,5 +1,4 @@
 // The wake ticks: how long until the next, and who is due.
-ghost use Prim.Native.Nat.{min};
 ghost use mathlib.Core.Path.{_≡_};
 ghost use mathlib.Core.Bool.{_&&_};
 ghost use lib.Dec.{eqb};

@@ -1,8 +1,5 @@
 // What soundness asks of the tasks, tested in numbers: no Task is made, so that the compiler does all sixteen rows at once.
 ghost use mathlib.Core.Path.{_≡_};
-ghost use mathlib.Core.Bool.{_&&_, not};
-ghost use lib.ListN.{getD};
-ghost use Rattle.lists.specs.Choice.{if_then_else_};
 ghost use Rattle.lists.specs.Lists.{allBelow};
 ghost use Rattle.slots.specs.Fine.{idleFine};
 ghost use Rattle.order.specs.Order.{listed};
