@@ -132,8 +132,3 @@ wakes-done s l w e = λ i. record {
   hold = sym (all-same (λ z. z .hold) (λ z t. woke (λ y. y .hold) z t refl) s l) i;
   pended = sym (all-same (λ z. z .pended) (λ z t. woke (λ y. y .pended) z t refl) s l) i;
 }
-
--- a create's or make's slot is looked for in no other call
-pub no-slot : (b : Bool) (n : ℕ) → eqb (if b then n else 0) 16 ≡ (b && eqb n 16)
-no-slot true n = refl
-no-slot false n = refl

@@ -5,21 +5,24 @@ use mathlib.Core.Bool.{true, false, _&&_}
 use lib.Dec.{eqb, ltb}
 use Rattle.calls.specs.declared.Asked.{Asked}
 use Rattle.slots.specs.Objects.{kindAt}
-use Rattle.rules.specs.State.{State}
+use Rattle.rules.specs.State.{State, Seen as WhatIsSeen}
 use Rattle.rules.specs.Tables.{freeSlot, freeObject}
 use Rattle.rules.specs.Asking.{makes, newSlot}
-use Rattle.rules.specs.Refusals.{sizeDiffers, firstRow, table, laterRow}
+use Rattle.rules.specs.Refusals.{seen, sizeDiffers, firstRow, table, laterRow}
 use Rattle.rules.proofs.Passes.{Passed, passed, InRange, range, send-sized, hold-fits, release-fits, tick-fits}
 use Rattle.kernel.specs.Types.{Kernel, Seen}
-use Rattle.kernel.specs.Stands.{shown}
+use Rattle.kernel.specs.Stands.{shown, seenOf}
 use Rattle.kernel.specs.Does.{Reads, Firm}
-use Rattle.kernel.specs.Rows.{Sees, rowsTwo}
 use Rattle.kernel.proofs.Stands.{same-hold, same-pended}
 
--- what was seen is enough for the table
-pub row-of : {s : State} {a : Asked} {x : Seen} (item store : ℕ) → Sees s a x → firstRow (rowsTwo x a item store) ≡ laterRow s a item store
-unfolding laterRow table
-row-of item store S = rw (S .words, S .slot, S .used)
+-- what was seen is what the table looks at, and has the new slot
+module _ (s : State) (a : Asked) (x : Seen) (e : seenOf x ≡ seen s a) where
+  pub row-of : (item store : ℕ) → firstRow (table (seenOf x) a item store) ≡ laterRow s a item store
+  unfolding laterRow
+  row-of item store = ap (λ (y : WhatIsSeen). firstRow (table y a item store)) e
+
+  pub new-of : makes a ≡ true → x .new ≡ newSlot s a
+  new-of m = ap (λ (y : WhatIsSeen). y .new) e ∙ rw m
 
 module _ (k : Kernel) (F : Firm k) (a : Asked) (item store : ℕ) (e : laterRow (shown k) a item store ≡ 0) where
   P : Passed (shown k) a store

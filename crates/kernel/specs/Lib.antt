@@ -1,6 +1,5 @@
 pub mod Types
 pub mod Stands
 pub mod Does
-pub mod Rows
 pub mod Promises
 pub mod Serving

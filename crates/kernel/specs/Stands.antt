@@ -35,7 +35,7 @@ standing k s = if sound (shown k) then kernelOf s else k
 
 -- the rules' words for what the code has seen, and for where an item goes
 abbrev pub seenOf : Seen → WhatIsSeen
-seenOf x = record { place = x .place; kind = x .kind; running = x .running; hold = x .hold; pended = x .pended }
+seenOf x = record { place = x .place; kind = x .kind; new = x .new; used = x .used; running = x .running; hold = x .hold; pended = x .pended }
 
 abbrev pub outletOf : Outlet → WhereTo
 outletOf (Waiter t) = toWaiter t

@@ -1,7 +1,6 @@
 // The refusal table: a method for each row, and the first row that applies. A row that speaks of one call looks at the call's number first.
 ghost use mathlib.Core.Path.{_≡_};
-ghost use Rattle.rules.specs.Refusals.{outOfRange, namesNone, sizeDiffers, wrongSize, notForIdle, notWithHold, notHis, hisAlready, notSuspended, isFull, isEmpty, stopsAt, mustWait, noDepth, noTick, firstRow, heldOrWaited, inUse};
-ghost use Rattle.kernel.specs.Rows.{lateRows, rowsFour, rowsTwo, SeesOf};
+ghost use Rattle.rules.specs.Refusals.{outOfRange, namesNone, sizeDiffers, wrongSize, notForIdle, notWithHold, notHis, hisAlready, notSuspended, isFull, isEmpty, stopsAt, mustWait, noDepth, noTick, firstRow, heldOrWaited, inUse, seen, orRow, row, table};
 ghost use Rattle.kernel.specs.Does.{Reads};
 ghost use Rattle.kernel.specs.Stands.{seenOf};
 ghost use Rattle.rules.specs.Asking.{makes, newSlot};
@@ -80,6 +79,16 @@ fn stops_at(a: Asked, x: Kind) -> bool
         return x.is_held();
     }
     false
+}
+
+// The number so far, 0 for none, else this row's.
+fn or_row(no: u32, n: u32, applies: bool) -> u32
+    ensures { λ r. ⌜ r ≡ orRow no (row n applies) ⌝ }
+{
+    if no != 0 {
+        return no;
+    }
+    if applies { n } else { 0 }
 }
 
 impl Seen {
@@ -200,67 +209,24 @@ impl Seen {
         false
     }
 
-    // Rows 9 to 16.
-    fn late_row(self, a: Asked) -> u32
-        ensures { λ r. ⌜ r ≡ firstRow (lateRows self a) ⌝ }
-    {
-        if self.new == 16 {
-            return 9;
-        }
-        if self.used {
-            return 10;
-        }
-        if self.not_his(a) {
-            return 11;
-        }
-        if self.his_already(a) {
-            return 12;
-        }
-        if self.not_suspended(a) {
-            return 13;
-        }
-        if self.must_wait(a) {
-            return 14;
-        }
-        if self.no_depth(a) {
-            return 15;
-        }
-        if self.no_tick(a) {
-            return 16;
-        }
-        0
-    }
-
-    // Rows 4 to 16.
-    fn row_from_four(self, a: Asked, item: usize) -> u32
-        ensures { λ r. ⌜ r ≡ firstRow (rowsFour self a item) ⌝ }
-    {
-        if out_of_range(a) {
-            return 4;
-        }
-        if self.names_none(a) {
-            return 5;
-        }
-        if self.wrong_size(a, item) {
-            return 6;
-        }
-        if self.not_for_idle(a) {
-            return 7;
-        }
-        if self.not_with_hold(a) {
-            return 8;
-        }
-        self.late_row(a)
-    }
-
-    // The number of the first row that applies, of rows 2 to 16; 0 where none does.
+    // The number of the first row that applies, of rows 2 to 16; 0 where none does. No row is passed over: which one applies cannot be foretold, and most calls pass them all.
     pub(crate) fn row(self, a: Asked, item: usize, store: usize) -> u32
-        ensures { λ r. ⌜ r ≡ firstRow (rowsTwo self a item store) ⌝ }
+        ensures { λ r. ⌜ r ≡ firstRow (table (seenOf self) a item store) ⌝ }
     {
-        if store != 9216 {
-            return 2;
-        }
-        self.row_from_four(a, item)
+        let no = or_row(0, 2, store != 9216);
+        let no = or_row(no, 4, out_of_range(a));
+        let no = or_row(no, 5, self.names_none(a));
+        let no = or_row(no, 6, self.wrong_size(a, item));
+        let no = or_row(no, 7, self.not_for_idle(a));
+        let no = or_row(no, 8, self.not_with_hold(a));
+        let no = or_row(no, 9, self.new == 16);
+        let no = or_row(no, 10, self.used);
+        let no = or_row(no, 11, self.not_his(a));
+        let no = or_row(no, 12, self.his_already(a));
+        let no = or_row(no, 13, self.not_suspended(a));
+        let no = or_row(no, 14, self.must_wait(a));
+        let no = or_row(no, 15, self.no_depth(a));
+        or_row(no, 16, self.no_tick(a))
     }
 }
 
@@ -298,7 +264,7 @@ impl Kernel {
     }
 
     pub(crate) fn seen(self, a: Asked) -> Seen
-        ensures { λ r. ⌜ SeesOf self a r ⌝ }
+        ensures { λ r. ⌜ Reads self (λ s. seen s a) (seenOf r) ⌝ }
     {
         let x = self.task(a.task);
         let place = x.place;

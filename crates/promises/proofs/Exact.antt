@@ -16,7 +16,8 @@ use Rattle.slots.specs.Tasks.{taskAt}
 use Rattle.rules.specs.Lines.{chosen}
 use Rattle.rules.specs.Sound.{sound}
 use Rattle.rules.specs.Asking.{makes, newSlot}
-use Rattle.rules.specs.Refusals.{Row, firstRow, table, laterRow, refusal}
+use Rattle.rules.proofs.Firsts.{numbered}
+use Rattle.rules.specs.Refusals.{seen, Row, firstRow, table, laterRow, refusal}
 use Rattle.rules.specs.Effects.{effect}
 use Rattle.rules.specs.Step.{Stepped, answered, accepted, turnedAway, step}
 use Rattle.promises.specs.Types.{Asked, Call, State}
@@ -30,11 +31,6 @@ first-is (below a f) = rw a (first-is f)
 none-is : {rs : List Row} → None rs → firstRow rs ≡ 0
 none-is end = refl
 none-is (off a f) = rw a (none-is f)
-
--- every row has a number that is not 0
-unfoldable numbered : List Row → Bool
-numbered [] = true
-numbered (r ∷ rs) = not (eqb (r .number) 0) && numbered rs
 
 is-first : (n : ℕ) (rs : List Row) → firstRow rs ≡ n → (n ≡ 0 → ⊥) → First n rs
 is-first n [] e z = absurd (z (sym e))
@@ -60,7 +56,7 @@ module _ (k : State) (a : Asked) (item s : ℕ) where
   unfolding refusal laterRow
   rows-refusal = go (sound k)
     where
-      go : (b : Bool) → (if not b then 1 else firstRow (table k a item s)) ≡ (if b then firstRow (table k a item s) else 1)
+      go : (b : Bool) → (if not b then 1 else firstRow (table (seen k a) a item s)) ≡ (if b then firstRow (table (seen k a) a item s) else 1)
       go true = refl
       go false = refl
 

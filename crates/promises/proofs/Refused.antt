@@ -20,7 +20,7 @@ use Rattle.rules.specs.State.{State}
 use Rattle.slots.specs.Tasks.{taskAt}
 use Rattle.rules.specs.Tables.{freeSlot, withOrder}
 use Rattle.rules.specs.Sound.{sound}
-use Rattle.rules.specs.Refusals.{noSlot, heldOrWaited, inUse, notSuspended, Row, row, firstRow, table, laterRow, refusal}
+use Rattle.rules.specs.Refusals.{seen, noSlot, heldOrWaited, inUse, notSuspended, Row, row, firstRow, table, laterRow, refusal}
 use Rattle.promises.specs.Alike.{Alike}
 use Rattle.promises.proofs.Twins.{one-kernel}
 use Rattle.promises.proofs.Likewise.{slot-low}
@@ -60,7 +60,7 @@ index-within p (x ∷ xs) = go (p x) (index-within p xs)
 
 pub create-low : (k : State) (p item store : ℕ) → length (k .tasks) ≤ 16 → laterRow k (nothing 1 p 0 1 0) item store ≡ 0 → freeSlot (k .tasks) < 16
 unfolding laterRow table noSlot freeSlot every
-create-low k p item store h e = go (eqb (freeSlot (k .tasks)) 16) refl (clear (table k (nothing 1 p 0 1 0) item store) refl e 6)
+create-low k p item store h e = go (eqb (freeSlot (k .tasks)) 16) refl (clear (table (seen k (nothing 1 p 0 1 0)) (nothing 1 p 0 1 0) item store) refl e 6)
   where
     go : (b : Bool) → eqb (freeSlot (k .tasks)) 16 ≡ b → b ≡ false → freeSlot (k .tasks) < 16
     go true f g = absurd (false≢true (sym g))
@@ -68,4 +68,4 @@ create-low k p item store h e = go (eqb (freeSlot (k .tasks)) 16) refl (clear (t
 
 pub resume-low : (k : State) (t : TaskSlot) (item store : ℕ) → length (k .tasks) ≤ 16 → laterRow k (onTask 4 t 0) item store ≡ 0 → t .0 < 16
 unfolding laterRow table notSuspended every
-resume-low k t item store h e = slot-low isSuspended refl (k .tasks) t h (on (isSuspended (taskAt (k .tasks) t .place)) (clear (table k (onTask 4 t 0) item store) refl e 10))
+resume-low k t item store h e = slot-low isSuspended refl (k .tasks) t h (on (isSuspended (taskAt (k .tasks) t .place)) (clear (table (seen k (onTask 4 t 0)) (onTask 4 t 0) item store) refl e 10))

@@ -9,14 +9,14 @@ use Rattle.calls.specs.Asked.{asked}
 use Rattle.calls.specs.Said.{says, refused}
 use Rattle.rules.specs.Lines.{chosen}
 use Rattle.rules.specs.Sound.{sound}
-use Rattle.rules.specs.Refusals.{Row, row, table}
+use Rattle.rules.specs.Refusals.{seen, Row, row, table}
 use Rattle.rules.specs.Effects.{effect}
 use Rattle.rules.specs.Step.{Stepped, answered, stored}
 use Rattle.promises.specs.Types.{Asked, Call, State}
 
 -- the table of refusals, whole: 1 "the kernel value is not sound" stands first. (3 is the line reader's.)
 abbrev pub rows : State → Asked → ℕ → ℕ → List Row
-rows k a item store = row 1 (not (sound k)) ∷ table k a item store
+rows k a item store = row 1 (not (sound k)) ∷ table (seen k a) a item store
 
 -- "Of the numbers that apply, the one that stands first": row n applies, and none before it
 pub data First (n : ℕ) : List Row → Type 0 where

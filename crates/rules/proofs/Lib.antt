@@ -6,6 +6,7 @@ pub mod Listings
 pub mod Says
 pub mod Within
 pub mod Passes
+pub mod Firsts
 pub mod Nearly
 pub mod Slotted
 pub mod Objected

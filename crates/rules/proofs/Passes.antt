@@ -24,7 +24,7 @@ pub record Passed (k : State) (a : Asked) (store : ℕ) : Type 0 where
   pub named : namesNone (seen k a) a ≡ false
   pub idle : notForIdle (seen k a) a ≡ false
   pub held : notWithHold (seen k a) a ≡ false
-  pub slot : noSlot k a ≡ false
+  pub slot : noSlot (seen k a) ≡ false
   pub unused : inUse k a ≡ false
   pub his : notHis (seen k a) a ≡ false
   pub another : hisAlready (seen k a) a ≡ false
@@ -67,7 +67,7 @@ passed k a item store e0 =
     let e4 = row-passed (wrongSize (seen k a) a item) 6 (omega arith) (e3 .1) in
     let e5 = row-passed (notForIdle (seen k a) a) 7 (omega arith) (e4 .1) in
     let e6 = row-passed (notWithHold (seen k a) a) 8 (omega arith) (e5 .1) in
-    let e7 = row-passed (noSlot k a) 9 (omega arith) (e6 .1) in
+    let e7 = row-passed (noSlot (seen k a)) 9 (omega arith) (e6 .1) in
     let e8 = row-passed (inUse k a) 10 (omega arith) (e7 .1) in
     let e9 = row-passed (notHis (seen k a) a) 11 (omega arith) (e8 .1) in
     let e10 = row-passed (hisAlready (seen k a) a) 12 (omega arith) (e9 .1) in

@@ -16,12 +16,21 @@ use Rattle.rules.specs.Lines.{those}
 use Rattle.rules.specs.Sound.{sound}
 use Rattle.rules.specs.Asking.{is, makes, newSlot, stops, waits}
 
--- what the rows look at: the task and the object that the call names, the caller, the hold and the pended ticks
+-- what row 10 asks: "delete of a task that holds a mutex; remove of a held mutex or an object with waiters"
+unfoldable pub heldOrWaited : State → ObjSlot → Bool
+heldOrWaited k o = isHeld (kindAt (k .objects) o) || not (isNone (those (k .tasks) (WaitersOf o) (listed (k .order))))
+
+unfoldable pub inUse : State → Asked → Bool
+inUse k a = (is 2 a && holds (k .objects) (a .task)) || (is 12 a && heldOrWaited k (a .object))
+
+-- what the rows look at; a call that is no create or make takes no slot, and 0 is never full
 abbrev pub seen : State → Asked → Seen
 seen k a =
     record {
       place = taskAt (k .tasks) (a .task) .place;
       kind = kindAt (k .objects) (a .object);
+      new = if makes a then newSlot k a else 0;
+      used = inUse k a;
       running = k .running;
       hold = k .hold;
       pended = k .pended;
@@ -70,15 +79,8 @@ notWithHold s a =
     ltb 0 (s .hold) && (is 6 a || (is 7 a || (waits a || (stops a && sameTask (a .task) (s .running)))))
 
 -- 9: "create or make with no free slot"
-unfoldable pub noSlot : State → Asked → Bool
-noSlot k a = makes a && eqb (newSlot k a) 16
-
--- 10: "delete of a task that holds a mutex; remove of a held mutex or an object with waiters"
-unfoldable pub heldOrWaited : State → ObjSlot → Bool
-heldOrWaited k o = isHeld (kindAt (k .objects) o) || not (isNone (those (k .tasks) (WaitersOf o) (listed (k .order))))
-
-unfoldable pub inUse : State → Asked → Bool
-inUse k a = (is 2 a && holds (k .objects) (a .task)) || (is 12 a && heldOrWaited k (a .object))
+unfoldable pub noSlot : Seen → Bool
+noSlot s = eqb (s .new) 16
 
 -- 11: "give of a mutex that the caller does not hold"
 unfoldable pub notHis : Seen → Asked → Bool
@@ -129,28 +131,32 @@ abbrev pub firstRow : List Row → ℕ
 firstRow [] = 0
 firstRow (r ∷ rs) = if r .applies then r .number else firstRow rs
 
+-- the same, row by row: the number so far, 0 for none, else this row's
+abbrev pub orRow : ℕ → Row → ℕ
+orRow n r = if eqb n 0 then (if r .applies then r .number else 0) else n
+
 -- "No. | Given exactly when", for a sound kernel; the lengths are the item's and the store's. (3 is the line reader's.)
-unfoldable pub table : State → Asked → ℕ → ℕ → List Row
-table k a item store =
+unfoldable pub table : Seen → Asked → ℕ → ℕ → List Row
+table s a item store =
     row 2 (not (eqb store 9216))
     ∷ row 4 (outOfRange a)
-    ∷ row 5 (namesNone (seen k a) a)
-    ∷ row 6 (wrongSize (seen k a) a item)
-    ∷ row 7 (notForIdle (seen k a) a)
-    ∷ row 8 (notWithHold (seen k a) a)
-    ∷ row 9 (noSlot k a)
-    ∷ row 10 (inUse k a)
-    ∷ row 11 (notHis (seen k a) a)
-    ∷ row 12 (hisAlready (seen k a) a)
-    ∷ row 13 (notSuspended (seen k a) a)
-    ∷ row 14 (mustWait (seen k a) a)
-    ∷ row 15 (noDepth (seen k a) a)
-    ∷ row 16 (noTick (seen k a) a)
+    ∷ row 5 (namesNone s a)
+    ∷ row 6 (wrongSize s a item)
+    ∷ row 7 (notForIdle s a)
+    ∷ row 8 (notWithHold s a)
+    ∷ row 9 (noSlot s)
+    ∷ row 10 (s .used)
+    ∷ row 11 (notHis s a)
+    ∷ row 12 (hisAlready s a)
+    ∷ row 13 (notSuspended s a)
+    ∷ row 14 (mustWait s a)
+    ∷ row 15 (noDepth s a)
+    ∷ row 16 (noTick s a)
     ∷ []
 
 -- rows 2 to 16
 unfoldable pub laterRow : State → Asked → ℕ → ℕ → ℕ
-laterRow k a item store = firstRow (table k a item store)
+laterRow k a item store = firstRow (table (seen k a) a item store)
 
 -- the whole table: 1 "the kernel value is not sound" stands first
 unfoldable pub refusal : State → Asked → ℕ → ℕ → ℕ

@@ -1,35 +1,28 @@
 use borrow.Author.Needs.{needs}
-use Rattle.rules.specs.Refusals.{noSlot}
-use Prim.Native.Nat.{ℕ}
-use Rattle.kernel.proofs.Ends.{no-slot}
 use Rattle.kernel.proofs.Stands.{same-running, same-hold, same-pended}
-use Rattle.rules.specs.Asking.{makes, newSlot}
-use lib.Dec.{eqb}
-use mathlib.Core.Path.{ap, _∙_}
 use Rattle.kernel.proofs.Kernel.seen.Statement.{statement}
 use Rattle.kernel.proofs.Kernel.seen.Tie as tie
 
-task-requires : tie.Need-task-requires
-task-requires c κs = search needs
-
-kind-requires : tie.Need-kind-requires
-kind-requires c κs = search needs
-
-new-slot-requires : tie.Need-new-slot-requires
-new-slot-requires c κs = search needs
-
-used-requires : tie.Need-used-requires
-used-requires c κs = search needs
-
 returns : tie.Need-returns
-unfolding noSlot
-returns c = λ s h. record {
-  words = rw (c .before .before .before .before .task .ensures s h, c .before .before .kind .ensures s h, same-running _ s h, same-hold _ s h, same-pended _ s h);
-  slot = ap (λ (n : ℕ). eqb n 16) (c .before .new-slot .ensures s h) ∙ no-slot (makes (c .before .before .before .before .before .args .a)) (newSlot s (c .before .before .before .before .before .args .a));
-  used = c .used .ensures s h;
-  new = λ m. c .before .new-slot .ensures s h ∙ rw m;
-}
+returns c = λ s h.
+    let n = c .before in
+    let k = n .before in
+    rw (
+      k .before .before .task .ensures s h,
+      k .kind .ensures s h,
+      n .new-slot .ensures s h,
+      c .used .ensures s h,
+      same-running _ s h,
+      same-hold _ s h,
+      same-pended _ s h,
+    )
 
 pub seen-spec : {M : Type 1} → statement M
 seen-spec =
-    tie.close (tie.spec task-requires kind-requires new-slot-requires used-requires returns)
+    tie.close
+    (tie.spec
+    (λ c κs. search needs)
+    (λ c κs. search needs)
+    (λ c κs. search needs)
+    (λ c κs. search needs)
+    returns)
