@@ -191,13 +191,6 @@ impl Tasks {
         ensures { λ r. ⌜ r ≡ freeIn self ⌝ }
     {
         let state = self.state;
-        let mut i = 0usize;
-        while i < 16 {
-            if state[i] == 0 {
-                return i as u8;
-            }
-            i += 1;
-        }
-        16
+        lists::first_zero(state)
     }
 }
