@@ -12,14 +12,8 @@ use mathlib.Core.Path.{_≡_, sym, subst}
 use Rattle.kernel.proofs.Kernel.line_step.Statement.{statement}
 use Rattle.kernel.proofs.Kernel.line_step.Tie as tie
 
-line-refusal-requires : tie.Need-line-refusal-requires
-line-refusal-requires c κs = search needs
-
 returns : tie.Need-returns
 returns c = line-refused (c .before .before .before .args .self) (c .before .before .before .args .store .now) (c .before .before .before .args .line) (c .before .before .before .args .fine) (c .before .line-refusal .result) (c .before .before .before .pre .0) (c .before .before .before .pre .1) (c .before .line-refusal .ensures) (c .if1 .taken)
-
-call-in-requires : tie.Need-call-in-requires
-call-in-requires c κs = search needs
 
 array-share-prefix-item : tie.Need-array-share-prefix-item
 array-share-prefix-item c = let h : length (c .before .before .before .before .before .args .line .item) ≡ 64 = search length-mapped in omega arith
@@ -33,9 +27,6 @@ step-sound-requires c κs =
     let fine = has-call (shown (o .args .self)) (o .args .store .now) (o .args .line) (o .args .fine) (c .before .before .before .before .before .line-refusal .result) (o .pre .0) (c .before .before .before .before .before .line-refusal .ensures) (c .before .before .before .before .if1 .left) .0 in
     (fine, o .pre .1 fine)
 
-same-length : tie.Need-same-length
-same-length c = search needs
-
 returns-2 : tie.Need-returns-2
 returns-2 c =
     let a = c .before .before .before .before .before .before .before .before .before .before .args in
@@ -47,11 +38,11 @@ pub line-step-spec : {M : Type 1} → statement M
 line-step-spec =
     tie.close
     (tie.spec
-    line-refusal-requires
+    (λ c κs. search needs)
     returns
-    call-in-requires
+    (λ c κs. search needs)
     array-share-prefix-item
     slice-aggregate-step-sound
     step-sound-requires
-    same-length
+    (λ c. search needs)
     returns-2)

@@ -9,18 +9,6 @@ use mathlib.Core.Path.{ap, _∙_}
 use Rattle.kernel.proofs.Kernel.seen.Statement.{statement}
 use Rattle.kernel.proofs.Kernel.seen.Tie as tie
 
-task-requires : tie.Need-task-requires
-task-requires c κs = search needs
-
-kind-requires : tie.Need-kind-requires
-kind-requires c κs = search needs
-
-new-slot-requires : tie.Need-new-slot-requires
-new-slot-requires c κs = search needs
-
-used-requires : tie.Need-used-requires
-used-requires c κs = search needs
-
 returns : tie.Need-returns
 unfolding noSlot
 returns c = λ s h. record {
@@ -32,4 +20,4 @@ returns c = λ s h. record {
 
 pub seen-spec : {M : Type 1} → statement M
 seen-spec =
-    tie.close (tie.spec task-requires kind-requires new-slot-requires used-requires returns)
+    tie.close (tie.spec (λ c κs. search needs) (λ c κs. search needs) (λ c κs. search needs) (λ c κs. search needs) returns)

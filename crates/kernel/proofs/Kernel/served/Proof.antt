@@ -16,26 +16,8 @@ cast-create c = let o = c .before .before .before .before in let r = in-range (o
 create-requires : tie.Need-create-requires
 create-requires c κs = let o = c .before .before .before .before in task-slot (o .args .a) (o .pre .2) (c .before .match .keys1)
 
-delete-requires : tie.Need-delete-requires
-delete-requires c κs = search needs
-
-suspend-requires : tie.Need-suspend-requires
-suspend-requires c κs = search needs
-
-resume-requires : tie.Need-resume-requires
-resume-requires c κs = search needs
-
 cast-new-priority : tie.Need-cast-new-priority
 cast-new-priority c = let o = c .before .before .before .before in let r = in-range (o .args .self) (o .pre .0) (o .args .a) (length (o .args .item .now)) (length (o .args .store .now)) (o .pre .1) in omega (arith, r .low)
-
-new-priority-requires : tie.Need-new-priority-requires
-new-priority-requires c κs = search needs
-
-delay-requires : tie.Need-delay-requires
-delay-requires c κs = search needs
-
-to-tail-requires : tie.Need-to-tail-requires
-to-tail-requires c κs = search needs
 
 hold-deeper-requires : tie.Need-hold-deeper-requires
 hold-deeper-requires c κs = let o = c .before .before .before in may-hold (o .args .self) (o .pre .0) (o .args .a) (length (o .args .item .now)) (length (o .args .store .now)) (o .pre .1) (c .match .keys8)
@@ -55,20 +37,11 @@ make-queue-requires c κs = let o = c .before .before .before .before .before in
 make-mutex-requires : tie.Need-make-mutex-requires
 make-mutex-requires c κs = let o = c .before .before .before in mutex-slot (o .args .a) (o .pre .2) (c .match .keys11)
 
-with-object-requires : tie.Need-with-object-requires
-with-object-requires c κs = search needs
-
 send-requires : tie.Need-send-requires
 send-requires c κs = let o = c .before .before .before .before in (o .pre .0, right-size (o .args .self) (o .pre .0) (o .args .a) (length (o .args .item .now)) (length (o .args .store .now)) (o .pre .1) (c .before .match .keys13), whole (o .args .self) (o .pre .0) (o .args .a) (length (o .args .item .now)) (length (o .args .store .now)) (o .pre .1))
 
 receive-requires : tie.Need-receive-requires
 receive-requires c κs = let o = c .before .before .before .before in (o .pre .0, whole (o .args .self) (o .pre .0) (o .args .a) (length (o .args .item .now)) (length (o .args .store .now)) (o .pre .1))
-
-take-requires : tie.Need-take-requires
-take-requires c κs = search needs
-
-give-requires : tie.Need-give-requires
-give-requires c κs = search needs
 
 tick-on-requires : tie.Need-tick-on-requires
 tick-on-requires c κs = let o = c .before .before .before in may-tick (o .args .self) (o .pre .0) (o .args .a) (length (o .args .item .now)) (length (o .args .store .now)) (o .pre .1) (c .match .keys17)
@@ -121,15 +94,9 @@ returns-12 : tie.Need-returns-12
 unfolding effect stored removed
 returns-12 c = (λ s h. rw (c .before .match .keys12) (c .with-object .ensures s h), λ s h. rw (c .before .match .keys12))
 
-same-length : tie.Need-same-length
-same-length c = search needs
-
 returns-13 : tie.Need-returns-13
 unfolding effect stored
 returns-13 c = (λ s h. rw (c .before .before .before .before .match .keys13) (c .before .before .send .ensures .0 s h), λ s h. rw (c .before .before .before .before .match .keys13) (c .before .before .send .ensures .1 s h))
-
-same-length-2 : tie.Need-same-length-2
-same-length-2 c = search needs
 
 returns-14 : tie.Need-returns-14
 unfolding effect stored
@@ -157,24 +124,24 @@ served-spec =
     (tie.spec
     cast-create
     create-requires
-    delete-requires
-    suspend-requires
-    resume-requires
+    (λ c κs. search needs)
+    (λ c κs. search needs)
+    (λ c κs. search needs)
     cast-new-priority
-    new-priority-requires
-    delay-requires
-    to-tail-requires
+    (λ c κs. search needs)
+    (λ c κs. search needs)
+    (λ c κs. search needs)
     hold-deeper-requires
     release-requires
     cast-make-queue
     cast-make-queue-2
     make-queue-requires
     make-mutex-requires
-    with-object-requires
+    (λ c κs. search needs)
     send-requires
     receive-requires
-    take-requires
-    give-requires
+    (λ c κs. search needs)
+    (λ c κs. search needs)
     tick-on-requires
     returns
     returns-2
@@ -188,9 +155,9 @@ served-spec =
     returns-10
     returns-11
     returns-12
-    same-length
+    (λ c. search needs)
     returns-13
-    same-length-2
+    (λ c. search needs)
     returns-14
     returns-15
     returns-16

@@ -6,15 +6,6 @@ use Rattle.kernel.specs.Stands.{shown}
 use Rattle.kernel.proofs.Kernel.step_sound.Statement.{statement}
 use Rattle.kernel.proofs.Kernel.step_sound.Tie as tie
 
-asked-requires : tie.Need-asked-requires
-asked-requires c κs = search needs
-
-seen-requires : tie.Need-seen-requires
-seen-requires c κs = search needs
-
-row-requires : tie.Need-row-requires
-row-requires c κs = search needs
-
 returns : tie.Need-returns
 returns c =
     let o = c .before .before .before .before .before .before in
@@ -27,15 +18,6 @@ served-requires c κs =
     let o = c .before .before .before .before .before .before .before .before in
     let k = o .args .self in
     (firm k (o .pre .0) (o .pre .1), sym (c .before .before .before .row .ensures ∙ row-of _ _ (c .before .before .before .before .seen .ensures (shown k) (o .pre .1))) ∙ c .before .before .if1 .left, λ m s h. c .before .before .before .before .seen .ensures s h .new m)
-
-answered-requires : tie.Need-answered-requires
-answered-requires c κs = search needs
-
-chosen-requires : tie.Need-chosen-requires
-chosen-requires c κs = search needs
-
-same-length : tie.Need-same-length
-same-length c = search needs
 
 returns-2 : tie.Need-returns-2
 returns-2 c =
@@ -50,12 +32,12 @@ pub step-sound-spec : {M : Type 1} → statement M
 step-sound-spec =
     tie.close
     (tie.spec
-    asked-requires
-    seen-requires
-    row-requires
+    (λ c κs. search needs)
+    (λ c κs. search needs)
+    (λ c κs. search needs)
     returns
     served-requires
-    answered-requires
-    chosen-requires
-    same-length
+    (λ c κs. search needs)
+    (λ c κs. search needs)
+    (λ c. search needs)
     returns-2)

@@ -8,21 +8,6 @@ use Rattle.slots.specs.Places.{isListed}
 use Rattle.kernel.proofs.Kernel.suspend.Statement.{statement}
 use Rattle.kernel.proofs.Kernel.suspend.Tie as tie
 
-task-requires : tie.Need-task-requires
-task-requires c κs = search needs
-
-is-listed-requires : tie.Need-is-listed-requires
-is-listed-requires c κs = search needs
-
-broken-off-requires : tie.Need-broken-off-requires
-broken-off-requires c κs = search needs
-
-with-task-requires : tie.Need-with-task-requires
-with-task-requires c κs = search needs
-
-leaves-requires : tie.Need-leaves-requires
-leaves-requires c κs = search needs
-
 returns : tie.Need-returns
 unfolding suspended
 returns c = λ s h.
@@ -37,10 +22,10 @@ pub suspend-spec : {M : Type 1} → statement M
 suspend-spec =
     tie.close
     (tie.spec
-    task-requires
-    is-listed-requires
-    broken-off-requires
-    with-task-requires
-    leaves-requires
+    (λ c κs. search needs)
+    (λ c κs. search needs)
+    (λ c κs. search needs)
+    (λ c κs. search needs)
+    (λ c κs. search needs)
     returns
     returns-2)

@@ -9,38 +9,20 @@ returns c = rw (eq-eqb (c .before .before .args .self .new) 16 (c .if1 .taken))
 returns-2 : tie.Need-returns-2
 returns-2 c = rw (ne-eqb (c .before .before .before .args .self .new) 16 (c .before .if1 .left), c .if2 .taken)
 
-not-his-requires : tie.Need-not-his-requires
-not-his-requires c κs = search needs
-
 returns-3 : tie.Need-returns-3
 returns-3 c = rw (ne-eqb (c .before .before .before .before .before .args .self .new) 16 (c .before .before .before .if1 .left), c .before .before .if2 .left, ← c .before .not-his .ensures, c .if3 .taken)
-
-his-already-requires : tie.Need-his-already-requires
-his-already-requires c κs = search needs
 
 returns-4 : tie.Need-returns-4
 returns-4 c = rw (ne-eqb (c .before .before .before .before .before .before .before .args .self .new) 16 (c .before .before .before .before .before .if1 .left), c .before .before .before .before .if2 .left, ← c .before .before .before .not-his .ensures, c .before .before .if3 .left, ← c .before .his-already .ensures, c .if4 .taken)
 
-not-suspended-requires : tie.Need-not-suspended-requires
-not-suspended-requires c κs = search needs
-
 returns-5 : tie.Need-returns-5
 returns-5 c = rw (ne-eqb (c .before .before .before .before .before .before .before .before .before .args .self .new) 16 (c .before .before .before .before .before .before .before .if1 .left), c .before .before .before .before .before .before .if2 .left, ← c .before .before .before .before .before .not-his .ensures, c .before .before .before .before .if3 .left, ← c .before .before .before .his-already .ensures, c .before .before .if4 .left, ← c .before .not-suspended .ensures, c .if5 .taken)
-
-must-wait-requires : tie.Need-must-wait-requires
-must-wait-requires c κs = search needs
 
 returns-6 : tie.Need-returns-6
 returns-6 c = rw (ne-eqb (c .before .before .before .before .before .before .before .before .before .before .before .args .self .new) 16 (c .before .before .before .before .before .before .before .before .before .if1 .left), c .before .before .before .before .before .before .before .before .if2 .left, ← c .before .before .before .before .before .before .before .not-his .ensures, c .before .before .before .before .before .before .if3 .left, ← c .before .before .before .before .before .his-already .ensures, c .before .before .before .before .if4 .left, ← c .before .before .before .not-suspended .ensures, c .before .before .if5 .left, ← c .before .must-wait .ensures, c .if6 .taken)
 
-no-depth-requires : tie.Need-no-depth-requires
-no-depth-requires c κs = search needs
-
 returns-7 : tie.Need-returns-7
 returns-7 c = rw (ne-eqb (c .before .before .before .before .before .before .before .before .before .before .before .before .before .args .self .new) 16 (c .before .before .before .before .before .before .before .before .before .before .before .if1 .left), c .before .before .before .before .before .before .before .before .before .before .if2 .left, ← c .before .before .before .before .before .before .before .before .before .not-his .ensures, c .before .before .before .before .before .before .before .before .if3 .left, ← c .before .before .before .before .before .before .before .his-already .ensures, c .before .before .before .before .before .before .if4 .left, ← c .before .before .before .before .before .not-suspended .ensures, c .before .before .before .before .if5 .left, ← c .before .before .before .must-wait .ensures, c .before .before .if6 .left, ← c .before .no-depth .ensures, c .if7 .taken)
-
-no-tick-requires : tie.Need-no-tick-requires
-no-tick-requires c κs = search needs
 
 returns-8 : tie.Need-returns-8
 returns-8 c = rw (ne-eqb (c .before .before .before .before .before .before .before .before .before .before .before .before .before .before .before .args .self .new) 16 (c .before .before .before .before .before .before .before .before .before .before .before .before .before .if1 .left), c .before .before .before .before .before .before .before .before .before .before .before .before .if2 .left, ← c .before .before .before .before .before .before .before .before .before .before .before .not-his .ensures, c .before .before .before .before .before .before .before .before .before .before .if3 .left, ← c .before .before .before .before .before .before .before .before .before .his-already .ensures, c .before .before .before .before .before .before .before .before .if4 .left, ← c .before .before .before .before .before .before .before .not-suspended .ensures, c .before .before .before .before .before .before .if5 .left, ← c .before .before .before .before .before .must-wait .ensures, c .before .before .before .before .if6 .left, ← c .before .before .before .no-depth .ensures, c .before .before .if7 .left, ← c .before .no-tick .ensures, c .if8 .taken)
@@ -54,16 +36,16 @@ late-row-spec =
     (tie.spec
     returns
     returns-2
-    not-his-requires
+    (λ c κs. search needs)
     returns-3
-    his-already-requires
+    (λ c κs. search needs)
     returns-4
-    not-suspended-requires
+    (λ c κs. search needs)
     returns-5
-    must-wait-requires
+    (λ c κs. search needs)
     returns-6
-    no-depth-requires
+    (λ c κs. search needs)
     returns-7
-    no-tick-requires
+    (λ c κs. search needs)
     returns-8
     returns-9)

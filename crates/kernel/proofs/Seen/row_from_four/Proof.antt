@@ -2,38 +2,20 @@ use borrow.Author.Needs.{needs}
 use Rattle.kernel.proofs.Seen.row_from_four.Statement.{statement}
 use Rattle.kernel.proofs.Seen.row_from_four.Tie as tie
 
-out-of-range-requires : tie.Need-out-of-range-requires
-out-of-range-requires c κs = search needs
-
 returns : tie.Need-returns
 returns c = rw (← c .before .out-of-range .ensures, c .if1 .taken)
-
-names-none-requires : tie.Need-names-none-requires
-names-none-requires c κs = search needs
 
 returns-2 : tie.Need-returns-2
 returns-2 c = rw (← c .before .before .before .out-of-range .ensures, c .before .before .if1 .left, ← c .before .names-none .ensures, c .if2 .taken)
 
-wrong-size-requires : tie.Need-wrong-size-requires
-wrong-size-requires c κs = search needs
-
 returns-3 : tie.Need-returns-3
 returns-3 c = rw (← c .before .before .before .before .before .out-of-range .ensures, c .before .before .before .before .if1 .left, ← c .before .before .before .names-none .ensures, c .before .before .if2 .left, ← c .before .wrong-size .ensures, c .if3 .taken)
-
-not-for-idle-requires : tie.Need-not-for-idle-requires
-not-for-idle-requires c κs = search needs
 
 returns-4 : tie.Need-returns-4
 returns-4 c = rw (← c .before .before .before .before .before .before .before .out-of-range .ensures, c .before .before .before .before .before .before .if1 .left, ← c .before .before .before .before .before .names-none .ensures, c .before .before .before .before .if2 .left, ← c .before .before .before .wrong-size .ensures, c .before .before .if3 .left, ← c .before .not-for-idle .ensures, c .if4 .taken)
 
-not-with-hold-requires : tie.Need-not-with-hold-requires
-not-with-hold-requires c κs = search needs
-
 returns-5 : tie.Need-returns-5
 returns-5 c = rw (← c .before .before .before .before .before .before .before .before .before .out-of-range .ensures, c .before .before .before .before .before .before .before .before .if1 .left, ← c .before .before .before .before .before .before .before .names-none .ensures, c .before .before .before .before .before .before .if2 .left, ← c .before .before .before .before .before .wrong-size .ensures, c .before .before .before .before .if3 .left, ← c .before .before .before .not-for-idle .ensures, c .before .before .if4 .left, ← c .before .not-with-hold .ensures, c .if5 .taken)
-
-late-row-requires : tie.Need-late-row-requires
-late-row-requires c κs = search needs
 
 returns-6 : tie.Need-returns-6
 returns-6 c = rw (← c .before .before .before .before .before .before .before .before .before .before .out-of-range .ensures, c .before .before .before .before .before .before .before .before .before .if1 .left, ← c .before .before .before .before .before .before .before .before .names-none .ensures, c .before .before .before .before .before .before .before .if2 .left, ← c .before .before .before .before .before .before .wrong-size .ensures, c .before .before .before .before .before .if3 .left, ← c .before .before .before .before .not-for-idle .ensures, c .before .before .before .if4 .left, ← c .before .before .not-with-hold .ensures, c .before .if5 .left) (c .late-row .ensures)
@@ -42,15 +24,15 @@ pub row-from-four-spec : {M : Type 1} → statement M
 row-from-four-spec =
     tie.close
     (tie.spec
-    out-of-range-requires
+    (λ c κs. search needs)
     returns
-    names-none-requires
+    (λ c κs. search needs)
     returns-2
-    wrong-size-requires
+    (λ c κs. search needs)
     returns-3
-    not-for-idle-requires
+    (λ c κs. search needs)
     returns-4
-    not-with-hold-requires
+    (λ c κs. search needs)
     returns-5
-    late-row-requires
+    (λ c κs. search needs)
     returns-6)

@@ -23,22 +23,13 @@ Inv-loop block store₀ out₀ kernel₀ fine bytes₀ len₀ at₀ written₀ s
 abbrev μ-loop : tie.MeasureT-loop
 μ-loop block store₀ out₀ kernel₀ fine bytes₀ len₀ at₀ written₀ store out kernel bytes len at written = length block - at
 
-sound-requires : tie.Need-sound-requires Inv-loop μ-loop
-sound-requires c κs = search needs
-
 loop-holds : tie.Need-loop-holds Inv-loop μ-loop
 loop-holds c =
     let long : length (c .before .before .before .before .before .before .args .self .cut .bytes) ≡ 256 = search length-mapped in
     (set-out (c .before .before .before .before .before .before .args .out .now) (c .before .before .before .before .before .before .args .block .now) (c .before .sound .result) (c .before .before .before .before .before .before .args .self .kernel) (c .before .before .before .before .before .before .args .store .now) (c .before .before .before .before .before .before .args .self .cut) long (c .before .sound .ensures .0) (c .before .sound .ensures .1), refl)
 
-gather-requires : tie.Need-gather-requires Inv-loop μ-loop
-gather-requires c κs = search needs
-
 sub-either : tie.Need-sub-either Inv-loop μ-loop
 sub-either c = let w = so-far (c .before .before .before .loop .inv .0) in omega (arith, w .0, w .1, c .before .before .before .loop .inv .0 .within)
-
-either-requires : tie.Need-either-requires Inv-loop μ-loop
-either-requires c κs = search needs
 
 same-length : tie.Need-same-length Inv-loop μ-loop
 same-length c = c .before .before .before .before .before .loop .inv .1
@@ -56,12 +47,6 @@ returns c =
     (stands (c .before .before .before .before .before .before .before .before .before .before .before .before .args .block .now) (l .loop .at) cut (g .result) (g .last .1 .1 .0) (g .ensures))
     (c .before .either .ensures) (c .if1 .taken)
 
-keep-requires : tie.Need-keep-requires Inv-loop μ-loop
-keep-requires c κs = search needs
-
-whole-requires : tie.Need-whole-requires Inv-loop μ-loop
-whole-requires c κs = search needs
-
 array-share-prefix-bytes : tie.Need-array-share-prefix-bytes Inv-loop μ-loop
 array-share-prefix-bytes c =
     let w = gathers-on (c .before .before .before .before .before .before .before .before .loop .inv .0) (c .before .before .before .before .before .before .gather .ensures) in
@@ -74,19 +59,10 @@ slice-aggregate-read-call c =
     let l = keeps-wide _ (c .before .before .keep .last .0) (c .before .before .before .before .before .before .before .gather .result .len) (c .before .before .keep .result) 10 (w .wide) (c .before .before .keep .ensures) in
     sym (length-take-le (c .before .whole .result) (c .before .before .keep .last .0) (omega (arith, l, c .before .whole .ensures .1)))
 
-read-call-requires : tie.Need-read-call-requires Inv-loop μ-loop
-read-call-requires c κs = search needs
-
 line-step-requires : tie.Need-line-step-requires Inv-loop μ-loop
 line-step-requires c κs =
     let w = c .before .before .before .before .before .before .before .before .before .before .before .loop .inv .0 in
     (w .known, stands-on w, whole-cut (c .before .before .before .before .keep .last .0) (c .before .before .before .before .keep .result) (c .before .before .before .whole .result) (c .before .read-call .result) (c .before .before .before .whole .ensures .0) (c .before .read-call .ensures) .1)
-
-of-slot-requires : tie.Need-of-slot-requires Inv-loop μ-loop
-of-slot-requires c κs = search needs
-
-put-answer-requires : tie.Need-put-answer-requires Inv-loop μ-loop
-put-answer-requires c κs = search needs
 
 add-at : tie.Need-add-at Inv-loop μ-loop
 add-at c =
@@ -124,22 +100,22 @@ answer-spec =
     (tie.spec
     Inv-loop
     μ-loop
-    sound-requires
+    (λ c κs. search needs)
     loop-holds
-    gather-requires
+    (λ c κs. search needs)
     sub-either
-    either-requires
+    (λ c κs. search needs)
     same-length
     same-length-2
     returns
-    keep-requires
-    whole-requires
+    (λ c κs. search needs)
+    (λ c κs. search needs)
     array-share-prefix-bytes
     slice-aggregate-read-call
-    read-call-requires
+    (λ c κs. search needs)
     line-step-requires
-    of-slot-requires
-    put-answer-requires
+    (λ c κs. search needs)
+    (λ c κs. search needs)
     add-at
     loop-less
     loop-again)

@@ -3,29 +3,8 @@ use Rattle.kernel.proofs.Sessions.{none-left, last-told}
 use Rattle.kernel.proofs.Session.end.Statement.{statement}
 use Rattle.kernel.proofs.Session.end.Tie as tie
 
-is-empty-requires : tie.Need-is-empty-requires
-is-empty-requires c κs = search needs
-
-either-requires : tie.Need-either-requires
-either-requires c κs = search needs
-
 returns : tie.Need-returns
 returns c = none-left (c .before .before .before .before .before .before .args .self .kernel) (c .before .before .before .before .before .before .args .store .now) (c .before .before .before .before .before .before .args .self .cut) (c .before .before .before .before .before .before .args .out .now) (c .before .before .is-empty .result) (c .before .either .result) (c .before .before .is-empty .ensures) (c .before .either .ensures) (c .if1 .taken)
-
-sound-requires : tie.Need-sound-requires
-sound-requires c κs = search needs
-
-line-refusal-requires : tie.Need-line-refusal-requires
-line-refusal-requires c κs = search needs
-
-of-slot-requires : tie.Need-of-slot-requires
-of-slot-requires c κs = search needs
-
-put-answer-requires : tie.Need-put-answer-requires
-put-answer-requires c κs = search needs
-
-same-length : tie.Need-same-length
-same-length c = search needs
 
 returns-2 : tie.Need-returns-2
 returns-2 c =
@@ -37,12 +16,12 @@ pub end-spec : {M : Type 1} → statement M
 end-spec =
     tie.close
     (tie.spec
-    is-empty-requires
-    either-requires
+    (λ c κs. search needs)
+    (λ c κs. search needs)
     returns
-    sound-requires
-    line-refusal-requires
-    of-slot-requires
-    put-answer-requires
-    same-length
+    (λ c κs. search needs)
+    (λ c κs. search needs)
+    (λ c κs. search needs)
+    (λ c κs. search needs)
+    (λ c. search needs)
     returns-2)

@@ -7,12 +7,6 @@ use Rattle.kernel.proofs.answering.line_refusal.Tie as tie
 returns : tie.Need-returns
 returns c = rw (off (c .before .args .fine) (c .if1 .taken))
 
-enum-told : tie.Need-enum-told
-enum-told c = search needs
-
-enum-told-2 : tie.Need-enum-told-2
-enum-told-2 c = search needs
-
 returns-2 : tie.Need-returns-2
 returns-2 c = rw (on (c .before .before .before .args .fine) (c .before .before .if1 .left), c .enum-told .given .1)
 
@@ -24,4 +18,4 @@ returns-4 c = rw (on (c .before .before .before .before .args .fine) (c .before 
 
 pub line-refusal-spec : {M : Type 1} → statement M
 line-refusal-spec =
-    tie.close (tie.spec returns enum-told enum-told-2 returns-2 returns-3 returns-4)
+    tie.close (tie.spec returns (λ c. search needs) (λ c. search needs) returns-2 returns-3 returns-4)
