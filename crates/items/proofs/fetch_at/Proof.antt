@@ -5,7 +5,9 @@ use Rattle.items.proofs.fetch_at.Statement.{statement}
 use Rattle.items.proofs.fetch_at.Tie as tie
 
 returns : tie.Need-returns
-returns c = from-tail (c .before .before .before .before .args .part .now) (c .fetch .result) (c .before .before .before .before .args .at) (c .before .before .before .before .args .n) (c .fetch .ensures)
+returns c =
+    let a = c .before .before .before .before .args in
+    from-tail (a .part .now) (c .fetch .result) (a .at) (a .n) (c .fetch .ensures)
 
 returns-2 : tie.Need-returns-2
 returns-2 c = from-none (c .before .before .args .part .now) (c .before .before .args .at) (c .before .before .args .n) (omega arith)

@@ -8,11 +8,15 @@ use Rattle.items.proofs.put_at.Statement.{statement}
 use Rattle.items.proofs.put_at.Tie as tie
 
 returns : tie.Need-returns
-returns c = put-back (c .before .before .before .before .before .before .before .args .part .now) (take (c .before .before .before .before .before .before .before .args .n) (c .before .before .before .before .before .before .before .args .item .now)) (c .before .before .put .last .0) (c .before .before .before .before .before .before .before .args .at) (search needs) (c .before .before .put .ensures)
+returns c =
+    let a = c .before .before .before .before .before .before .before .args in
+    put-back (a .part .now) (take (a .n) (a .item .now)) (c .before .before .put .last .0) (a .at) (search needs) (c .before .before .put .ensures)
 
 returns-2 : tie.Need-returns-2
 unfolding putAt
-returns-2 c = sym (sets-past (take (c .before .before .before .args .n) (c .before .before .before .args .item .now)) (c .before .before .before .args .part .now) (c .before .before .before .args .at) (omega arith))
+returns-2 c =
+    let a = c .before .before .before .args in
+    sym (sets-past (take (a .n) (a .item .now)) (a .part .now) (a .at) (omega arith))
 
 pub put-at-spec : {M : Type 1} → statement M
 put-at-spec =

@@ -9,10 +9,12 @@ returns : tie.Need-returns
 returns c = λ s h. rw (← c .before .before .makes .ensures, c .before .if1 .taken, c .number .ensures)
 
 returns-2 : tie.Need-returns-2
-returns-2 c = λ s h. rw (← c .before .before .before .before .makes .ensures, c .before .before .before .if1 .left, ap (λ (x : Task). isBlocked (x .place)) (sym (c .before .before .task .ensures s h)) ∙ sym (c .before .is-blocked .ensures) ∙ c .if2 .taken)
+returns-2 c = λ s h. rw (← c .before .before .before .before .makes .ensures, c .before .before .before .if1 .left)
+    (rw (ap (λ (x : Task). isBlocked (x .place)) (sym (c .before .before .task .ensures s h)) ∙ sym (c .before .is-blocked .ensures) ∙ c .if2 .taken))
 
 returns-3 : tie.Need-returns-3
-returns-3 c = λ s h. rw (← c .before .before .before .before .makes .ensures, c .before .before .before .if1 .left, ap (λ (x : Task). isBlocked (x .place)) (sym (c .before .before .task .ensures s h)) ∙ sym (c .before .is-blocked .ensures) ∙ c .if2 .left)
+returns-3 c = λ s h. rw (← c .before .before .before .before .makes .ensures, c .before .before .before .if1 .left)
+    (rw (ap (λ (x : Task). isBlocked (x .place)) (sym (c .before .before .task .ensures s h)) ∙ sym (c .before .is-blocked .ensures) ∙ c .if2 .left))
 
 pub answered-spec : {M : Type 1} → statement M
 answered-spec =

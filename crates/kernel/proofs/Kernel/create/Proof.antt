@@ -9,10 +9,13 @@ use Rattle.kernel.proofs.Kernel.create.Tie as tie
 
 returns : tie.Need-returns
 unfolding created
-returns c = λ s h.
-    c .to-tail .ensures (withTask s (task (c .before .before .before .before .args .n)) (readyAt (c .before .before .before .before .args .p)))
-    (c .before .with-task .ensures s h ∙ rw (c .before .before .before .of .ensures, c .before .before .ready-at .ensures))
-    ∙ rw (c .before .before .before .of .ensures, c .before .before .before .before .pre s h)
+returns c =
+    let a = c .before .before .before .before .args in
+    let of = c .before .before .before .of in
+    λ s h.
+    c .to-tail .ensures (withTask s (task (a .n)) (readyAt (a .p)))
+    (c .before .with-task .ensures s h ∙ rw (of .ensures, c .before .before .ready-at .ensures))
+    ∙ rw (of .ensures, c .before .before .before .before .pre s h)
 
 pub create-spec : {M : Type 1} → statement M
 create-spec =

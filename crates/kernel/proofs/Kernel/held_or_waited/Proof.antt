@@ -8,7 +8,8 @@ use Rattle.kernel.proofs.Kernel.held_or_waited.Tie as tie
 
 returns : tie.Need-returns
 unfolding heldOrWaited first
-returns c = λ s h. c .either .ensures ∙ rw (c .before .is-some .ensures, c .before .before .first-waiter .ensures s h, c .before .before .before .is-held .ensures, c .before .before .before .before .kind .ensures s h, leader-none)
+returns c = λ s h. c .either .ensures ∙ rw (c .before .is-some .ensures, c .before .before .first-waiter .ensures s h, c .before .before .before .is-held .ensures)
+    (rw (c .before .before .before .before .kind .ensures s h, leader-none))
 
 pub held-or-waited-spec : {M : Type 1} → statement M
 held-or-waited-spec =

@@ -12,7 +12,8 @@ returns c = λ s h. rw (ap (sameTask (c .before .before .before .before .args .t
 
 returns-2 : tie.Need-returns-2
 unfolding moved
-returns-2 c = λ s h. rw (ap (sameTask (c .before .before .before .before .args .t)) (sym (same-running _ s h)) ∙ sym (c .before .before .same .ensures) ∙ c .before .if1 .left) (c .to-tail .ensures s h)
+returns-2 c = λ s h. rw (ap (sameTask (c .before .before .before .before .args .t)) (sym (same-running _ s h)) ∙ sym (c .before .before .same .ensures)
+    ∙ c .before .if1 .left) (c .to-tail .ensures s h)
 
 pub moved-spec : {M : Type 1} → statement M
 moved-spec = tie.close (tie.spec (λ c κs. search needs) (λ c κs. search needs) (λ c κs. search needs) returns returns-2)

@@ -6,7 +6,8 @@ use Rattle.kernel.proofs.Kernel.new_priority.Tie as tie
 
 returns : tie.Need-returns
 unfolding newPriority
-returns c = λ s h. rw (sym (c .before .before .before .before .holds .ensures s h) ∙ c .before .before .before .if1 .taken) (c .prioritized .ensures s h ∙ rw (c .before .larger .ensures, c .before .before .task .ensures s h))
+returns c = λ s h. rw (sym (c .before .before .before .before .holds .ensures s h) ∙ c .before .before .before .if1 .taken)
+    (c .prioritized .ensures s h ∙ rw (c .before .larger .ensures, c .before .before .task .ensures s h))
 
 returns-2 : tie.Need-returns-2
 unfolding newPriority

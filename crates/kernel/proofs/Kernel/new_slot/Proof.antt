@@ -13,7 +13,8 @@ returns c = λ s h. rw (sym (c .before .before .is .ensures) ∙ c .before .if1 
 
 returns-2 : tie.Need-returns-2
 unfolding kernelOf freeObject
-returns-2 c = λ s h. rw (sym (c .before .before .makes .ensures) ∙ c .before .if2 .taken, sym (c .before .before .before .before .is .ensures) ∙ c .before .before .before .if1 .left) (c .free-object .ensures ∙ rw h (free-object-of (s .objects)))
+returns-2 c = λ s h. rw (sym (c .before .before .makes .ensures) ∙ c .before .if2 .taken)
+    (rw (sym (c .before .before .before .before .is .ensures) ∙ c .before .before .before .if1 .left) (c .free-object .ensures ∙ rw h (free-object-of (s .objects))))
 
 returns-3 : tie.Need-returns-3
 returns-3 c = λ s h. rw (sym (c .before .makes .ensures) ∙ c .if2 .left)

@@ -14,7 +14,8 @@ returns-2 c = λ s h. rw (← c .before .before .before .first-waiter .ensures s
 
 returns-3 : tie.Need-returns-3
 unfolding outlet
-returns-3 c = λ s h. rw (← c .before .before .before .before .before .before .first-waiter .ensures s h, c .before .before .before .before .t .given .1, ne-eqb _ _ (c .before .if1 .left)) (c .room-or2 .ensures)
+returns-3 c = λ s h. rw (← c .before .before .before .before .before .before .first-waiter .ensures s h, c .before .before .before .before .t .given .1)
+    (rw (ne-eqb _ _ (c .before .if1 .left)) (c .room-or2 .ensures))
 
 pub outlet-spec : {M : Type 1} → statement M
 outlet-spec =

@@ -30,11 +30,15 @@ refilled-by-requires c κs =
 returns-2 : tie.Need-returns-2
 unfolding received storeReceived
 returns-2 c =
-    let less = c .before .before .before .before .before .before .before .before .before .before .before .before .before .one-less .ensures in
-    let who = c .before .before .before .before .before .before .before .before .before .before .before .before .before .before .waiter .ensures .0 in
-    let some = c .before .before .before .before .before .before .before .before .before .before .before .before .before .before .before .before .if1 .left in
-    let oldest = c .before .before .before .before .before .before .before .before .before .before .before .of-ring .ensures in
-    let slip = c .before .before .before .before .before .before .before .to-slip .ensures in (
+    let c4 = c .before .before .before .before in
+    let c8 = c4 .before .before .before .before in
+    let c12 = c8 .before .before .before .before in
+    let c16 = c12 .before .before .before .before in
+    let less = c12 .before .one-less .ensures in
+    let who = c12 .before .before .waiter .ensures .0 in
+    let some = c16 .if1 .left in
+    let oldest = c8 .before .before .before .of-ring .ensures in
+    let slip = c4 .before .before .before .to-slip .ensures in (
       λ s h. rw (ne-eqb _ _ some) (c .refilled-by .ensures s h ∙ rw (less, who s h)),
       λ s h. rw (ne-eqb _ _ some) (c .before .before .before .refill .ensures ∙ rw (slip, oldest, less, who s h, same-running _ s h)),
     )

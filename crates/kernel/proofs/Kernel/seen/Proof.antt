@@ -11,12 +11,14 @@ use Rattle.kernel.proofs.Kernel.seen.Tie as tie
 
 returns : tie.Need-returns
 unfolding noSlot
-returns c = λ s h. record {
-  words = rw (c .before .before .before .before .task .ensures s h, c .before .before .kind .ensures s h, same-running _ s h, same-hold _ s h, same-pended _ s h);
-  slot = ap (λ (n : ℕ). eqb n 16) (c .before .new-slot .ensures s h) ∙ no-slot (makes (c .before .before .before .before .before .args .a)) (newSlot s (c .before .before .before .before .before .args .a));
-  used = c .used .ensures s h;
-  new = λ m. c .before .new-slot .ensures s h ∙ rw m;
-}
+returns c =
+    let a = c .before .before .before .before .before .args in
+    λ s h. record {
+      words = rw (c .before .before .before .before .task .ensures s h, c .before .before .kind .ensures s h, same-running _ s h, same-hold _ s h, same-pended _ s h);
+      slot = ap (λ (n : ℕ). eqb n 16) (c .before .new-slot .ensures s h) ∙ no-slot (makes (a .a)) (newSlot s (a .a));
+      used = c .used .ensures s h;
+      new = λ m. c .before .new-slot .ensures s h ∙ rw m;
+    }
 
 pub seen-spec : {M : Type 1} → statement M
 seen-spec =

@@ -29,10 +29,13 @@ returns c =
 returns-2 : tie.Need-returns-2
 unfolding sent storeSent
 returns-2 c =
-    let x = c .before .before .before .before .before .before .before .before .outlet .ensures in
-    let told = c .before .before .before .before .before .before .enum-told .given .1 in
-    let size = c .before .before .before .before .before .before .before .before .before .before .before .before .pre .3 in
-    (λ s h. rw (← x s h, told) (c .with-object .ensures s h ∙ rw (c .before .one-more .ensures)), λ s h. rw (← x s h, told) (c .before .before .before .before .to-ring .ensures ∙ rw (← size, take-length)))
+    let c4 = c .before .before .before .before in
+    let c8 = c4 .before .before .before .before in
+    let c12 = c8 .before .before .before .before in
+    let x = c8 .outlet .ensures in
+    let told = c4 .before .before .enum-told .given .1 in
+    let size = c12 .pre .3 in
+    (λ s h. rw (← x s h, told) (c .with-object .ensures s h ∙ rw (c .before .one-more .ensures)), λ s h. rw (← x s h, told) (c4 .to-ring .ensures ∙ rw (← size, take-length)))
 
 returns-3 : tie.Need-returns-3
 unfolding sent storeSent

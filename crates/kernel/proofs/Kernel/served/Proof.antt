@@ -11,25 +11,37 @@ use Rattle.kernel.proofs.Kernel.served.Statement.{statement}
 use Rattle.kernel.proofs.Kernel.served.Tie as tie
 
 cast-create : tie.Need-cast-create
-cast-create c = let o = c .before .before .before .before in let r = in-range (o .args .self) (o .pre .0) (o .args .a) (length (o .args .item .now)) (length (o .args .store .now)) (o .pre .1) in omega (arith, r .low)
+cast-create c =
+    let o = c .before .before .before .before in
+    let r = in-range (o .args .self) (o .pre .0) (o .args .a) (length (o .args .item .now)) (length (o .args .store .now)) (o .pre .1) in omega (arith, r .low)
 
 create-requires : tie.Need-create-requires
 create-requires c κs = let o = c .before .before .before .before in task-slot (o .args .a) (o .pre .2) (c .before .match .keys1)
 
 cast-new-priority : tie.Need-cast-new-priority
-cast-new-priority c = let o = c .before .before .before .before in let r = in-range (o .args .self) (o .pre .0) (o .args .a) (length (o .args .item .now)) (length (o .args .store .now)) (o .pre .1) in omega (arith, r .low)
+cast-new-priority c =
+    let o = c .before .before .before .before in
+    let r = in-range (o .args .self) (o .pre .0) (o .args .a) (length (o .args .item .now)) (length (o .args .store .now)) (o .pre .1) in omega (arith, r .low)
 
 hold-deeper-requires : tie.Need-hold-deeper-requires
-hold-deeper-requires c κs = let o = c .before .before .before in may-hold (o .args .self) (o .pre .0) (o .args .a) (length (o .args .item .now)) (length (o .args .store .now)) (o .pre .1) (c .match .keys8)
+hold-deeper-requires c κs =
+    let o = c .before .before .before in
+    may-hold (o .args .self) (o .pre .0) (o .args .a) (length (o .args .item .now)) (length (o .args .store .now)) (o .pre .1) (c .match .keys8)
 
 release-requires : tie.Need-release-requires
-release-requires c κs = let o = c .before .before .before in may-release (o .args .self) (o .pre .0) (o .args .a) (length (o .args .item .now)) (length (o .args .store .now)) (o .pre .1) (c .match .keys9)
+release-requires c κs =
+    let o = c .before .before .before in
+    may-release (o .args .self) (o .pre .0) (o .args .a) (length (o .args .item .now)) (length (o .args .store .now)) (o .pre .1) (c .match .keys9)
 
 cast-make-queue : tie.Need-cast-make-queue
-cast-make-queue c = let o = c .before .before .before .before in let r = in-range (o .args .self) (o .pre .0) (o .args .a) (length (o .args .item .now)) (length (o .args .store .now)) (o .pre .1) in omega (arith, r .few)
+cast-make-queue c =
+    let o = c .before .before .before .before in
+    let r = in-range (o .args .self) (o .pre .0) (o .args .a) (length (o .args .item .now)) (length (o .args .store .now)) (o .pre .1) in omega (arith, r .few)
 
 cast-make-queue-2 : tie.Need-cast-make-queue-2
-cast-make-queue-2 c = let o = c .before .before .before .before .before in let r = in-range (o .args .self) (o .pre .0) (o .args .a) (length (o .args .item .now)) (length (o .args .store .now)) (o .pre .1) in omega (arith, r .small)
+cast-make-queue-2 c =
+    let o = c .before .before .before .before .before in
+    let r = in-range (o .args .self) (o .pre .0) (o .args .a) (length (o .args .item .now)) (length (o .args .store .now)) (o .pre .1) in omega (arith, r .small)
 
 make-queue-requires : tie.Need-make-queue-requires
 make-queue-requires c κs = let o = c .before .before .before .before .before in queue-slot (o .args .a) (o .pre .2) (c .before .before .match .keys10)
@@ -38,13 +50,22 @@ make-mutex-requires : tie.Need-make-mutex-requires
 make-mutex-requires c κs = let o = c .before .before .before in mutex-slot (o .args .a) (o .pre .2) (c .match .keys11)
 
 send-requires : tie.Need-send-requires
-send-requires c κs = let o = c .before .before .before .before in (o .pre .0, right-size (o .args .self) (o .pre .0) (o .args .a) (length (o .args .item .now)) (length (o .args .store .now)) (o .pre .1) (c .before .match .keys13), whole (o .args .self) (o .pre .0) (o .args .a) (length (o .args .item .now)) (length (o .args .store .now)) (o .pre .1))
+send-requires c κs =
+    let o = c .before .before .before .before in (
+      o .pre .0,
+      right-size (o .args .self) (o .pre .0) (o .args .a) (length (o .args .item .now)) (length (o .args .store .now)) (o .pre .1) (c .before .match .keys13),
+      whole (o .args .self) (o .pre .0) (o .args .a) (length (o .args .item .now)) (length (o .args .store .now)) (o .pre .1),
+    )
 
 receive-requires : tie.Need-receive-requires
-receive-requires c κs = let o = c .before .before .before .before in (o .pre .0, whole (o .args .self) (o .pre .0) (o .args .a) (length (o .args .item .now)) (length (o .args .store .now)) (o .pre .1))
+receive-requires c κs =
+    let o = c .before .before .before .before in
+    (o .pre .0, whole (o .args .self) (o .pre .0) (o .args .a) (length (o .args .item .now)) (length (o .args .store .now)) (o .pre .1))
 
 tick-on-requires : tie.Need-tick-on-requires
-tick-on-requires c κs = let o = c .before .before .before in may-tick (o .args .self) (o .pre .0) (o .args .a) (length (o .args .item .now)) (length (o .args .store .now)) (o .pre .1) (c .match .keys17)
+tick-on-requires c κs =
+    let o = c .before .before .before in
+    may-tick (o .args .self) (o .pre .0) (o .args .a) (length (o .args .item .now)) (length (o .args .store .now)) (o .pre .1) (c .match .keys17)
 
 returns : tie.Need-returns
 unfolding effect stored
@@ -84,7 +105,9 @@ returns-9 c = (λ s h. rw (c .before .match .keys9) (c .release .ensures s h), �
 
 returns-10 : tie.Need-returns-10
 unfolding effect stored
-returns-10 c = (λ s h. rw (c .before .before .before .match .keys10) (c .make-queue .ensures s h), λ s h. rw (c .before .before .before .match .keys10))
+returns-10 c =
+    let match = c .before .before .before .match in
+    (λ s h. rw (match .keys10) (c .make-queue .ensures s h), λ s h. rw (match .keys10))
 
 returns-11 : tie.Need-returns-11
 unfolding effect stored
@@ -96,11 +119,15 @@ returns-12 c = (λ s h. rw (c .before .match .keys12) (c .with-object .ensures s
 
 returns-13 : tie.Need-returns-13
 unfolding effect stored
-returns-13 c = (λ s h. rw (c .before .before .before .before .match .keys13) (c .before .before .send .ensures .0 s h), λ s h. rw (c .before .before .before .before .match .keys13) (c .before .before .send .ensures .1 s h))
+returns-13 c =
+    let match = c .before .before .before .before .match in
+    (λ s h. rw (match .keys13) (c .before .before .send .ensures .0 s h), λ s h. rw (match .keys13) (c .before .before .send .ensures .1 s h))
 
 returns-14 : tie.Need-returns-14
 unfolding effect stored
-returns-14 c = (λ s h. rw (c .before .before .before .before .match .keys14) (c .before .before .receive .ensures .0 s h), λ s h. rw (c .before .before .before .before .match .keys14) (c .before .before .receive .ensures .1 s h))
+returns-14 c =
+    let match = c .before .before .before .before .match in
+    (λ s h. rw (match .keys14) (c .before .before .receive .ensures .0 s h), λ s h. rw (match .keys14) (c .before .before .receive .ensures .1 s h))
 
 returns-15 : tie.Need-returns-15
 unfolding effect stored
@@ -116,7 +143,30 @@ returns-17 c = (λ s h. rw (c .before .match .keys17) (c .tick-on .ensures s h),
 
 returns-18 : tie.Need-returns-18
 unfolding effect stored
-returns-18 c = let r = c .match .rest in let a = c .before .before .before .args .a .number in (λ s h. rw (ne-eqb a 1 (r .0 .0 .0 .0 .0 .0 .0 .0 .0 .0 .0 .0 .0 .0 .0 .0 .1), ne-eqb a 2 (r .0 .0 .0 .0 .0 .0 .0 .0 .0 .0 .0 .0 .0 .0 .0 .1), ne-eqb a 3 (r .0 .0 .0 .0 .0 .0 .0 .0 .0 .0 .0 .0 .0 .0 .1), ne-eqb a 4 (r .0 .0 .0 .0 .0 .0 .0 .0 .0 .0 .0 .0 .0 .1), ne-eqb a 5 (r .0 .0 .0 .0 .0 .0 .0 .0 .0 .0 .0 .0 .1), ne-eqb a 6 (r .0 .0 .0 .0 .0 .0 .0 .0 .0 .0 .0 .1), ne-eqb a 7 (r .0 .0 .0 .0 .0 .0 .0 .0 .0 .0 .1), ne-eqb a 8 (r .0 .0 .0 .0 .0 .0 .0 .0 .0 .1), ne-eqb a 9 (r .0 .0 .0 .0 .0 .0 .0 .0 .1), ne-eqb a 10 (r .0 .0 .0 .0 .0 .0 .0 .1), ne-eqb a 11 (r .0 .0 .0 .0 .0 .0 .1), ne-eqb a 12 (r .0 .0 .0 .0 .0 .1), ne-eqb a 13 (r .0 .0 .0 .0 .1), ne-eqb a 14 (r .0 .0 .0 .1), ne-eqb a 15 (r .0 .0 .1), ne-eqb a 16 (r .0 .1), ne-eqb a 17 (r .1)) h, λ s h. rw (ne-eqb a 13 (r .0 .0 .0 .0 .1), ne-eqb a 14 (r .0 .0 .0 .1)))
+returns-18 c =
+    let r = c .match .rest in
+    let a = c .before .before .before .args .a .number in (
+      λ s h. rw (
+        ne-eqb a 1 (r .0 .0 .0 .0 .0 .0 .0 .0 .0 .0 .0 .0 .0 .0 .0 .0 .1),
+        ne-eqb a 2 (r .0 .0 .0 .0 .0 .0 .0 .0 .0 .0 .0 .0 .0 .0 .0 .1),
+        ne-eqb a 3 (r .0 .0 .0 .0 .0 .0 .0 .0 .0 .0 .0 .0 .0 .0 .1),
+        ne-eqb a 4 (r .0 .0 .0 .0 .0 .0 .0 .0 .0 .0 .0 .0 .0 .1),
+        ne-eqb a 5 (r .0 .0 .0 .0 .0 .0 .0 .0 .0 .0 .0 .0 .1),
+        ne-eqb a 6 (r .0 .0 .0 .0 .0 .0 .0 .0 .0 .0 .0 .1),
+        ne-eqb a 7 (r .0 .0 .0 .0 .0 .0 .0 .0 .0 .0 .1),
+        ne-eqb a 8 (r .0 .0 .0 .0 .0 .0 .0 .0 .0 .1),
+        ne-eqb a 9 (r .0 .0 .0 .0 .0 .0 .0 .0 .1),
+        ne-eqb a 10 (r .0 .0 .0 .0 .0 .0 .0 .1),
+        ne-eqb a 11 (r .0 .0 .0 .0 .0 .0 .1),
+        ne-eqb a 12 (r .0 .0 .0 .0 .0 .1),
+        ne-eqb a 13 (r .0 .0 .0 .0 .1),
+        ne-eqb a 14 (r .0 .0 .0 .1),
+        ne-eqb a 15 (r .0 .0 .1),
+        ne-eqb a 16 (r .0 .1),
+        ne-eqb a 17 (r .1),
+      ) h,
+      λ s h. rw (ne-eqb a 13 (r .0 .0 .0 .0 .1), ne-eqb a 14 (r .0 .0 .0 .1)),
+    )
 
 pub served-spec : {M : Type 1} → statement M
 served-spec =

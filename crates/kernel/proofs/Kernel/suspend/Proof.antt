@@ -10,9 +10,12 @@ use Rattle.kernel.proofs.Kernel.suspend.Tie as tie
 
 returns : tie.Need-returns
 unfolding suspended
-returns c = λ s h.
-    rw (ap (λ (x : Task). isListed (x .place)) (sym (c .before .before .before .before .before .task .ensures s h)) ∙ sym (c .before .before .before .before .is-listed .ensures) ∙ c .before .before .before .if1 .taken)
-    (c .leaves .ensures (withTask s (c .before .before .before .before .before .before .args .t) (brokenOff (taskAt (s .tasks) (c .before .before .before .before .before .before .args .t)))) (c .before .with-task .ensures s h ∙ rw (c .before .before .broken-off .ensures, c .before .before .before .before .before .task .ensures s h)))
+returns c =
+    let task = c .before .before .before .before .before .task in
+    let a = c .before .before .before .before .before .before .args in
+    λ s h.
+    rw (ap (λ (x : Task). isListed (x .place)) (sym (task .ensures s h)) ∙ sym (c .before .before .before .before .is-listed .ensures) ∙ c .before .before .before .if1 .taken)
+    (c .leaves .ensures (withTask s (a .t) (brokenOff (taskAt (s .tasks) (a .t)))) (c .before .with-task .ensures s h ∙ rw (c .before .before .broken-off .ensures, task .ensures s h)))
 
 returns-2 : tie.Need-returns-2
 unfolding suspended

@@ -15,11 +15,15 @@ returns-2 c = λ s h. rw (sym (c .before .before .kind .ensures s h) ∙ c .enum
 
 returns-3 : tie.Need-returns-3
 unfolding taken
-returns-3 c = λ s h. rw (sym (c .before .before .before .before .before .before .kind .ensures s h) ∙ c .before .before .before .before .h .given .1, c .before .enum-told3 .given .1) (c .with-object .ensures s h ∙ rw (same-running _ s h))
+returns-3 c = λ s h. rw (sym (c .before .before .before .before .before .before .kind .ensures s h) ∙ c .before .before .before .before .h .given .1)
+    (rw (c .before .enum-told3 .given .1) (c .with-object .ensures s h ∙ rw (same-running _ s h)))
 
 returns-4 : tie.Need-returns-4
 unfolding taken
-returns-4 c = λ s h. rw (sym (c .before .before .before .before .before .before .before .before .kind .ensures s h) ∙ c .before .before .before .before .before .before .h .given .1, c .before .before .before .h2 .given .1) (c .wait-for .ensures _ (c .before .lent .ensures s h))
+returns-4 c =
+    let c4 = c .before .before .before .before in
+    λ s h. rw (sym (c4 .before .before .before .before .kind .ensures s h) ∙ c4 .before .before .h .given .1, c .before .before .before .h2 .given .1)
+    (c .wait-for .ensures _ (c .before .lent .ensures s h))
 
 pub take-spec : {M : Type 1} → statement M
 take-spec =

@@ -10,7 +10,9 @@ use Rattle.kernel.proofs.Kernel.tick_on.Statement.{statement}
 use Rattle.kernel.proofs.Kernel.tick_on.Tie as tie
 
 add-with-hold : tie.Need-add-with-hold
-add-with-hold c = let h = tick-room (c .before .before .before .args .self .hold) (c .before .before .before .args .self .pended) (c .before .if1 .taken) (omega arith) (c .before .before .before .pre) in omega arith
+add-with-hold c =
+    let a = c .before .before .before .args in
+    let h = tick-room (a .self .hold) (a .self .pended) (c .before .if1 .taken) (omega arith) (c .before .before .before .pre) in omega arith
 
 returns : tie.Need-returns
 unfolding ticked

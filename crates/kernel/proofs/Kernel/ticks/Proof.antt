@@ -14,10 +14,16 @@ loop-holds : tie.Need-loop-holds Inv-loop μ-loop
 loop-holds c = begins (c .args .self) (c .args .n)
 
 returns : tie.Need-returns Inv-loop μ-loop
-returns c = jumps-all (c .before .before .before .before .before .loop .inv) (c .before .before .before .until-due .result) (c .before .before .before .until-due .ensures .1) (c .before .before .before .until-due .ensures .0) (c .before .before .if1 .taken) (c .before .wrapping-add-u32 .ensures) (c .with-tick .ensures)
+returns c =
+    let until-due = c .before .before .before .until-due in
+    jumps-all (c .before .before .before .before .before .loop .inv) (until-due .result) (until-due .ensures .1) (until-due .ensures .0) (c .before .before .if1 .taken)
+    (c .before .wrapping-add-u32 .ensures) (c .with-tick .ensures)
 
 loop-again : tie.Need-loop-again Inv-loop μ-loop
-loop-again c = jumps-on (c .before .before .before .before .before .before .loop .inv) (c .before .before .before .before .until-due .result) (c .before .before .before .before .until-due .ensures .1) (c .before .before .before .before .until-due .ensures .0) (omega (arith, c .before .before .before .if1 .left)) (c .before .before .wrapping-add-u322 .ensures) (c .before .with-tick2 .ensures) (c .one-tick .ensures)
+loop-again c =
+    let until-due = c .before .before .before .before .until-due in
+    jumps-on (c .before .before .before .before .before .before .loop .inv) (until-due .result) (until-due .ensures .1) (until-due .ensures .0)
+    (omega (arith, c .before .before .before .if1 .left)) (c .before .before .wrapping-add-u322 .ensures) (c .before .with-tick2 .ensures) (c .one-tick .ensures)
 
 returns-2 : tie.Need-returns-2 Inv-loop μ-loop
 returns-2 c = none-left (c .before .loop .inv) (omega (arith, c .loop-test))

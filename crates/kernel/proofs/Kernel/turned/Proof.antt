@@ -10,7 +10,8 @@ returns : tie.Need-returns
 returns c = λ s h. h ∙ ap kernelOf (no-turn _ s _ _ h (c .before .before .task .ensures s h) (c .before .higher .ensures) (c .if1 .taken))
 
 returns-2 : tie.Need-returns-2
-returns-2 c = λ s h. c .to-tail .ensures s h ∙ rw (same-running _ s h) (ap kernelOf (turn-goes _ s _ _ h (c .before .before .before .task .ensures s h) (c .before .before .higher .ensures) (c .before .if1 .left)))
+returns-2 c = λ s h. c .to-tail .ensures s h
+    ∙ rw (same-running _ s h) (ap kernelOf (turn-goes _ s _ _ h (c .before .before .before .task .ensures s h) (c .before .before .higher .ensures) (c .before .if1 .left)))
 
 pub turned-spec : {M : Type 1} → statement M
 turned-spec = tie.close (tie.spec (λ c κs. search needs) (λ c κs. search needs) (λ c κs. search needs) returns returns-2)

@@ -17,7 +17,8 @@ returns c = λ s h.
 
 returns-2 : tie.Need-returns-2
 unfolding inUse
-returns-2 c = λ s h. c .held-or-waited .ensures s h ∙ sym (rw (sym (c .before .before .before .before .is .ensures) ∙ c .before .before .before .if1 .left, sym (c .before .before .is2 .ensures) ∙ c .before .if2 .taken))
+returns-2 c = λ s h. c .held-or-waited .ensures s h ∙ sym (rw (sym (c .before .before .before .before .is .ensures) ∙ c .before .before .before .if1 .left)
+    (rw (sym (c .before .before .is2 .ensures) ∙ c .before .if2 .taken)))
 
 returns-3 : tie.Need-returns-3
 unfolding inUse

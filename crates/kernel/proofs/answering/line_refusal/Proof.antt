@@ -11,10 +11,14 @@ returns-2 : tie.Need-returns-2
 returns-2 c = rw (on (c .before .before .before .args .fine) (c .before .before .if1 .left), c .enum-told .given .1)
 
 returns-3 : tie.Need-returns-3
-returns-3 c = rw (on (c .before .before .before .before .args .fine) (c .before .before .before .if1 .left), c .before .enum-told2 .given .1, eq-eqb (c .before .before .before .before .args .len) 9216 (c .if2 .taken))
+returns-3 c =
+    let a = c .before .before .before .before .args in
+    rw (on (a .fine) (c .before .before .before .if1 .left), c .before .enum-told2 .given .1, eq-eqb (a .len) 9216 (c .if2 .taken))
 
 returns-4 : tie.Need-returns-4
-returns-4 c = rw (on (c .before .before .before .before .args .fine) (c .before .before .before .if1 .left), c .before .enum-told2 .given .1, ne-eqb (c .before .before .before .before .args .len) 9216 (c .if2 .left))
+returns-4 c =
+    let a = c .before .before .before .before .args in
+    rw (on (a .fine) (c .before .before .before .if1 .left), c .before .enum-told2 .given .1, ne-eqb (a .len) 9216 (c .if2 .left))
 
 pub line-refusal-spec : {M : Type 1} → statement M
 line-refusal-spec =

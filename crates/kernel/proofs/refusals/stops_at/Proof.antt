@@ -21,10 +21,14 @@ returns-2 c =
     c .is-empty .ensures ∙ sym (rw (sym (c .before .before .before .before .is .ensures) ∙ c .before .before .before .if1 .left, e, is-not 14 15 a (λ z. omega arith) e) (or-false _))
 
 returns-3 : tie.Need-returns-3
-returns-3 c = rw (sym (c .before .before .before .before .before .before .is .ensures) ∙ c .before .before .before .before .before .if1 .left, sym (c .before .before .before .before .is2 .ensures) ∙ c .before .before .before .if2 .left, sym (c .before .before .is3 .ensures) ∙ c .before .if3 .taken) (c .is-held .ensures)
+returns-3 c = rw (sym (c .before .before .before .before .before .before .is .ensures) ∙ c .before .before .before .before .before .if1 .left)
+    (rw (sym (c .before .before .before .before .is2 .ensures) ∙ c .before .before .before .if2 .left)
+    (rw (sym (c .before .before .is3 .ensures) ∙ c .before .if3 .taken)
+    (c .is-held .ensures)))
 
 returns-4 : tie.Need-returns-4
-returns-4 c = rw (sym (c .before .before .before .before .before .is .ensures) ∙ c .before .before .before .before .if1 .left, sym (c .before .before .before .is2 .ensures) ∙ c .before .before .if2 .left, sym (c .before .is3 .ensures) ∙ c .if3 .left)
+returns-4 c = rw (sym (c .before .before .before .before .before .is .ensures) ∙ c .before .before .before .before .if1 .left)
+    (rw (sym (c .before .before .before .is2 .ensures) ∙ c .before .before .if2 .left, sym (c .before .is3 .ensures) ∙ c .if3 .left))
 
 pub stops-at-spec : {M : Type 1} → statement M
 stops-at-spec =

@@ -20,8 +20,9 @@ loop-holds c = (set-out, search needs)
 
 returns : tie.Need-returns Inv-loop μ-loop
 returns c =
-    let f : Full (c .before .before .before .before .args .self) = search needs in
-    found (c .before .before .loop .inv .0) (omega arith) 0 (eq-eqb _ 0 (c .if1 .taken)) ∙ unused-first (c .before .before .before .before .args .self)
+    let a = c .before .before .before .before .args in
+    let f : Full (a .self) = search needs in
+    found (c .before .before .loop .inv .0) (omega arith) 0 (eq-eqb _ 0 (c .if1 .taken)) ∙ unused-first (a .self)
 
 loop-again : tie.Need-loop-again Inv-loop μ-loop
 loop-again c =
@@ -30,9 +31,10 @@ loop-again c =
 
 returns-2 : tie.Need-returns-2 Inv-loop μ-loop
 returns-2 c =
-    let f : Full (c .before .before .before .args .self) = search needs in
+    let a = c .before .before .before .args in
+    let f : Full (a .self) = search needs in
     let at16 : c .before .loop .i ≡ 16 = omega arith in
-    sym at16 ∙ missed (c .before .loop .inv .0) (omega arith) ∙ unused-first (c .before .before .before .args .self)
+    sym at16 ∙ missed (c .before .loop .inv .0) (omega arith) ∙ unused-first (a .self)
 
 pub free-object-spec : {M : Type 1} → statement M
 free-object-spec =
