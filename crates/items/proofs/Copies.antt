@@ -59,7 +59,8 @@ copied d xs n i q = go (ltb i n) refl (ltb i (length xs)) refl
         let m : n ≡ i + (n - i) = omega (arith, ltb-true i n e) in
         let w : length (take i xs) ≡ i = rw length-take (omega (arith, ltb-true i (length xs) f)) in
         let past : length (sets d 0 (take i xs)) ≤ i = rw length-sets (omega (arith, ltb-true i (length xs) f, ltb-true i n e)) in
-        sym (ap (λ z. sets d 0 (take z xs)) m ∙ rw (take-add i (n - i) xs, sets-append (take i xs) (take (n - i) (drop i xs)) d 0, w, zero-add) (sets-past (take (n - i) (drop i xs)) (sets d 0 (take i xs)) i past))
+        sym (ap (λ z. sets d 0 (take z xs)) m
+        ∙ rw (take-add i (n - i) xs, sets-append (take i xs) (take (n - i) (drop i xs)) d 0, w, zero-add) (sets-past (take (n - i) (drop i xs)) (sets d 0 (take i xs)) i past))
 
 pub copy-done : {d xs : List ℕ} {n e i : ℕ} {r : List ℕ} → Copying d xs n r e i → e ≤ i → r ≡ sets d 0 (take n xs)
 copy-done {d} {xs} {n} {i = i} c h = c .so ∙ copied d xs n i (omega arith)

@@ -103,7 +103,10 @@ woke f s t e = go (wakesAt (s .tick) (taskAt (s .tasks) t .place))
 wakes-columns : (s : State) (l : List TaskSlot) → wakesIn (s .tick) (woken (tasksOf (s .tasks)) (s .order)) l ≡ woken (tasksOf (wakes s l .tasks)) (wakes s l .order)
 unfolding wakes wokenIfDue readied toTail
 wakes-columns s l =
-    wakes-by (λ z. z .tasks) (λ z. z .order) (λ z. z .tick) wokenIfDue (λ z t. ticks z t (wakesAt (z .tick) (taskAt (z .tasks) t .place))) (λ z t. sets z t (wakesAt (z .tick) (taskAt (z .tasks) t .place))) (λ z t. tails z t (wakesAt (z .tick) (taskAt (z .tasks) t .place))) s l
+    wakes-by (λ z. z .tasks) (λ z. z .order) (λ z. z .tick) wokenIfDue
+    (λ z t. ticks z t (wakesAt (z .tick) (taskAt (z .tasks) t .place)))
+    (λ z t. sets z t (wakesAt (z .tick) (taskAt (z .tasks) t .place)))
+    (λ z t. tails z t (wakesAt (z .tick) (taskAt (z .tasks) t .place))) s l
   where
     ready : State → TaskSlot → State
     ready z t = readied z t (outcomeDue (taskAt (z .tasks) t .place))
@@ -121,7 +124,8 @@ wakes-columns s l =
     tails z t false = refl
 
 pub wakes-done : (s : State) (l : List TaskSlot) (w : Woken) → w ≡ wakesIn (s .tick) (woken (tasksOf (s .tasks)) (s .order)) l
-    → _≡_ {A = Kernel} (record { tasks = w .tasks; objects = objectsOf (s .objects); order = w .order; running = s .running; tick = s .tick; hold = s .hold; pended = s .pended }) (kernelOf (wakes s l))
+    → _≡_ {A = Kernel} (record { tasks = w .tasks; objects = objectsOf (s .objects); order = w .order; running = s .running; tick = s .tick; hold = s .hold; pended = s .pended })
+    (kernelOf (wakes s l))
 unfolding kernelOf wakes readied toTail
 wakes-done s l w e = λ i. record {
   tasks = (e ∙ wakes-columns s l) i .tasks;

@@ -1,6 +1,7 @@
 // The refusal table: a method for each row, and the first row that applies. A row that speaks of one call looks at the call's number first.
 ghost use mathlib.Core.Path.{_≡_};
-ghost use Rattle.rules.specs.Refusals.{outOfRange, namesNone, sizeDiffers, wrongSize, notForIdle, notWithHold, notHis, hisAlready, notSuspended, isFull, isEmpty, stopsAt, mustWait, noDepth, noTick, firstRow, heldOrWaited, inUse, seen, orRow, row, table};
+ghost use Rattle.rules.specs.Refusals.{outOfRange, namesNone, sizeDiffers, wrongSize, notForIdle, notWithHold, notHis, hisAlready, notSuspended, isFull, isEmpty, stopsAt, mustWait, noDepth, noTick};
+ghost use Rattle.rules.specs.Refusals.{firstRow, heldOrWaited, inUse, orRow, row, seen, table};
 ghost use Rattle.kernel.specs.Does.{Reads};
 ghost use Rattle.kernel.specs.Stands.{seenOf};
 ghost use Rattle.rules.specs.Asking.{makes, newSlot};

@@ -108,7 +108,8 @@ impl Kernel {
 
     fn send(self, o: ObjSlot, w: u32, item: &[u8], store: &mut [u8]) -> Kernel
         requires { ⌜ Firm self × (sizeDiffers (length (now item)) (kindAt (shown self .objects) o) ≡ false) × (length (now store) ≡ 9216) ⌝ }
-        ensures { λ r. ⌜ Does self (λ s. sentTo s o (kindAt (s .objects) o) w) r × Reads self (λ s. storeSentTo s o (kindAt (s .objects) o) (now (item .entry)) (now (store .entry))) (now (store .exit)) ⌝ }
+        ensures { λ r. ⌜ Does self (λ s. sentTo s o (kindAt (s .objects) o) w) r
+            × Reads self (λ s. storeSentTo s o (kindAt (s .objects) o) (now (item .entry)) (now (store .entry))) (now (store .exit)) ⌝ }
     {
         match self.kind(o) {
             Kind::Unused => self,

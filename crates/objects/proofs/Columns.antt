@@ -71,7 +71,9 @@ module _ (os : Objects) (f : Full os) (n : ℕ) (h : 16 ≤ n) where
   pub lost-kind : (k : Kind) → putKind os n k ≡ os
   unfolding putKind
   lost-kind k =
-      rw (set-out (os .state) n (cellsOf k .state) (omega arith), set-out (os .capacity) n (cellsOf k .capacity) (omega arith), set-out (os .size) n (cellsOf k .size) (omega arith), set-out (os .first) n (cellsOf k .first) (omega arith), set-out (os .count) n (cellsOf k .count) (omega arith), set-out (os .holder) n (cellsOf k .holder) (omega arith))
+      rw (set-out (os .state) n (cellsOf k .state) (omega arith), set-out (os .capacity) n (cellsOf k .capacity) (omega arith))
+      (rw (set-out (os .size) n (cellsOf k .size) (omega arith), set-out (os .first) n (cellsOf k .first) (omega arith))
+      (rw (set-out (os .count) n (cellsOf k .count) (omega arith), set-out (os .holder) n (cellsOf k .holder) (omega arith))))
 
 -- the list has sixteen objects, and each is its row
 pub rows-length : (os : Objects) (i n : ℕ) → length (rowsFrom os i n) ≡ n

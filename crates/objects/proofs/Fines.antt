@@ -1,7 +1,7 @@
 -- The tests in numbers are those in words.
 use Prim.Native.Nat.{ℕ, zero, suc, _+_, _*_, _<_, _≤_, min}
 use mathlib.Core.Path.{_≡_, refl, sym, ap, _∙_}
-use mathlib.Core.Bool.{Bool, true, false, not, _&&_, _||_}
+use mathlib.Core.Bool.{Bool, true, false, not, _&&_, _||_, or-false}
 use mathlib.Core.List.{List}
 use native.Mathlib.Omega.{arith}
 use lib.Dec.{eqb, ltb, leb}
@@ -49,7 +49,11 @@ fines-are os = all-same 16 (λ n. rowFine (cellsAt os n)) (fineAt os) (λ n l. f
 -- who holds
 holder-is : (os : Objects) (n : ℕ) → holderOf (kindIn os n) .0 ≡ (if leb 3 (getD (os .state) n 0) then getD (os .holder) n 0 else 16)
 unfolding kindIn kindOf
-holder-is os n = by-state (λ s. holderOf (kindOf (six s (getD (os .capacity) n 0) (getD (os .size) n 0) (getD (os .first) n 0) (getD (os .count) n 0) (getD (os .holder) n 0))) .0 ≡ (if leb 3 s then getD (os .holder) n 0 else 16)) refl refl refl (λ s l. rw (held os n s l, le-leb 3 s l)) (getD (os .state) n 0)
+holder-is os n =
+    by-state
+    (λ s. holderOf (kindOf (six s (getD (os .capacity) n 0) (getD (os .size) n 0) (getD (os .first) n 0) (getD (os .count) n 0) (getD (os .holder) n 0))) .0
+    ≡ (if leb 3 s then getD (os .holder) n 0 else 16))
+    refl refl refl (λ s l. rw (held os n s l, le-leb 3 s l)) (getD (os .state) n 0)
 
 -- the marks of the rows, in numbers
 abbrev pub marking : List ℕ → List ℕ → List Bool → ℕ → List Bool
@@ -92,13 +96,14 @@ marks-end os f {c} {i} inv e = go (eqb (holdingIn os) 0) refl
 -- who may wait
 pub wait-is : (os : Objects) (t : TaskSlot) (n : ℕ) → (openAt os n || (takenAt os n && not (eqb (getD (os .holder) n 0) (t .0)))) ≡ mayWait t (kindIn os n)
 unfolding kindIn kindOf
-wait-is os t n = by-state (λ s. ((eqb s 1 && (eqb (getD (os .count) n 0) 0 || eqb (getD (os .count) n 0) (getD (os .capacity) n 0))) || (leb 3 s && not (eqb (getD (os .holder) n 0) (t .0)))) ≡ mayWait t (kindOf (six s (getD (os .capacity) n 0) (getD (os .size) n 0) (getD (os .first) n 0) (getD (os .count) n 0) (getD (os .holder) n 0)))) refl (or-false _) refl (λ s l. rw (held os n s l, le-leb 3 s l, ne-eqb s 1 (λ e. omega arith))) (getD (os .state) n 0)
-  where
-    or-false : (b : Bool) → (b || false) ≡ b
-    or-false true = refl
-    or-false false = refl
+wait-is os t n =
+    by-state
+    (λ s. ((eqb s 1 && (eqb (getD (os .count) n 0) 0 || eqb (getD (os .count) n 0) (getD (os .capacity) n 0))) || (leb 3 s && not (eqb (getD (os .holder) n 0) (t .0))))
+    ≡ mayWait t (kindOf (six s (getD (os .capacity) n 0) (getD (os .size) n 0) (getD (os .first) n 0) (getD (os .count) n 0) (getD (os .holder) n 0))))
+    refl (or-false _) refl (λ s l. rw (held os n s l, le-leb 3 s l, ne-eqb s 1 (λ e. omega arith))) (getD (os .state) n 0)
 
-pub waits-is : (os : Objects) (t : TaskSlot) {opens takes : List Bool} (n : ℕ) → Each (openAt os) opens → Each (takenAt os) takes → n < 16 → mayWaitOn opens takes (os .holder) t n ≡ mayWait t (kindIn os n)
+pub waits-is : (os : Objects) (t : TaskSlot) {opens takes : List Bool} (n : ℕ) → Each (openAt os) opens → Each (takenAt os) takes → n < 16
+    → mayWaitOn opens takes (os .holder) t n ≡ mayWait t (kindIn os n)
 waits-is os t n o k l = rw (o .each n l, k .each n l) (wait-is os t n)
 
 -- what is fine is canonical

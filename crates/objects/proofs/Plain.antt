@@ -24,7 +24,8 @@ kind-plain (Mutex (By t)) = refl
 pub objects-plain : (xs : List Object) → canonical (objectsOf xs) ≡ true
 unfolding canonical objectsOf
 objects-plain xs =
-    below-all 16 _ (λ i l. rw (number i (λ c. c .state), number i (λ c. c .capacity), number i (λ c. c .size), number i (λ c. c .first), number i (λ c. c .count), number i (λ c. c .holder)) (kind-plain (getD xs i unused .kind)))
+    below-all 16 _ (λ i l. rw (number i (λ c. c .state), number i (λ c. c .capacity), number i (λ c. c .size), number i (λ c. c .first), number i (λ c. c .count))
+    (rw (number i (λ c. c .holder)) (kind-plain (getD xs i unused .kind))))
   where
     number : (i : ℕ) (f : Cells → ℕ) → getD (map (λ (x : Object). f (cellsOf (x .kind))) xs) i (f (cellsOf Unused)) ≡ f (cellsOf (getD xs i unused .kind))
     number i f = List·getD-map (λ (x : Object). f (cellsOf (x .kind))) xs i unused

@@ -17,14 +17,19 @@ use Rattle.objects.specs.Rows.{six, cellsOf, kindOf, objectsOf, kindIn, 
 use Rattle.objects.proofs.Columns.{Full, rows-many, row-at}
 
 -- no ring and no holder; no ring
-bare-back : (s c z f k h : ℕ) → (noRing c z f k && eqb h 0) ≡ true → _≡_ {A = Cells} (record { state = s; capacity = 0; size = 0; first = 0; count = 0; holder = 0 }) (record { state = s; capacity = c; size = z; first = f; count = k; holder = h })
+bare-back : (s c z f k h : ℕ) → (noRing c z f k && eqb h 0) ≡ true
+    → _≡_ {A = Cells} (record { state = s; capacity = 0; size = 0; first = 0; count = 0; holder = 0 })
+    (record { state = s; capacity = c; size = z; first = f; count = k; holder = h })
 bare-back s c z f k h e =
     let r = and-left (noRing c z f k) (eqb h 0) e in
     let r₁ = and-right (eqb c 0) _ r in
     let r₂ = and-right (eqb z 0) _ r₁ in
-    rw (eqb-true c 0 (and-left (eqb c 0) _ r), eqb-true z 0 (and-left (eqb z 0) _ r₁), eqb-true f 0 (and-left (eqb f 0) _ r₂), eqb-true k 0 (and-right (eqb f 0) _ r₂), eqb-true h 0 (and-right (noRing c z f k) _ e))
+    rw (eqb-true c 0 (and-left (eqb c 0) _ r), eqb-true z 0 (and-left (eqb z 0) _ r₁), eqb-true f 0 (and-left (eqb f 0) _ r₂))
+    (rw (eqb-true k 0 (and-right (eqb f 0) _ r₂), eqb-true h 0 (and-right (noRing c z f k) _ e)))
 
-held-back : (c z f k h : ℕ) → (noRing c z f k && true) ≡ true → _≡_ {A = Cells} (record { state = 3; capacity = 0; size = 0; first = 0; count = 0; holder = h }) (record { state = 3; capacity = c; size = z; first = f; count = k; holder = h })
+held-back : (c z f k h : ℕ) → (noRing c z f k && true) ≡ true
+    → _≡_ {A = Cells} (record { state = 3; capacity = 0; size = 0; first = 0; count = 0; holder = h })
+    (record { state = 3; capacity = c; size = z; first = f; count = k; holder = h })
 held-back c z f k h e =
     let r = and-left (noRing c z f k) true e in
     let r₁ = and-right (eqb c 0) _ r in
@@ -41,7 +46,8 @@ cells-back (suc (suc (suc (suc n)))) c z f k h e = absurd (omega (arith, leb-tru
 
 module _ (os : Objects) (full : Full os) where
   -- a column is what the rows say of it
-  column : (f : Cells → ℕ) (col : List ℕ) → length col ≡ 16 → f (cellsOf (unused .kind)) ≡ 0 → ((i : ℕ) → i < 16 → f (cellsOf (kindIn os i)) ≡ getD col i 0) → map (λ (x : Object). f (cellsOf (x .kind))) (rowsOf os) ≡ col
+  column : (f : Cells → ℕ) (col : List ℕ) → length col ≡ 16 → f (cellsOf (unused .kind)) ≡ 0 → ((i : ℕ) → i < 16 → f (cellsOf (kindIn os i)) ≡ getD col i 0)
+      → map (λ (x : Object). f (cellsOf (x .kind))) (rowsOf os) ≡ col
   column f col len z each = ext-getD 0 (map g (rowsOf os)) col (long ∙ sym len) at
     where
       g : Object → ℕ
@@ -69,4 +75,5 @@ module _ (os : Objects) (full : Full os) where
     where
       same : (i : ℕ) → i < 16 → cellsOf (kindOf (cellsAt os i)) ≡ cellsAt os i
       same i l =
-          cells-back (getD (os .state) i 0) (getD (os .capacity) i 0) (getD (os .size) i 0) (getD (os .first) i 0) (getD (os .count) i 0) (getD (os .holder) i 0) (all-below 16 (λ k. known (cellsAt os k)) h i l)
+          cells-back (getD (os .state) i 0) (getD (os .capacity) i 0) (getD (os .size) i 0) (getD (os .first) i 0) (getD (os .count) i 0) (getD (os .holder) i 0)
+          (all-below 16 (λ k. known (cellsAt os k)) h i l)

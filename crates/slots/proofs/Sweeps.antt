@@ -52,7 +52,8 @@ pub some-row : {A : Type 0} (p : A → Bool) (q : ℕ → Bool) (xs : List A) (d
 some-row p q xs d n l e = by-rows (λ b x. b || p x) (λ b i. b || q i) xs d (λ b i h. rw (e i h)) false n l ∙ any-by p false xs
 
 -- the first row that passes
-pub first-row : {A B : Type 0} (p : A → Bool) (q : B → Bool) (xs : List A) (ys : List B) (d : A) (e : B) → length xs ≡ length ys → ((i : ℕ) → i < length ys → p (getD xs i d) ≡ q (getD ys i e)) → index q ys ≡ index p xs
+pub first-row : {A B : Type 0} (p : A → Bool) (q : B → Bool) (xs : List A) (ys : List B) (d : A) (e : B) → length xs ≡ length ys
+    → ((i : ℕ) → i < length ys → p (getD xs i d) ≡ q (getD ys i e)) → index q ys ≡ index p xs
 unfolding index
 first-row p q [] [] d e l h = refl
 first-row p q [] (y ∷ ys) d e l h = absurd (omega arith)

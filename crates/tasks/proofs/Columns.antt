@@ -30,26 +30,31 @@ place-back Suspended = refl
 pub row-of : (xs : List Task) (n : ℕ) → rowAt (tasksOf xs) n ≡ getD xs n freeTask
 unfolding rowAt tasksOf
 row-of xs n =
-    rw (List·getD-map stateOf xs n freeTask, List·getD-map objectOf xs n freeTask, List·getD-map wakeOf xs n freeTask, List·getD-map (λ (x : Task). x .own) xs n freeTask, List·getD-map (λ (x : Task). x .effective) xs n freeTask, List·getD-map (λ (x : Task). x .outcome) xs n freeTask, place-back (getD xs n freeTask .place))
+    rw (List·getD-map stateOf xs n freeTask, List·getD-map objectOf xs n freeTask, List·getD-map wakeOf xs n freeTask)
+    (rw (List·getD-map (λ (x : Task). x .own) xs n freeTask, List·getD-map (λ (x : Task). x .effective) xs n freeTask)
+    (rw (List·getD-map (λ (x : Task). x .outcome) xs n freeTask, place-back (getD xs n freeTask .place))))
 
 -- a store to them is a store to the list
 pub put-of : (xs : List Task) (n : ℕ) (x : Task) → put (tasksOf xs) n x ≡ tasksOf (set xs n x)
 unfolding put tasksOf
 put-of xs n x =
-    rw (map-set stateOf xs n x, map-set objectOf xs n x, map-set wakeOf xs n x, map-set (λ (y : Task). y .own) xs n x, map-set (λ (y : Task). y .effective) xs n x, map-set (λ (y : Task). y .outcome) xs n x)
+    rw (map-set stateOf xs n x, map-set objectOf xs n x, map-set wakeOf xs n x, map-set (λ (y : Task). y .own) xs n x, map-set (λ (y : Task). y .effective) xs n x)
+    (rw (map-set (λ (y : Task). y .outcome) xs n x))
 
 -- and so is a store of a place and an outcome alone, or of the priorities
 pub placed-of : (xs : List Task) (n : ℕ) (p : Place) (o : ℕ) → placedAt (tasksOf xs) n p o ≡ tasksOf (set xs n (placed (getD xs n freeTask) p o))
 unfolding placedAt tasksOf
 placed-of xs n p o =
     let x : Task = placed (getD xs n freeTask) p o in
-    rw (← map-set stateOf xs n x, ← map-set objectOf xs n x, ← map-set wakeOf xs n x, map-set-same (λ (y : Task). y .own) xs n x freeTask refl, map-set-same (λ (y : Task). y .effective) xs n x freeTask refl, ← map-set (λ (y : Task). y .outcome) xs n x)
+    rw (← map-set stateOf xs n x, ← map-set objectOf xs n x, ← map-set wakeOf xs n x, map-set-same (λ (y : Task). y .own) xs n x freeTask refl)
+    (rw (map-set-same (λ (y : Task). y .effective) xs n x freeTask refl, ← map-set (λ (y : Task). y .outcome) xs n x))
 
 pub ranked-of : (xs : List Task) (n own effective : ℕ) → rankedAt (tasksOf xs) n own effective ≡ tasksOf (set xs n (ranked (getD xs n freeTask) own effective))
 unfolding rankedAt tasksOf
 ranked-of xs n own effective =
     let x : Task = ranked (getD xs n freeTask) own effective in
-    rw (map-set-same stateOf xs n x freeTask refl, map-set-same objectOf xs n x freeTask refl, map-set-same wakeOf xs n x freeTask refl, ← map-set (λ (y : Task). y .own) xs n x, ← map-set (λ (y : Task). y .effective) xs n x, map-set-same (λ (y : Task). y .outcome) xs n x freeTask refl)
+    rw (map-set-same stateOf xs n x freeTask refl, map-set-same objectOf xs n x freeTask refl, map-set-same wakeOf xs n x freeTask refl)
+    (rw (← map-set (λ (y : Task). y .own) xs n x, ← map-set (λ (y : Task). y .effective) xs n x, map-set-same (λ (y : Task). y .outcome) xs n x freeTask refl))
 
 -- each column has its sixteen numbers
 pub record Full (ts : Tasks) : Type 0 where
@@ -65,17 +70,20 @@ module _ (ts : Tasks) (f : Full ts) (n : ℕ) (h : 16 ≤ n) where
   pub past-row : rowAt ts n ≡ freeTask
   unfolding rowAt placeOf
   past-row =
-      rw (List·getD-eq-default (ts .state) 0 {n = n} (omega arith), List·getD-eq-default (ts .own) 0 {n = n} (omega arith), List·getD-eq-default (ts .effective) 0 {n = n} (omega arith), List·getD-eq-default (ts .outcome) 0 {n = n} (omega arith))
+      rw (List·getD-eq-default (ts .state) 0 {n = n} (omega arith), List·getD-eq-default (ts .own) 0 {n = n} (omega arith))
+      (rw (List·getD-eq-default (ts .effective) 0 {n = n} (omega arith), List·getD-eq-default (ts .outcome) 0 {n = n} (omega arith)))
 
   pub lost-row : (x : Task) → put ts n x ≡ ts
   unfolding put
   lost-row x =
-      rw (set-out (ts .state) n (stateOf x) (omega arith), set-out (ts .object) n (objectOf x) (omega arith), set-out (ts .wake) n (wakeOf x) (omega arith), set-out (ts .own) n (x .own) (omega arith), set-out (ts .effective) n (x .effective) (omega arith), set-out (ts .outcome) n (x .outcome) (omega arith))
+      rw (set-out (ts .state) n (stateOf x) (omega arith), set-out (ts .object) n (objectOf x) (omega arith), set-out (ts .wake) n (wakeOf x) (omega arith))
+      (rw (set-out (ts .own) n (x .own) (omega arith), set-out (ts .effective) n (x .effective) (omega arith), set-out (ts .outcome) n (x .outcome) (omega arith)))
 
   pub lost-place : (p : Place) (o : ℕ) → placedAt ts n p o ≡ ts
   unfolding placedAt
   lost-place p o =
-      rw (set-out (ts .state) n (cellsOf p .state) (omega arith), set-out (ts .object) n (cellsOf p .object) (omega arith), set-out (ts .wake) n (cellsOf p .wake) (omega arith), set-out (ts .outcome) n o (omega arith))
+      rw (set-out (ts .state) n (cellsOf p .state) (omega arith), set-out (ts .object) n (cellsOf p .object) (omega arith))
+      (rw (set-out (ts .wake) n (cellsOf p .wake) (omega arith), set-out (ts .outcome) n o (omega arith)))
 
   pub lost-rank : (own effective : ℕ) → rankedAt ts n own effective ≡ ts
   unfolding rankedAt

@@ -81,7 +81,8 @@ fine-canonical ts tick stands holds h k =
     (and-left (wakeKnown (getD (ts .state) i 0) (getD (ts .wake) i 0)) _ (all-below 16 (wakesFine ts tick) k i l)))
 
 -- and stands for the list that it reads as
-pub fine-whole : (ts : Tasks) → Full ts → (tick : ℕ) (stands : List ℕ) (holds : List Bool) (a : Bool) → (a && (allBelow 16 (rowsFine ts stands holds) && allBelow 16 (wakesFine ts tick))) ≡ true → ts ≡ tasksOf (rowsOf ts)
+pub fine-whole : (ts : Tasks) → Full ts → (tick : ℕ) (stands : List ℕ) (holds : List Bool) (a : Bool)
+    → (a && (allBelow 16 (rowsFine ts stands holds) && allBelow 16 (wakesFine ts tick))) ≡ true → ts ≡ tasksOf (rowsOf ts)
 fine-whole ts full tick stands holds a h =
     let r = and-right a (allBelow 16 (rowsFine ts stands holds) && allBelow 16 (wakesFine ts tick)) h in
     sym (tasks-back ts full (fine-canonical ts tick stands holds (and-left (allBelow 16 (rowsFine ts stands holds)) _ r) (and-right (allBelow 16 (rowsFine ts stands holds)) _ r)))
@@ -129,7 +130,8 @@ module _ (ts : Tasks) (opens takes : List Bool) (holder : List ℕ) where
       go : (b : Bool) → eqb (waitingIn ts) 0 ≡ b → ok ≡ allBelow 16 (waitsAt ts opens takes holder)
       go true q =
           let z : i ≡ 0 = omega (arith, eqb-true (waitingIn ts) 0 q) in
-          inv .so ∙ rw z (sym (below-all 16 (waitNumber (ts .state) (ts .object) opens takes holder) (λ j l. none-waits j (none-counted (λ k. waits (getD (ts .state) k 0)) 16 (eqb-true (waitingIn ts) 0 q) j l)))) ∙ waits-are
+          inv .so ∙ rw z (sym (below-all 16 (waitNumber (ts .state) (ts .object) opens takes holder)
+          (λ j l. none-waits j (none-counted (λ k. waits (getD (ts .state) k 0)) 16 (eqb-true (waitingIn ts) 0 q) j l)))) ∙ waits-are
       go false q =
           let z : i ≡ 16 = omega (arith, eqb-false (waitingIn ts) 0 q) in
           inv .so ∙ rw z waits-are

@@ -4,23 +4,13 @@ use native.Mathlib.Omega.{arith}
 use Rattle.items.proofs.fetch_at.Statement.{statement}
 use Rattle.items.proofs.fetch_at.Tie as tie
 
-sub-fetch : tie.Need-sub-fetch
-sub-fetch c = search needs
-
-part-fetch-start : tie.Need-part-fetch-start
-part-fetch-start c = search needs
-
-part-fetch-end : tie.Need-part-fetch-end
-part-fetch-end c = search needs
-
-fetch-requires : tie.Need-fetch-requires
-fetch-requires c κs = search needs
-
 returns : tie.Need-returns
-returns c = from-tail (c .before .before .before .before .args .part .now) (c .fetch .result) (c .before .before .before .before .args .at) (c .before .before .before .before .args .n) (c .fetch .ensures)
+returns c =
+    let a = c .before .before .before .before .args in
+    from-tail (a .part .now) (c .fetch .result) (a .at) (a .n) (c .fetch .ensures)
 
 returns-2 : tie.Need-returns-2
 returns-2 c = from-none (c .before .before .args .part .now) (c .before .before .args .at) (c .before .before .args .n) (omega arith)
 
 pub fetch-at-spec : {M : Type 1} → statement M
-fetch-at-spec = tie.close (tie.spec sub-fetch part-fetch-start part-fetch-end fetch-requires returns returns-2)
+fetch-at-spec = tie.close (tie.spec (λ c. search needs) (λ c. search needs) (λ c. search needs) (λ c κs. search needs) returns returns-2)

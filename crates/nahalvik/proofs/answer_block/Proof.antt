@@ -4,10 +4,14 @@ use Rattle.nahalvik.proofs.answer_block.Statement.{statement}
 use Rattle.nahalvik.proofs.answer_block.Tie as tie
 
 slice-reshare-prefix-tell : tie.Need-slice-reshare-prefix-tell
-slice-reshare-prefix-tell c = fits _ _ _ (c .before .before .before .before .answer .result) _ _ (c .before .before .before .before .answer .ensures)
+slice-reshare-prefix-tell c =
+    let answer = c .before .before .before .before .answer in
+    fits _ _ _ (answer .result) _ _ (answer .ensures)
 
 slice-aggregate-tell : tie.Need-slice-aggregate-tell
-slice-aggregate-tell c = fits-take _ _ _ (c .before .before .before .before .before .answer .result) _ _ (c .before .before .before .before .before .answer .ensures)
+slice-aggregate-tell c =
+    let answer = c .before .before .before .before .before .answer in
+    fits-take _ _ _ (answer .result) _ _ (answer .ensures)
 
 returns : tie.Need-returns
 returns c =

@@ -7,7 +7,9 @@ slice-reshare-prefix-tell : tie.Need-slice-reshare-prefix-tell
 slice-reshare-prefix-tell c = fits _ _ _ (c .before .before .end .result) _ _ (c .before .before .end .ensures)
 
 slice-aggregate-tell : tie.Need-slice-aggregate-tell
-slice-aggregate-tell c = fits-take _ _ _ (c .before .before .before .end .result) _ _ (c .before .before .before .end .ensures)
+slice-aggregate-tell c =
+    let end = c .before .before .before .end in
+    fits-take _ _ _ (end .result) _ _ (end .ensures)
 
 pub end-input-spec : {M : Type 1} → statement M
 end-input-spec =

@@ -6,20 +6,8 @@ use Rattle.fields.proofs.Stores.{sets-out}
 use Rattle.fields.proofs.bytes.put.Statement.{statement}
 use Rattle.fields.proofs.bytes.put.Tie as tie
 
-slice-write-line : tie.Need-slice-write-line
-slice-write-line c = search needs
-
-add-result : tie.Need-add-result
-add-result c = search needs
-
-same-length : tie.Need-same-length
-same-length c = search needs
-
-returns : tie.Need-returns
-returns c = search needs
-
 returns-2 : tie.Need-returns-2
 returns-2 c = record { next = omega arith; line = sym (sets-out (c .before .args .line .now) (c .before .args .at) (c .before .args .b ∷ []) (c .if1 .left)) }
 
 pub put-spec : {M : Type 1} → statement M
-put-spec = tie.close (tie.spec slice-write-line add-result same-length returns returns-2)
+put-spec = tie.close (tie.spec (λ c. search needs) (λ c. search needs) (λ c. search needs) (λ c. search needs) returns-2)

@@ -23,116 +23,36 @@ abbrev put-digits-below : ℕ → In 1 put-digits-kinds.ps
 put-digits-below t =
     and 1 put-digits-kinds.ps (falls 1 put-digits-kinds.ps _<_ μ-put-digits t) put-digits.Pre
 
-put-digits-add-put : (t : ℕ) → put-digits-lts.Need-add-put (
-  put-reads.Asked,
-  put-reads.Learnt,
-  put-digits-below t,
-  put-digits.Post,
-) (put-digits-at t) put-digits.Post
-put-digits-add-put t c = search needs
-
-put-digits-cast-put : (t : ℕ) → put-digits-lts.Need-cast-put (
-  put-reads.Asked,
-  put-reads.Learnt,
-  put-digits-below t,
-  put-digits.Post,
-) (put-digits-at t) put-digits.Post
-put-digits-cast-put t c = search needs
-
-put-digits-put-requires : (t : ℕ) → put-digits-lts.Need-put-requires (
-  put-reads.Asked,
-  put-reads.Learnt,
-  put-digits-below t,
-  put-digits.Post,
-) (put-digits-at t) put-digits.Post
-put-digits-put-requires t c κs = search needs
-
-put-digits-put-digits-requires : (t : ℕ) → put-digits-lts.Need-put-digits-requires (
-  put-reads.Asked,
-  put-reads.Learnt,
-  put-digits-below t,
-  put-digits.Post,
-) (put-digits-at t) put-digits.Post
-put-digits-put-digits-requires t c κs = search needs
-
-put-digits-add-put-2 : (t : ℕ) → put-digits-lts.Need-add-put-2 (
-  put-reads.Asked,
-  put-reads.Learnt,
-  put-digits-below t,
-  put-digits.Post,
-) (put-digits-at t) put-digits.Post
-put-digits-add-put-2 t c = search needs
-
-put-digits-cast-put-2 : (t : ℕ) → put-digits-lts.Need-cast-put-2 (
-  put-reads.Asked,
-  put-reads.Learnt,
-  put-digits-below t,
-  put-digits.Post,
-) (put-digits-at t) put-digits.Post
-put-digits-cast-put-2 t c = search needs
-
-put-digits-put-requires-2 : (t : ℕ) → put-digits-lts.Need-put-requires-2 (
-  put-reads.Asked,
-  put-reads.Learnt,
-  put-digits-below t,
-  put-digits.Post,
-) (put-digits-at t) put-digits.Post
-put-digits-put-requires-2 t c κs = search needs
-
-put-digits-same-length : (t : ℕ) → put-digits-lts.Need-same-length (
-  put-reads.Asked,
-  put-reads.Learnt,
-  put-digits-below t,
-  put-digits.Post,
-) (put-digits-at t) put-digits.Post
+put-digits-same-length : (t : ℕ) → put-digits-lts.Need-same-length (put-reads.Asked, put-reads.Learnt, put-digits-below t, put-digits.Post) (put-digits-at t) put-digits.Post
 put-digits-same-length t c = wrote-length (c .before .before .put .ensures)
 
-put-digits-returns : (t : ℕ) → put-digits-lts.Need-returns (
-  put-reads.Asked,
-  put-reads.Learnt,
-  put-digits-below t,
-  put-digits.Post,
-) (put-digits-at t) put-digits.Post
+put-digits-returns : (t : ℕ) → put-digits-lts.Need-returns (put-reads.Asked, put-reads.Learnt, put-digits-below t, put-digits.Post) (put-digits-at t) put-digits.Post
 put-digits-returns t c =
     rw (dec-small _ (c .before .before .before .before .if1 .taken)) (c .before .before .put .ensures)
 
-put-digits-same-length-2 : (t : ℕ) → put-digits-lts.Need-same-length-2 (
-  put-reads.Asked,
-  put-reads.Learnt,
-  put-digits-below t,
-  put-digits.Post,
-) (put-digits-at t) put-digits.Post
+put-digits-same-length-2 : (t : ℕ) → put-digits-lts.Need-same-length-2 (put-reads.Asked, put-reads.Learnt, put-digits-below t, put-digits.Post) (put-digits-at t) put-digits.Post
 put-digits-same-length-2 t c =
     let p = c .before .before in
     wrote-length (p .put2 .ensures) ∙ wrote-length (p .before .before .before .before .put-digits .ensures)
 
-put-digits-returns-2 : (t : ℕ) → put-digits-lts.Need-returns-2 (
-  put-reads.Asked,
-  put-reads.Learnt,
-  put-digits-below t,
-  put-digits.Post,
-) (put-digits-at t) put-digits.Post
+put-digits-returns-2 : (t : ℕ) → put-digits-lts.Need-returns-2 (put-reads.Asked, put-reads.Learnt, put-digits-below t, put-digits.Post) (put-digits-at t) put-digits.Post
 put-digits-returns-2 t c =
     let p = c .before .before in
     let w = p .before .before .before .before in
     rw (dec-step _ (w .before .before .if1 .left) (search needs)) (wrote-then (w .put-digits .ensures) (p .put2 .ensures))
 
 pub +put-digits-spec : {M : Type 1} → statement M
-+put-digits-spec = close μ-put-digits λ t. put-digits-lts.spec (
-  put-reads.Asked,
-  put-reads.Learnt,
-  put-digits-below t,
-  put-digits.Post,
-)
++put-digits-spec = close μ-put-digits λ t.
+    put-digits-lts.spec (put-reads.Asked, put-reads.Learnt, put-digits-below t, put-digits.Post)
     (put-digits-at t)
     put-digits.Post
-    (put-digits-add-put t)
-    (put-digits-cast-put t)
-    (put-digits-put-requires t)
-    (put-digits-put-digits-requires t)
-    (put-digits-add-put-2 t)
-    (put-digits-cast-put-2 t)
-    (put-digits-put-requires-2 t)
+    (λ c. search needs)
+    (λ c. search needs)
+    (λ c κs. search needs)
+    (λ c κs. search needs)
+    (λ c. search needs)
+    (λ c. search needs)
+    (λ c κs. search needs)
     (put-digits-same-length t)
     (put-digits-returns t)
     (put-digits-same-length-2 t)

@@ -5,21 +5,9 @@ use Rattle.fields.specs.Number.{grow}
 use Rattle.fields.proofs.decimal.grown.Statement.{statement}
 use Rattle.fields.proofs.decimal.grown.Tie as tie
 
-digit-requires : tie.Need-digit-requires
-digit-requires c κs = search needs
-
 returns : tie.Need-returns
 unfolding grow
 returns c = rw (← c .before .digit .ensures, le-ltb _ _ (c .if1 .taken))
-
-mul-w : tie.Need-mul-w
-mul-w c = search needs
-
-cast-w : tie.Need-cast-w
-cast-w c = search needs
-
-add-w : tie.Need-add-w
-add-w c = search needs
 
 returns-2 : tie.Need-returns-2
 unfolding grow
@@ -30,4 +18,4 @@ unfolding grow
 returns-3 c = rw (← c .before .before .digit .ensures, lt-ltb _ _ (c .before .if1 .left)) (omega arith)
 
 pub grown-spec : {M : Type 1} → statement M
-grown-spec = tie.close (tie.spec digit-requires returns mul-w cast-w add-w returns-2 returns-3)
+grown-spec = tie.close (tie.spec (λ c κs. search needs) returns (λ c. search needs) (λ c. search needs) (λ c. search needs) returns-2 returns-3)

@@ -17,17 +17,8 @@ abbrev μ-loop : tie.MeasureT-loop
 returns : tie.Need-returns Inv-loop μ-loop
 returns c = rw (drop-of-length-le _ (c .if1 .taken))
 
-shared-slice-read-digit : tie.Need-shared-slice-read-digit Inv-loop μ-loop
-shared-slice-read-digit c = search needs
-
-digit-requires : tie.Need-digit-requires Inv-loop μ-loop
-digit-requires c κs = search needs
-
 returns-2 : tie.Need-returns-2 Inv-loop μ-loop
 returns-2 c = rw (here _ _ (c .before .before .before .if1 .left), ← c .before .digit .ensures, le-ltb _ _ (c .if2 .taken))
-
-add-i : tie.Need-add-i Inv-loop μ-loop
-add-i c = search needs
 
 returns-3 : tie.Need-returns-3 Inv-loop μ-loop
 returns-3 c = rw (here _ _ (c .before .before .before .before .if1 .left), ← c .before .before .digit .ensures, lt-ltb _ _ (c .before .if2 .left), eq-eqb _ _ (c .if3 .taken))
@@ -35,23 +26,8 @@ returns-3 c = rw (here _ _ (c .before .before .before .before .if1 .left), ← c
 loop-holds : tie.Need-loop-holds Inv-loop μ-loop
 loop-holds c = (search needs, rw (here _ _ (c .before .before .before .before .if1 .left), ← c .before .before .digit .ensures, lt-ltb _ _ (c .before .if2 .left), ne-eqb _ _ (c .if3 .left)))
 
-shared-slice-read-grown : tie.Need-shared-slice-read-grown Inv-loop μ-loop
-shared-slice-read-grown c = search needs
-
-grown-requires : tie.Need-grown-requires Inv-loop μ-loop
-grown-requires c κs = search needs
-
 returns-4 : tie.Need-returns-4 Inv-loop μ-loop
 returns-4 c = sym (c .before .before .before .before .loop .inv .1 ∙ rw (here _ _ (c .before .before .before .loop-test .taken), ← c .before .grown .ensures, le-ltb _ _ (c .if4 .taken)))
-
-cast-v : tie.Need-cast-v Inv-loop μ-loop
-cast-v c = search needs
-
-add-i-2 : tie.Need-add-i-2 Inv-loop μ-loop
-add-i-2 c = search needs
-
-loop-less : tie.Need-loop-less Inv-loop μ-loop
-loop-less c = search needs
 
 loop-again : tie.Need-loop-again Inv-loop μ-loop
 loop-again c = (search needs, c .before .before .before .before .loop .inv .1 ∙ rw (here _ _ (c .before .before .before .loop-test .taken), ← c .before .grown .ensures, lt-ltb _ _ (c .if4 .left)))
@@ -66,17 +42,17 @@ read-number-spec =
     Inv-loop
     μ-loop
     returns
-    shared-slice-read-digit
-    digit-requires
+    (λ c. search needs)
+    (λ c κs. search needs)
     returns-2
-    add-i
+    (λ c. search needs)
     returns-3
     loop-holds
-    shared-slice-read-grown
-    grown-requires
+    (λ c. search needs)
+    (λ c κs. search needs)
     returns-4
-    cast-v
-    add-i-2
-    loop-less
+    (λ c. search needs)
+    (λ c. search needs)
+    (λ c. search needs)
     loop-again
     returns-5)

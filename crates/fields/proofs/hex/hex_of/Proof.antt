@@ -4,12 +4,6 @@ use Rattle.fields.specs.Hex.{hexDigit}
 use Rattle.fields.proofs.hex.hex_of.Statement.{statement}
 use Rattle.fields.proofs.hex.hex_of.Tie as tie
 
-add-result : tie.Need-add-result
-add-result c = search needs
-
-add-result-2 : tie.Need-add-result-2
-add-result-2 c = search needs
-
 returns : tie.Need-returns
 unfolding hexDigit
 returns c = simp (lt-ltb _ _ (c .if1 .taken))
@@ -19,4 +13,4 @@ unfolding hexDigit
 returns-2 c = simp (le-ltb _ _ (c .if1 .left))
 
 pub hex-of-spec : {M : Type 1} → statement M
-hex-of-spec = tie.close (tie.spec add-result add-result-2 returns returns-2)
+hex-of-spec = tie.close (tie.spec (λ c. search needs) (λ c. search needs) returns returns-2)

@@ -16,29 +16,14 @@ abbrev μ-loop : tie.MeasureT-loop
 loop-holds : tie.Need-loop-holds Inv-loop μ-loop
 loop-holds c = (search needs, refl)
 
-byte-at-requires : tie.Need-byte-at-requires Inv-loop μ-loop
-byte-at-requires c κs = search needs
-
 returns : tie.Need-returns Inv-loop μ-loop
 returns c =
     let a = c .before .before .before .loop in
     let e : 64 - a .n ≡ suc (64 - (a .n + 1)) = omega arith in
     sym (left-stop (64 - (a .n + 1)) (a .n) (a .bytes) (a .i) _ (rw (c .before .byte-at .ensures) at (c .if1 .taken))) ∙ (rw e at (a .inv .1)) ∙ left-first _ _ _ _
 
-cast-bytes : tie.Need-cast-bytes Inv-loop μ-loop
-cast-bytes c = search needs
-
-array-write-bytes : tie.Need-array-write-bytes Inv-loop μ-loop
-array-write-bytes c = search needs
-
-add-n : tie.Need-add-n Inv-loop μ-loop
-add-n c = search needs
-
 add-i : tie.Need-add-i Inv-loop μ-loop
 add-i c = omega (arith, byte-within (c .before .before .before .before .before .args .line .now) (c .before .before .before .loop .i) (rw (c .before .byte-at .ensures) at (c .if1 .left)))
-
-loop-less : tie.Need-loop-less Inv-loop μ-loop
-loop-less c = search needs
 
 loop-again : tie.Need-loop-again Inv-loop μ-loop
 loop-again c =
@@ -59,12 +44,12 @@ read-item-spec =
     Inv-loop
     μ-loop
     loop-holds
-    byte-at-requires
+    (λ c κs. search needs)
     returns
-    cast-bytes
-    array-write-bytes
-    add-n
+    (λ c. search needs)
+    (λ c. search needs)
+    (λ c. search needs)
     add-i
-    loop-less
+    (λ c. search needs)
     loop-again
     returns-2)

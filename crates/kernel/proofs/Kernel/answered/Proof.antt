@@ -5,35 +5,25 @@ use Rattle.slots.specs.Places.{isBlocked}
 use Rattle.kernel.proofs.Kernel.answered.Statement.{statement}
 use Rattle.kernel.proofs.Kernel.answered.Tie as tie
 
-makes-requires : tie.Need-makes-requires
-makes-requires c κs = search needs
-
-number-requires : tie.Need-number-requires
-number-requires c κs = search needs
-
 returns : tie.Need-returns
 returns c = λ s h. rw (← c .before .before .makes .ensures, c .before .if1 .taken, c .number .ensures)
 
-task-requires : tie.Need-task-requires
-task-requires c κs = search needs
-
-is-blocked-requires : tie.Need-is-blocked-requires
-is-blocked-requires c κs = search needs
-
 returns-2 : tie.Need-returns-2
-returns-2 c = λ s h. rw (← c .before .before .before .before .makes .ensures, c .before .before .before .if1 .left, ap (λ (x : Task). isBlocked (x .place)) (sym (c .before .before .task .ensures s h)) ∙ sym (c .before .is-blocked .ensures) ∙ c .if2 .taken)
+returns-2 c = λ s h. rw (← c .before .before .before .before .makes .ensures, c .before .before .before .if1 .left)
+    (rw (ap (λ (x : Task). isBlocked (x .place)) (sym (c .before .before .task .ensures s h)) ∙ sym (c .before .is-blocked .ensures) ∙ c .if2 .taken))
 
 returns-3 : tie.Need-returns-3
-returns-3 c = λ s h. rw (← c .before .before .before .before .makes .ensures, c .before .before .before .if1 .left, ap (λ (x : Task). isBlocked (x .place)) (sym (c .before .before .task .ensures s h)) ∙ sym (c .before .is-blocked .ensures) ∙ c .if2 .left)
+returns-3 c = λ s h. rw (← c .before .before .before .before .makes .ensures, c .before .before .before .if1 .left)
+    (rw (ap (λ (x : Task). isBlocked (x .place)) (sym (c .before .before .task .ensures s h)) ∙ sym (c .before .is-blocked .ensures) ∙ c .if2 .left))
 
 pub answered-spec : {M : Type 1} → statement M
 answered-spec =
     tie.close
     (tie.spec
-    makes-requires
-    number-requires
+    (λ c κs. search needs)
+    (λ c κs. search needs)
     returns
-    task-requires
-    is-blocked-requires
+    (λ c κs. search needs)
+    (λ c κs. search needs)
     returns-2
     returns-3)

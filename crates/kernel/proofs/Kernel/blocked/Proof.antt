@@ -7,12 +7,6 @@ use Rattle.slots.specs.Tasks.{placed, taskAt}
 use Rattle.kernel.proofs.Kernel.blocked.Statement.{statement}
 use Rattle.kernel.proofs.Kernel.blocked.Tie as tie
 
-placed-requires : tie.Need-placed-requires
-placed-requires c κs = search needs
-
-to-tail-requires : tie.Need-to-tail-requires
-to-tail-requires c κs = search needs
-
 returns : tie.Need-returns
 unfolding blocked
 returns c = λ s h.
@@ -21,4 +15,4 @@ returns c = λ s h.
     ∙ rw (same-running _ s h)
 
 pub blocked-spec : {M : Type 1} → statement M
-blocked-spec = tie.close (tie.spec placed-requires to-tail-requires returns)
+blocked-spec = tie.close (tie.spec (λ c κs. search needs) (λ c κs. search needs) returns)

@@ -6,15 +6,6 @@ use Rattle.rules.specs.Effects.{delayed, yielded}
 use Rattle.kernel.proofs.Kernel.delay.Statement.{statement}
 use Rattle.kernel.proofs.Kernel.delay.Tie as tie
 
-to-tail-requires : tie.Need-to-tail-requires
-to-tail-requires c κs = search needs
-
-wrapping-add-u32-requires : tie.Need-wrapping-add-u32-requires
-wrapping-add-u32-requires c κs = search needs
-
-blocked-requires : tie.Need-blocked-requires
-blocked-requires c κs = search needs
-
 returns : tie.Need-returns
 unfolding delayed yielded
 returns c = λ s h. rw (eq-eqb (c .before .before .args .n) 0 (c .before .if1 .taken)) (c .to-tail .ensures s h ∙ rw (same-running _ s h))
@@ -26,4 +17,4 @@ returns-2 c = λ s h. rw (ne-eqb (c .before .before .before .args .n) 0 (c .befo
 pub delay-spec : {M : Type 1} → statement M
 delay-spec =
     tie.close
-    (tie.spec to-tail-requires wrapping-add-u32-requires blocked-requires returns returns-2)
+    (tie.spec (λ c κs. search needs) (λ c κs. search needs) (λ c κs. search needs) returns returns-2)

@@ -6,18 +6,9 @@ use Rattle.slots.specs.Tasks.{freeTask}
 use Rattle.kernel.proofs.Kernel.delete.Statement.{statement}
 use Rattle.kernel.proofs.Kernel.delete.Tie as tie
 
-free-requires : tie.Need-free-requires
-free-requires c κs = search needs
-
-with-task-requires : tie.Need-with-task-requires
-with-task-requires c κs = search needs
-
-leaves-requires : tie.Need-leaves-requires
-leaves-requires c κs = search needs
-
 returns : tie.Need-returns
 unfolding deleted
 returns c = λ s h. c .leaves .ensures (withTask s (c .before .before .before .args .t) freeTask) (c .before .with-task .ensures s h ∙ rw (c .before .before .free .ensures))
 
 pub delete-spec : {M : Type 1} → statement M
-delete-spec = tie.close (tie.spec free-requires with-task-requires leaves-requires returns)
+delete-spec = tie.close (tie.spec (λ c κs. search needs) (λ c κs. search needs) (λ c κs. search needs) returns)

@@ -7,15 +7,9 @@ use mathlib.Core.Path.{ap, _∙_}
 use Rattle.kernel.proofs.Kernel.first_waiter.Statement.{statement}
 use Rattle.kernel.proofs.Kernel.first_waiter.Tie as tie
 
-waiter-requires : tie.Need-waiter-requires
-waiter-requires c κs = search needs
-
-found-requires : tie.Need-found-requires
-found-requires c κs = search needs
-
 returns : tie.Need-returns
 unfolding kernelOf
 returns c = λ s h. c .found .ensures ∙ ap leads (c .before .waiter .ensures) ∙ rw h (first-of s (WaitersOf (c .before .before .args .o)))
 
 pub first-waiter-spec : {M : Type 1} → statement M
-first-waiter-spec = tie.close (tie.spec waiter-requires found-requires returns)
+first-waiter-spec = tie.close (tie.spec (λ c κs. search needs) (λ c κs. search needs) returns)

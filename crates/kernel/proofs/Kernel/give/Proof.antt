@@ -5,15 +5,9 @@ use Rattle.rules.specs.Effects.{handedOn, given}
 use Rattle.kernel.proofs.Kernel.give.Statement.{statement}
 use Rattle.kernel.proofs.Kernel.give.Tie as tie
 
-handed-on-requires : tie.Need-handed-on-requires
-handed-on-requires c κs = search needs
-
-own-again-requires : tie.Need-own-again-requires
-own-again-requires c κs = search needs
-
 returns : tie.Need-returns
 unfolding given
 returns c = λ s h. c .own-again .ensures (handedOn s (c .before .before .before .args .o)) (c .before .handed-on .ensures s h) ∙ rw (same-running _ s h)
 
 pub give-spec : {M : Type 1} → statement M
-give-spec = tie.close (tie.spec handed-on-requires own-again-requires returns)
+give-spec = tie.close (tie.spec (λ c κs. search needs) (λ c κs. search needs) returns)

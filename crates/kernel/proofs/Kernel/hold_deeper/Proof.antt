@@ -10,12 +10,9 @@ use Rattle.kernel.proofs.Kernel.hold_deeper.Tie as tie
 add-with-hold : tie.Need-add-with-hold
 add-with-hold c = omega (arith, below-255 (c .before .args .self .hold) (omega arith) (c .before .pre))
 
-with-hold-requires : tie.Need-with-hold-requires
-with-hold-requires c κs = search needs
-
 returns : tie.Need-returns
 unfolding held
 returns c = λ s h. c .with-hold .ensures s h ∙ rw (same-hold _ s h, same-pended _ s h)
 
 pub hold-deeper-spec : {M : Type 1} → statement M
-hold-deeper-spec = tie.close (tie.spec add-with-hold with-hold-requires returns)
+hold-deeper-spec = tie.close (tie.spec add-with-hold (λ c κs. search needs) returns)

@@ -6,12 +6,9 @@ use Rattle.rules.specs.Tables.{holds}
 use Rattle.kernel.proofs.Kernel.holds.Statement.{statement}
 use Rattle.kernel.proofs.Kernel.holds.Tie as tie
 
-holds-requires : tie.Need-holds-requires
-holds-requires c κs = search needs
-
 returns : tie.Need-returns
 unfolding kernelOf holds
 returns c = λ s h. c .holds .ensures ∙ rw h (holds-of (s .objects) (c .before .args .t))
 
 pub holds-spec : {M : Type 1} → statement M
-holds-spec = tie.close (tie.spec holds-requires returns)
+holds-spec = tie.close (tie.spec (λ c κs. search needs) returns)

@@ -5,12 +5,9 @@ use mathlib.Core.Path.{_∙_}
 use Rattle.kernel.proofs.Kernel.kind.Statement.{statement}
 use Rattle.kernel.proofs.Kernel.kind.Tie as tie
 
-get-requires : tie.Need-get-requires
-get-requires c κs = search needs
-
 returns : tie.Need-returns
 unfolding kernelOf
 returns c = λ s h. c .get .ensures ∙ rw h (object-of (s .objects) (c .before .args .o))
 
 pub kind-spec : {M : Type 1} → statement M
-kind-spec = tie.close (tie.spec get-requires returns)
+kind-spec = tie.close (tie.spec (λ c κs. search needs) returns)

@@ -4,12 +4,9 @@ use Rattle.rules.specs.Lines.{leaves}
 use Rattle.kernel.proofs.Kernel.leaves.Statement.{statement}
 use Rattle.kernel.proofs.Kernel.leaves.Tie as tie
 
-without-requires : tie.Need-without-requires
-without-requires c κs = search needs
-
 returns : tie.Need-returns
 unfolding leaves kernelOf
 returns c = λ s h. rw (c .without .ensures, h)
 
 pub leaves-spec : {M : Type 1} → statement M
-leaves-spec = tie.close (tie.spec without-requires returns)
+leaves-spec = tie.close (tie.spec (λ c κs. search needs) returns)

@@ -6,22 +6,14 @@ use Rattle.rules.specs.Loans.{moved}
 use Rattle.kernel.proofs.Kernel.moved.Statement.{statement}
 use Rattle.kernel.proofs.Kernel.moved.Tie as tie
 
-same-requires : tie.Need-same-requires
-same-requires c κs = search needs
-
-to-head-requires : tie.Need-to-head-requires
-to-head-requires c κs = search needs
-
-to-tail-requires : tie.Need-to-tail-requires
-to-tail-requires c κs = search needs
-
 returns : tie.Need-returns
 unfolding moved
 returns c = λ s h. rw (ap (sameTask (c .before .before .before .before .args .t)) (sym (same-running _ s h)) ∙ sym (c .before .before .same .ensures) ∙ c .before .if1 .taken) (c .to-head .ensures s h)
 
 returns-2 : tie.Need-returns-2
 unfolding moved
-returns-2 c = λ s h. rw (ap (sameTask (c .before .before .before .before .args .t)) (sym (same-running _ s h)) ∙ sym (c .before .before .same .ensures) ∙ c .before .if1 .left) (c .to-tail .ensures s h)
+returns-2 c = λ s h. rw (ap (sameTask (c .before .before .before .before .args .t)) (sym (same-running _ s h)) ∙ sym (c .before .before .same .ensures)
+    ∙ c .before .if1 .left) (c .to-tail .ensures s h)
 
 pub moved-spec : {M : Type 1} → statement M
-moved-spec = tie.close (tie.spec same-requires to-head-requires to-tail-requires returns returns-2)
+moved-spec = tie.close (tie.spec (λ c κs. search needs) (λ c κs. search needs) (λ c κs. search needs) returns returns-2)

@@ -7,25 +7,14 @@ use Rattle.objects.proofs.Lists.{free-of as free-object-of}
 use Rattle.kernel.proofs.Kernel.new_slot.Statement.{statement}
 use Rattle.kernel.proofs.Kernel.new_slot.Tie as tie
 
-is-requires : tie.Need-is-requires
-is-requires c κs = search needs
-
-free-slot-requires : tie.Need-free-slot-requires
-free-slot-requires c κs = search needs
-
 returns : tie.Need-returns
 unfolding kernelOf freeSlot
 returns c = λ s h. rw (sym (c .before .before .is .ensures) ∙ c .before .if1 .taken) (c .free-slot .ensures ∙ rw h (free-of (s .tasks)))
 
-makes-requires : tie.Need-makes-requires
-makes-requires c κs = search needs
-
-free-object-requires : tie.Need-free-object-requires
-free-object-requires c κs = search needs
-
 returns-2 : tie.Need-returns-2
 unfolding kernelOf freeObject
-returns-2 c = λ s h. rw (sym (c .before .before .makes .ensures) ∙ c .before .if2 .taken, sym (c .before .before .before .before .is .ensures) ∙ c .before .before .before .if1 .left) (c .free-object .ensures ∙ rw h (free-object-of (s .objects)))
+returns-2 c = λ s h. rw (sym (c .before .before .makes .ensures) ∙ c .before .if2 .taken)
+    (rw (sym (c .before .before .before .before .is .ensures) ∙ c .before .before .before .if1 .left) (c .free-object .ensures ∙ rw h (free-object-of (s .objects))))
 
 returns-3 : tie.Need-returns-3
 returns-3 c = λ s h. rw (sym (c .before .makes .ensures) ∙ c .if2 .left)
@@ -34,10 +23,10 @@ pub new-slot-spec : {M : Type 1} → statement M
 new-slot-spec =
     tie.close
     (tie.spec
-    is-requires
-    free-slot-requires
+    (λ c κs. search needs)
+    (λ c κs. search needs)
     returns
-    makes-requires
-    free-object-requires
+    (λ c κs. search needs)
+    (λ c κs. search needs)
     returns-2
     returns-3)

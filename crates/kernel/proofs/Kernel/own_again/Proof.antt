@@ -4,15 +4,6 @@ use Rattle.rules.specs.Loans.{ownAgain}
 use Rattle.kernel.proofs.Kernel.own_again.Statement.{statement}
 use Rattle.kernel.proofs.Kernel.own_again.Tie as tie
 
-holds-requires : tie.Need-holds-requires
-holds-requires c κs = search needs
-
-task-requires : tie.Need-task-requires
-task-requires c κs = search needs
-
-prioritized-requires : tie.Need-prioritized-requires
-prioritized-requires c κs = search needs
-
 returns : tie.Need-returns
 unfolding ownAgain
 returns c = λ s h. rw (sym (c .before .holds .ensures s h) ∙ c .if1 .taken) h
@@ -23,4 +14,4 @@ returns-2 c = λ s h. rw (sym (c .before .before .before .holds .ensures s h) �
 
 pub own-again-spec : {M : Type 1} → statement M
 own-again-spec =
-    tie.close (tie.spec holds-requires task-requires prioritized-requires returns returns-2)
+    tie.close (tie.spec (λ c κs. search needs) (λ c κs. search needs) (λ c κs. search needs) returns returns-2)

@@ -5,9 +5,6 @@ use Rattle.slots.specs.Tasks.{taskAt}
 use Rattle.kernel.proofs.Kernel.placed.Statement.{statement}
 use Rattle.kernel.proofs.Kernel.placed.Tie as tie
 
-placed-requires : tie.Need-placed-requires
-placed-requires c κs = search needs
-
 returns : tie.Need-returns
 unfolding kernelOf taskAt
 returns c = λ s h.
@@ -15,4 +12,4 @@ returns c = λ s h.
     rw (c .placed .ensures, h, placed-of (s .tasks) (a .t .0) (a .p) (a .n))
 
 pub placed-spec : {M : Type 1} → statement M
-placed-spec = tie.close (tie.spec placed-requires returns)
+placed-spec = tie.close (tie.spec (λ c κs. search needs) returns)

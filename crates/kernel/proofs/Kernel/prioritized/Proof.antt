@@ -6,18 +6,6 @@ use Rattle.slots.specs.Tasks.{ranked, taskAt}
 use Rattle.kernel.proofs.Kernel.prioritized.Statement.{statement}
 use Rattle.kernel.proofs.Kernel.prioritized.Tie as tie
 
-task-requires : tie.Need-task-requires
-task-requires c κs = search needs
-
-ranked-requires : tie.Need-ranked-requires
-ranked-requires c κs = search needs
-
-is-ready-requires : tie.Need-is-ready-requires
-is-ready-requires c κs = search needs
-
-moved-if-requires : tie.Need-moved-if-requires
-moved-if-requires c κs = search needs
-
 returns : tie.Need-returns
 unfolding prioritized
 returns c = λ s h.
@@ -28,4 +16,4 @@ returns c = λ s h.
 pub prioritized-spec : {M : Type 1} → statement M
 prioritized-spec =
     tie.close
-    (tie.spec task-requires ranked-requires is-ready-requires moved-if-requires returns)
+    (tie.spec (λ c κs. search needs) (λ c κs. search needs) (λ c κs. search needs) (λ c κs. search needs) returns)

@@ -5,9 +5,6 @@ use Rattle.slots.specs.Tasks.{taskAt}
 use Rattle.kernel.proofs.Kernel.ranked.Statement.{statement}
 use Rattle.kernel.proofs.Kernel.ranked.Tie as tie
 
-ranked-requires : tie.Need-ranked-requires
-ranked-requires c κs = search needs
-
 returns : tie.Need-returns
 unfolding kernelOf taskAt
 returns c = λ s h.
@@ -15,4 +12,4 @@ returns c = λ s h.
     rw (c .ranked .ensures, h, ranked-of (s .tasks) (a .t .0) (a .own) (a .effective))
 
 pub ranked-spec : {M : Type 1} → statement M
-ranked-spec = tie.close (tie.spec ranked-requires returns)
+ranked-spec = tie.close (tie.spec (λ c κs. search needs) returns)

@@ -6,12 +6,6 @@ use Rattle.slots.specs.declared.Place.the-variants.{Ready}
 use Rattle.kernel.proofs.Kernel.readied.Statement.{statement}
 use Rattle.kernel.proofs.Kernel.readied.Tie as tie
 
-placed-requires : tie.Need-placed-requires
-placed-requires c κs = search needs
-
-to-tail-requires : tie.Need-to-tail-requires
-to-tail-requires c κs = search needs
-
 returns : tie.Need-returns
 unfolding readied
 returns c = λ s h.
@@ -19,4 +13,4 @@ returns c = λ s h.
     c .to-tail .ensures (withTask s (a .t) (placed (taskAt (s .tasks) (a .t)) Ready (a .n))) (c .before .placed .ensures s h)
 
 pub readied-spec : {M : Type 1} → statement M
-readied-spec = tie.close (tie.spec placed-requires to-tail-requires returns)
+readied-spec = tie.close (tie.spec (λ c κs. search needs) (λ c κs. search needs) returns)

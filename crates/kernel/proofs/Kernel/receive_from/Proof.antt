@@ -8,27 +8,9 @@ use native.Mathlib.Omega.{arith}
 use Rattle.kernel.proofs.Kernel.receive_from.Statement.{statement}
 use Rattle.kernel.proofs.Kernel.receive_from.Tie as tie
 
-wait-for-requires : tie.Need-wait-for-requires
-wait-for-requires c κs = search needs
-
 returns : tie.Need-returns
 unfolding received storeReceived
 returns c = (λ s h. rw (eq-eqb _ _ (c .before .if1 .taken)) (c .wait-for .ensures s h), λ s h. rw (eq-eqb _ _ (c .before .if1 .taken)))
-
-waiter-requires : tie.Need-waiter-requires
-waiter-requires c κs = search needs
-
-one-less-requires : tie.Need-one-less-requires
-one-less-requires c κs = search needs
-
-of-ring-requires : tie.Need-of-ring-requires
-of-ring-requires c κs = search needs
-
-slice-aggregate-to-slip : tie.Need-slice-aggregate-to-slip
-slice-aggregate-to-slip c = search needs
-
-cast-to-slip : tie.Need-cast-to-slip
-cast-to-slip c = search needs
 
 to-slip-requires : tie.Need-to-slip-requires
 to-slip-requires c κs = (c .before .before .before .before .before .before .before .before .before .before .before .pre .2 .runs, omega arith, search needs)
@@ -45,17 +27,18 @@ refilled-by-requires c κs =
     let f = less-fits (s .args .q) (s .pre .1) in
     rw (c .before .before .before .before .before .before .before .before .before .before .before .before .one-less .ensures) (omega arith)
 
-same-length : tie.Need-same-length
-same-length c = search needs
-
 returns-2 : tie.Need-returns-2
 unfolding received storeReceived
 returns-2 c =
-    let less = c .before .before .before .before .before .before .before .before .before .before .before .before .before .one-less .ensures in
-    let who = c .before .before .before .before .before .before .before .before .before .before .before .before .before .before .waiter .ensures .0 in
-    let some = c .before .before .before .before .before .before .before .before .before .before .before .before .before .before .before .before .if1 .left in
-    let oldest = c .before .before .before .before .before .before .before .before .before .before .before .of-ring .ensures in
-    let slip = c .before .before .before .before .before .before .before .to-slip .ensures in (
+    let c4 = c .before .before .before .before in
+    let c8 = c4 .before .before .before .before in
+    let c12 = c8 .before .before .before .before in
+    let c16 = c12 .before .before .before .before in
+    let less = c12 .before .one-less .ensures in
+    let who = c12 .before .before .waiter .ensures .0 in
+    let some = c16 .if1 .left in
+    let oldest = c8 .before .before .before .of-ring .ensures in
+    let slip = c4 .before .before .before .to-slip .ensures in (
       λ s h. rw (ne-eqb _ _ some) (c .refilled-by .ensures s h ∙ rw (less, who s h)),
       λ s h. rw (ne-eqb _ _ some) (c .before .before .before .refill .ensures ∙ rw (slip, oldest, less, who s h, same-running _ s h)),
     )
@@ -64,15 +47,15 @@ pub receive-from-spec : {M : Type 1} → statement M
 receive-from-spec =
     tie.close
     (tie.spec
-    wait-for-requires
+    (λ c κs. search needs)
     returns
-    waiter-requires
-    one-less-requires
-    of-ring-requires
-    slice-aggregate-to-slip
-    cast-to-slip
+    (λ c κs. search needs)
+    (λ c κs. search needs)
+    (λ c κs. search needs)
+    (λ c. search needs)
+    (λ c. search needs)
     to-slip-requires
     refill-requires
     refilled-by-requires
-    same-length
+    (λ c. search needs)
     returns-2)

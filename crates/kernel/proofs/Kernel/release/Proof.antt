@@ -9,17 +9,8 @@ use Rattle.rules.specs.Tables.{withHold}
 use Rattle.kernel.proofs.Kernel.release.Statement.{statement}
 use Rattle.kernel.proofs.Kernel.release.Tie as tie
 
-with-hold-requires : tie.Need-with-hold-requires
-with-hold-requires c κs = search needs
-
-ticks-requires : tie.Need-ticks-requires
-ticks-requires c κs = search needs
-
 sub-with-hold : tie.Need-sub-with-hold
 sub-with-hold c = let h = above-0 (c .before .before .before .args .self .hold) (c .before .before .before .pre) in omega arith
-
-with-hold-requires-2 : tie.Need-with-hold-requires-2
-with-hold-requires-2 c κs = search needs
 
 returns : tie.Need-returns
 unfolding released
@@ -33,9 +24,9 @@ pub release-spec : {M : Type 1} → statement M
 release-spec =
     tie.close
     (tie.spec
-    with-hold-requires
-    ticks-requires
+    (λ c κs. search needs)
+    (λ c κs. search needs)
     sub-with-hold
-    with-hold-requires-2
+    (λ c κs. search needs)
     returns
     returns-2)

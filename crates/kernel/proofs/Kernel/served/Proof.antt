@@ -11,43 +11,37 @@ use Rattle.kernel.proofs.Kernel.served.Statement.{statement}
 use Rattle.kernel.proofs.Kernel.served.Tie as tie
 
 cast-create : tie.Need-cast-create
-cast-create c = let o = c .before .before .before .before in let r = in-range (o .args .self) (o .pre .0) (o .args .a) (length (o .args .item .now)) (length (o .args .store .now)) (o .pre .1) in omega (arith, r .low)
+cast-create c =
+    let o = c .before .before .before .before in
+    let r = in-range (o .args .self) (o .pre .0) (o .args .a) (length (o .args .item .now)) (length (o .args .store .now)) (o .pre .1) in omega (arith, r .low)
 
 create-requires : tie.Need-create-requires
 create-requires c κs = let o = c .before .before .before .before in task-slot (o .args .a) (o .pre .2) (c .before .match .keys1)
 
-delete-requires : tie.Need-delete-requires
-delete-requires c κs = search needs
-
-suspend-requires : tie.Need-suspend-requires
-suspend-requires c κs = search needs
-
-resume-requires : tie.Need-resume-requires
-resume-requires c κs = search needs
-
 cast-new-priority : tie.Need-cast-new-priority
-cast-new-priority c = let o = c .before .before .before .before in let r = in-range (o .args .self) (o .pre .0) (o .args .a) (length (o .args .item .now)) (length (o .args .store .now)) (o .pre .1) in omega (arith, r .low)
-
-new-priority-requires : tie.Need-new-priority-requires
-new-priority-requires c κs = search needs
-
-delay-requires : tie.Need-delay-requires
-delay-requires c κs = search needs
-
-to-tail-requires : tie.Need-to-tail-requires
-to-tail-requires c κs = search needs
+cast-new-priority c =
+    let o = c .before .before .before .before in
+    let r = in-range (o .args .self) (o .pre .0) (o .args .a) (length (o .args .item .now)) (length (o .args .store .now)) (o .pre .1) in omega (arith, r .low)
 
 hold-deeper-requires : tie.Need-hold-deeper-requires
-hold-deeper-requires c κs = let o = c .before .before .before in may-hold (o .args .self) (o .pre .0) (o .args .a) (length (o .args .item .now)) (length (o .args .store .now)) (o .pre .1) (c .match .keys8)
+hold-deeper-requires c κs =
+    let o = c .before .before .before in
+    may-hold (o .args .self) (o .pre .0) (o .args .a) (length (o .args .item .now)) (length (o .args .store .now)) (o .pre .1) (c .match .keys8)
 
 release-requires : tie.Need-release-requires
-release-requires c κs = let o = c .before .before .before in may-release (o .args .self) (o .pre .0) (o .args .a) (length (o .args .item .now)) (length (o .args .store .now)) (o .pre .1) (c .match .keys9)
+release-requires c κs =
+    let o = c .before .before .before in
+    may-release (o .args .self) (o .pre .0) (o .args .a) (length (o .args .item .now)) (length (o .args .store .now)) (o .pre .1) (c .match .keys9)
 
 cast-make-queue : tie.Need-cast-make-queue
-cast-make-queue c = let o = c .before .before .before .before in let r = in-range (o .args .self) (o .pre .0) (o .args .a) (length (o .args .item .now)) (length (o .args .store .now)) (o .pre .1) in omega (arith, r .few)
+cast-make-queue c =
+    let o = c .before .before .before .before in
+    let r = in-range (o .args .self) (o .pre .0) (o .args .a) (length (o .args .item .now)) (length (o .args .store .now)) (o .pre .1) in omega (arith, r .few)
 
 cast-make-queue-2 : tie.Need-cast-make-queue-2
-cast-make-queue-2 c = let o = c .before .before .before .before .before in let r = in-range (o .args .self) (o .pre .0) (o .args .a) (length (o .args .item .now)) (length (o .args .store .now)) (o .pre .1) in omega (arith, r .small)
+cast-make-queue-2 c =
+    let o = c .before .before .before .before .before in
+    let r = in-range (o .args .self) (o .pre .0) (o .args .a) (length (o .args .item .now)) (length (o .args .store .now)) (o .pre .1) in omega (arith, r .small)
 
 make-queue-requires : tie.Need-make-queue-requires
 make-queue-requires c κs = let o = c .before .before .before .before .before in queue-slot (o .args .a) (o .pre .2) (c .before .before .match .keys10)
@@ -55,23 +49,23 @@ make-queue-requires c κs = let o = c .before .before .before .before .before in
 make-mutex-requires : tie.Need-make-mutex-requires
 make-mutex-requires c κs = let o = c .before .before .before in mutex-slot (o .args .a) (o .pre .2) (c .match .keys11)
 
-with-object-requires : tie.Need-with-object-requires
-with-object-requires c κs = search needs
-
 send-requires : tie.Need-send-requires
-send-requires c κs = let o = c .before .before .before .before in (o .pre .0, right-size (o .args .self) (o .pre .0) (o .args .a) (length (o .args .item .now)) (length (o .args .store .now)) (o .pre .1) (c .before .match .keys13), whole (o .args .self) (o .pre .0) (o .args .a) (length (o .args .item .now)) (length (o .args .store .now)) (o .pre .1))
+send-requires c κs =
+    let o = c .before .before .before .before in (
+      o .pre .0,
+      right-size (o .args .self) (o .pre .0) (o .args .a) (length (o .args .item .now)) (length (o .args .store .now)) (o .pre .1) (c .before .match .keys13),
+      whole (o .args .self) (o .pre .0) (o .args .a) (length (o .args .item .now)) (length (o .args .store .now)) (o .pre .1),
+    )
 
 receive-requires : tie.Need-receive-requires
-receive-requires c κs = let o = c .before .before .before .before in (o .pre .0, whole (o .args .self) (o .pre .0) (o .args .a) (length (o .args .item .now)) (length (o .args .store .now)) (o .pre .1))
-
-take-requires : tie.Need-take-requires
-take-requires c κs = search needs
-
-give-requires : tie.Need-give-requires
-give-requires c κs = search needs
+receive-requires c κs =
+    let o = c .before .before .before .before in
+    (o .pre .0, whole (o .args .self) (o .pre .0) (o .args .a) (length (o .args .item .now)) (length (o .args .store .now)) (o .pre .1))
 
 tick-on-requires : tie.Need-tick-on-requires
-tick-on-requires c κs = let o = c .before .before .before in may-tick (o .args .self) (o .pre .0) (o .args .a) (length (o .args .item .now)) (length (o .args .store .now)) (o .pre .1) (c .match .keys17)
+tick-on-requires c κs =
+    let o = c .before .before .before in
+    may-tick (o .args .self) (o .pre .0) (o .args .a) (length (o .args .item .now)) (length (o .args .store .now)) (o .pre .1) (c .match .keys17)
 
 returns : tie.Need-returns
 unfolding effect stored
@@ -111,7 +105,9 @@ returns-9 c = (λ s h. rw (c .before .match .keys9) (c .release .ensures s h), �
 
 returns-10 : tie.Need-returns-10
 unfolding effect stored
-returns-10 c = (λ s h. rw (c .before .before .before .match .keys10) (c .make-queue .ensures s h), λ s h. rw (c .before .before .before .match .keys10))
+returns-10 c =
+    let match = c .before .before .before .match in
+    (λ s h. rw (match .keys10) (c .make-queue .ensures s h), λ s h. rw (match .keys10))
 
 returns-11 : tie.Need-returns-11
 unfolding effect stored
@@ -121,19 +117,17 @@ returns-12 : tie.Need-returns-12
 unfolding effect stored removed
 returns-12 c = (λ s h. rw (c .before .match .keys12) (c .with-object .ensures s h), λ s h. rw (c .before .match .keys12))
 
-same-length : tie.Need-same-length
-same-length c = search needs
-
 returns-13 : tie.Need-returns-13
 unfolding effect stored
-returns-13 c = (λ s h. rw (c .before .before .before .before .match .keys13) (c .before .before .send .ensures .0 s h), λ s h. rw (c .before .before .before .before .match .keys13) (c .before .before .send .ensures .1 s h))
-
-same-length-2 : tie.Need-same-length-2
-same-length-2 c = search needs
+returns-13 c =
+    let match = c .before .before .before .before .match in
+    (λ s h. rw (match .keys13) (c .before .before .send .ensures .0 s h), λ s h. rw (match .keys13) (c .before .before .send .ensures .1 s h))
 
 returns-14 : tie.Need-returns-14
 unfolding effect stored
-returns-14 c = (λ s h. rw (c .before .before .before .before .match .keys14) (c .before .before .receive .ensures .0 s h), λ s h. rw (c .before .before .before .before .match .keys14) (c .before .before .receive .ensures .1 s h))
+returns-14 c =
+    let match = c .before .before .before .before .match in
+    (λ s h. rw (match .keys14) (c .before .before .receive .ensures .0 s h), λ s h. rw (match .keys14) (c .before .before .receive .ensures .1 s h))
 
 returns-15 : tie.Need-returns-15
 unfolding effect stored
@@ -149,7 +143,30 @@ returns-17 c = (λ s h. rw (c .before .match .keys17) (c .tick-on .ensures s h),
 
 returns-18 : tie.Need-returns-18
 unfolding effect stored
-returns-18 c = let r = c .match .rest in let a = c .before .before .before .args .a .number in (λ s h. rw (ne-eqb a 1 (r .0 .0 .0 .0 .0 .0 .0 .0 .0 .0 .0 .0 .0 .0 .0 .0 .1), ne-eqb a 2 (r .0 .0 .0 .0 .0 .0 .0 .0 .0 .0 .0 .0 .0 .0 .0 .1), ne-eqb a 3 (r .0 .0 .0 .0 .0 .0 .0 .0 .0 .0 .0 .0 .0 .0 .1), ne-eqb a 4 (r .0 .0 .0 .0 .0 .0 .0 .0 .0 .0 .0 .0 .0 .1), ne-eqb a 5 (r .0 .0 .0 .0 .0 .0 .0 .0 .0 .0 .0 .0 .1), ne-eqb a 6 (r .0 .0 .0 .0 .0 .0 .0 .0 .0 .0 .0 .1), ne-eqb a 7 (r .0 .0 .0 .0 .0 .0 .0 .0 .0 .0 .1), ne-eqb a 8 (r .0 .0 .0 .0 .0 .0 .0 .0 .0 .1), ne-eqb a 9 (r .0 .0 .0 .0 .0 .0 .0 .0 .1), ne-eqb a 10 (r .0 .0 .0 .0 .0 .0 .0 .1), ne-eqb a 11 (r .0 .0 .0 .0 .0 .0 .1), ne-eqb a 12 (r .0 .0 .0 .0 .0 .1), ne-eqb a 13 (r .0 .0 .0 .0 .1), ne-eqb a 14 (r .0 .0 .0 .1), ne-eqb a 15 (r .0 .0 .1), ne-eqb a 16 (r .0 .1), ne-eqb a 17 (r .1)) h, λ s h. rw (ne-eqb a 13 (r .0 .0 .0 .0 .1), ne-eqb a 14 (r .0 .0 .0 .1)))
+returns-18 c =
+    let r = c .match .rest in
+    let a = c .before .before .before .args .a .number in (
+      λ s h. rw (
+        ne-eqb a 1 (r .0 .0 .0 .0 .0 .0 .0 .0 .0 .0 .0 .0 .0 .0 .0 .0 .1),
+        ne-eqb a 2 (r .0 .0 .0 .0 .0 .0 .0 .0 .0 .0 .0 .0 .0 .0 .0 .1),
+        ne-eqb a 3 (r .0 .0 .0 .0 .0 .0 .0 .0 .0 .0 .0 .0 .0 .0 .1),
+        ne-eqb a 4 (r .0 .0 .0 .0 .0 .0 .0 .0 .0 .0 .0 .0 .0 .1),
+        ne-eqb a 5 (r .0 .0 .0 .0 .0 .0 .0 .0 .0 .0 .0 .0 .1),
+        ne-eqb a 6 (r .0 .0 .0 .0 .0 .0 .0 .0 .0 .0 .0 .1),
+        ne-eqb a 7 (r .0 .0 .0 .0 .0 .0 .0 .0 .0 .0 .1),
+        ne-eqb a 8 (r .0 .0 .0 .0 .0 .0 .0 .0 .0 .1),
+        ne-eqb a 9 (r .0 .0 .0 .0 .0 .0 .0 .0 .1),
+        ne-eqb a 10 (r .0 .0 .0 .0 .0 .0 .0 .1),
+        ne-eqb a 11 (r .0 .0 .0 .0 .0 .0 .1),
+        ne-eqb a 12 (r .0 .0 .0 .0 .0 .1),
+        ne-eqb a 13 (r .0 .0 .0 .0 .1),
+        ne-eqb a 14 (r .0 .0 .0 .1),
+        ne-eqb a 15 (r .0 .0 .1),
+        ne-eqb a 16 (r .0 .1),
+        ne-eqb a 17 (r .1),
+      ) h,
+      λ s h. rw (ne-eqb a 13 (r .0 .0 .0 .0 .1), ne-eqb a 14 (r .0 .0 .0 .1)),
+    )
 
 pub served-spec : {M : Type 1} → statement M
 served-spec =
@@ -157,24 +174,24 @@ served-spec =
     (tie.spec
     cast-create
     create-requires
-    delete-requires
-    suspend-requires
-    resume-requires
+    (λ c κs. search needs)
+    (λ c κs. search needs)
+    (λ c κs. search needs)
     cast-new-priority
-    new-priority-requires
-    delay-requires
-    to-tail-requires
+    (λ c κs. search needs)
+    (λ c κs. search needs)
+    (λ c κs. search needs)
     hold-deeper-requires
     release-requires
     cast-make-queue
     cast-make-queue-2
     make-queue-requires
     make-mutex-requires
-    with-object-requires
+    (λ c κs. search needs)
     send-requires
     receive-requires
-    take-requires
-    give-requires
+    (λ c κs. search needs)
+    (λ c κs. search needs)
     tick-on-requires
     returns
     returns-2
@@ -188,9 +205,9 @@ served-spec =
     returns-10
     returns-11
     returns-12
-    same-length
+    (λ c. search needs)
     returns-13
-    same-length-2
+    (λ c. search needs)
     returns-14
     returns-15
     returns-16

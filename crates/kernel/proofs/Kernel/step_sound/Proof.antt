@@ -6,56 +6,51 @@ use Rattle.kernel.specs.Stands.{shown}
 use Rattle.kernel.proofs.Kernel.step_sound.Statement.{statement}
 use Rattle.kernel.proofs.Kernel.step_sound.Tie as tie
 
-asked-requires : tie.Need-asked-requires
-asked-requires c κs = search needs
-
-seen-requires : tie.Need-seen-requires
-seen-requires c κs = search needs
-
-row-requires : tie.Need-row-requires
-row-requires c κs = search needs
-
 returns : tie.Need-returns
 returns c =
+    let asked = c .before .before .before .asked in
     let o = c .before .before .before .before .before .before in
     let k = o .args .self in
-    of-call k (o .pre .0) (o .pre .1) (o .args .call) _ (c .before .before .before .asked .ensures) (o .args .item .now) (o .args .store .now) _ _
-    (refused k (o .pre .0) (o .pre .1) (c .before .before .before .asked .result) (o .args .item .now) (o .args .store .now) (c .before .row .result) (c .before .row .ensures ∙ row-of (shown k) _ _ (c .before .before .seen .ensures (shown k) (o .pre .1)) _ _) (c .if1 .taken))
+    of-call k (o .pre .0) (o .pre .1) (o .args .call) _ (asked .ensures) (o .args .item .now) (o .args .store .now) _ _
+    (refused k (o .pre .0) (o .pre .1) (asked .result) (o .args .item .now) (o .args .store .now) (c .before .row .result)
+    (c .before .row .ensures ∙ row-of (shown k) _ _ (c .before .before .seen .ensures (shown k) (o .pre .1)) _ _) (c .if1 .taken))
 
 served-requires : tie.Need-served-requires
 served-requires c κs =
+    let seen = c .before .before .before .before .seen in
     let o = c .before .before .before .before .before .before .before .before in
-    let k = o .args .self in
-    (firm k (o .pre .0) (o .pre .1), sym (c .before .before .before .row .ensures ∙ row-of (shown k) _ _ (c .before .before .before .before .seen .ensures (shown k) (o .pre .1)) _ _) ∙ c .before .before .if1 .left, λ m s h. new-of s _ _ (c .before .before .before .before .seen .ensures s h) m)
-
-answered-requires : tie.Need-answered-requires
-answered-requires c κs = search needs
-
-chosen-requires : tie.Need-chosen-requires
-chosen-requires c κs = search needs
-
-same-length : tie.Need-same-length
-same-length c = search needs
+    let k = o .args .self in (
+      firm k (o .pre .0) (o .pre .1),
+      sym (c .before .before .before .row .ensures
+          ∙ row-of (shown k) _ _ (seen .ensures (shown k) (o .pre .1)) _ _) ∙ c .before .before .if1 .left,
+      λ m s h. new-of s _ _ (seen .ensures s h) m,
+    )
 
 returns-2 : tie.Need-returns-2
 returns-2 c =
-    let o = c .before .before .before .before .before .before .before .before .before .before .before .before .before in
+    let c4 = c .before .before .before .before in
+    let c8 = c4 .before .before .before .before in
+    let c12 = c8 .before .before .before .before in
+    let asked = c8 .before .before .asked in
+    let seen = c8 .before .seen in
+    let served = c4 .served in
+    let o = c12 .before in
     let k = o .args .self in
-    of-call k (o .pre .0) (o .pre .1) (o .args .call) _ (c .before .before .before .before .before .before .before .before .before .before .asked .ensures) (o .args .item .now) (o .args .store .now) _ _
-    (done-so k (o .pre .0) (o .pre .1) (c .before .before .before .before .before .before .before .before .before .before .asked .result) (o .args .item .now) (o .args .store .now) _ (c .before .before .before .before .before .before .before .before .before .seen .result .new) (k .running) (c .before .before .before .before .served .result) (c .chosen .result) (c .before .answered .result)
-    (sym (c .before .before .before .before .before .before .before .before .row .ensures ∙ row-of (shown k) _ _ (c .before .before .before .before .before .before .before .before .before .seen .ensures (shown k) (o .pre .1)) _ _) ∙ c .before .before .before .before .before .before .before .if1 .left) (λ m s h. new-of s _ _ (c .before .before .before .before .before .before .before .before .before .seen .ensures s h) m) refl
-    (c .before .before .before .before .served .ensures .0) (c .before .before .before .before .served .ensures .1) (c .before .answered .ensures) (c .chosen .ensures))
+    of-call k (o .pre .0) (o .pre .1) (o .args .call) _ (asked .ensures) (o .args .item .now) (o .args .store .now) _ _
+    (done-so k (o .pre .0) (o .pre .1) (asked .result) (o .args .item .now) (o .args .store .now) _ (seen .result .new) (k .running) (served .result) (c .chosen .result) (c .before .answered .result)
+    (sym (c8 .row .ensures ∙ row-of (shown k) _ _ (seen .ensures (shown k) (o .pre .1)) _ _) ∙ c4 .before .before .before .if1 .left) (λ m s h. new-of s _ _ (seen .ensures s h) m) refl
+    (served .ensures .0) (served .ensures .1) (c .before .answered .ensures) (c .chosen .ensures))
 
 pub step-sound-spec : {M : Type 1} → statement M
 step-sound-spec =
     tie.close
     (tie.spec
-    asked-requires
-    seen-requires
-    row-requires
+    (λ c κs. search needs)
+    (λ c κs. search needs)
+    (λ c κs. search needs)
     returns
     served-requires
-    answered-requires
-    chosen-requires
-    same-length
+    (λ c κs. search needs)
+    (λ c κs. search needs)
+    (λ c. search needs)
     returns-2)

@@ -8,26 +8,14 @@ use Rattle.slots.specs.Places.{isListed}
 use Rattle.kernel.proofs.Kernel.suspend.Statement.{statement}
 use Rattle.kernel.proofs.Kernel.suspend.Tie as tie
 
-task-requires : tie.Need-task-requires
-task-requires c κs = search needs
-
-is-listed-requires : tie.Need-is-listed-requires
-is-listed-requires c κs = search needs
-
-broken-off-requires : tie.Need-broken-off-requires
-broken-off-requires c κs = search needs
-
-with-task-requires : tie.Need-with-task-requires
-with-task-requires c κs = search needs
-
-leaves-requires : tie.Need-leaves-requires
-leaves-requires c κs = search needs
-
 returns : tie.Need-returns
 unfolding suspended
-returns c = λ s h.
-    rw (ap (λ (x : Task). isListed (x .place)) (sym (c .before .before .before .before .before .task .ensures s h)) ∙ sym (c .before .before .before .before .is-listed .ensures) ∙ c .before .before .before .if1 .taken)
-    (c .leaves .ensures (withTask s (c .before .before .before .before .before .before .args .t) (brokenOff (taskAt (s .tasks) (c .before .before .before .before .before .before .args .t)))) (c .before .with-task .ensures s h ∙ rw (c .before .before .broken-off .ensures, c .before .before .before .before .before .task .ensures s h)))
+returns c =
+    let task = c .before .before .before .before .before .task in
+    let a = c .before .before .before .before .before .before .args in
+    λ s h.
+    rw (ap (λ (x : Task). isListed (x .place)) (sym (task .ensures s h)) ∙ sym (c .before .before .before .before .is-listed .ensures) ∙ c .before .before .before .if1 .taken)
+    (c .leaves .ensures (withTask s (a .t) (brokenOff (taskAt (s .tasks) (a .t)))) (c .before .with-task .ensures s h ∙ rw (c .before .before .broken-off .ensures, task .ensures s h)))
 
 returns-2 : tie.Need-returns-2
 unfolding suspended
@@ -37,10 +25,10 @@ pub suspend-spec : {M : Type 1} → statement M
 suspend-spec =
     tie.close
     (tie.spec
-    task-requires
-    is-listed-requires
-    broken-off-requires
-    with-task-requires
-    leaves-requires
+    (λ c κs. search needs)
+    (λ c κs. search needs)
+    (λ c κs. search needs)
+    (λ c κs. search needs)
+    (λ c κs. search needs)
     returns
     returns-2)

@@ -10,16 +10,9 @@ use Rattle.kernel.proofs.Kernel.tick_on.Statement.{statement}
 use Rattle.kernel.proofs.Kernel.tick_on.Tie as tie
 
 add-with-hold : tie.Need-add-with-hold
-add-with-hold c = let h = tick-room (c .before .before .before .args .self .hold) (c .before .before .before .args .self .pended) (c .before .if1 .taken) (omega arith) (c .before .before .before .pre) in omega arith
-
-with-hold-requires : tie.Need-with-hold-requires
-with-hold-requires c κs = search needs
-
-one-tick-requires : tie.Need-one-tick-requires
-one-tick-requires c κs = search needs
-
-turned-requires : tie.Need-turned-requires
-turned-requires c κs = search needs
+add-with-hold c =
+    let a = c .before .before .before .args in
+    let h = tick-room (a .self .hold) (a .self .pended) (c .before .if1 .taken) (omega arith) (c .before .before .before .pre) in omega arith
 
 returns : tie.Need-returns
 unfolding ticked
@@ -32,4 +25,4 @@ returns-2 c = λ s h. c .turned .ensures (oneTick s) (c .before .one-tick .ensur
 pub tick-on-spec : {M : Type 1} → statement M
 tick-on-spec =
     tie.close
-    (tie.spec add-with-hold with-hold-requires one-tick-requires turned-requires returns returns-2)
+    (tie.spec add-with-hold (λ c κs. search needs) (λ c κs. search needs) (λ c κs. search needs) returns returns-2)

@@ -4,12 +4,9 @@ use Rattle.rules.specs.Lines.{toTail}
 use Rattle.kernel.proofs.Kernel.to_tail.Statement.{statement}
 use Rattle.kernel.proofs.Kernel.to_tail.Tie as tie
 
-to-tail-requires : tie.Need-to-tail-requires
-to-tail-requires c κs = search needs
-
 returns : tie.Need-returns
 unfolding toTail kernelOf
 returns c = λ s h. rw (c .to-tail .ensures, h)
 
 pub to-tail-spec : {M : Type 1} → statement M
-to-tail-spec = tie.close (tie.spec to-tail-requires returns)
+to-tail-spec = tie.close (tie.spec (λ c κs. search needs) returns)

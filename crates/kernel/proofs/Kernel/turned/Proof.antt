@@ -6,20 +6,12 @@ use mathlib.Core.Path.{ap, _∙_}
 use Rattle.kernel.proofs.Kernel.turned.Statement.{statement}
 use Rattle.kernel.proofs.Kernel.turned.Tie as tie
 
-task-requires : tie.Need-task-requires
-task-requires c κs = search needs
-
-higher-requires : tie.Need-higher-requires
-higher-requires c κs = search needs
-
-to-tail-requires : tie.Need-to-tail-requires
-to-tail-requires c κs = search needs
-
 returns : tie.Need-returns
 returns c = λ s h. h ∙ ap kernelOf (no-turn _ s _ _ h (c .before .before .task .ensures s h) (c .before .higher .ensures) (c .if1 .taken))
 
 returns-2 : tie.Need-returns-2
-returns-2 c = λ s h. c .to-tail .ensures s h ∙ rw (same-running _ s h) (ap kernelOf (turn-goes _ s _ _ h (c .before .before .before .task .ensures s h) (c .before .before .higher .ensures) (c .before .if1 .left)))
+returns-2 c = λ s h. c .to-tail .ensures s h
+    ∙ rw (same-running _ s h) (ap kernelOf (turn-goes _ s _ _ h (c .before .before .before .task .ensures s h) (c .before .before .higher .ensures) (c .before .if1 .left)))
 
 pub turned-spec : {M : Type 1} → statement M
-turned-spec = tie.close (tie.spec task-requires higher-requires to-tail-requires returns returns-2)
+turned-spec = tie.close (tie.spec (λ c κs. search needs) (λ c κs. search needs) (λ c κs. search needs) returns returns-2)

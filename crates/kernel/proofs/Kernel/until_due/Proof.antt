@@ -6,12 +6,9 @@ use Rattle.rules.specs.Ticks.{untilDue}
 use Rattle.kernel.proofs.Kernel.until_due.Statement.{statement}
 use Rattle.kernel.proofs.Kernel.until_due.Tie as tie
 
-until-due-requires : tie.Need-until-due-requires
-until-due-requires c κs = search needs
-
 returns : tie.Need-returns
 unfolding kernelOf untilDue
 returns c = (λ s h. c .until-due .ensures ∙ rw h (until-of (s .tick) (s .tasks)), search needs)
 
 pub until-due-spec : {M : Type 1} → statement M
-until-due-spec = tie.close (tie.spec until-due-requires returns)
+until-due-spec = tie.close (tie.spec (λ c κs. search needs) returns)

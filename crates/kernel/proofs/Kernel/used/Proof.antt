@@ -8,12 +8,6 @@ use Rattle.rules.specs.Refusals.{inUse}
 use Rattle.kernel.proofs.Kernel.used.Statement.{statement}
 use Rattle.kernel.proofs.Kernel.used.Tie as tie
 
-is-requires : tie.Need-is-requires
-is-requires c κs = search needs
-
-holds-requires : tie.Need-holds-requires
-holds-requires c κs = search needs
-
 returns : tie.Need-returns
 unfolding inUse
 returns c = λ s h.
@@ -21,15 +15,10 @@ returns c = λ s h.
     let e : is 2 a ≡ true = sym (c .before .before .is .ensures) ∙ c .before .if1 .taken in
     c .holds .ensures s h ∙ sym (rw (e, is-not 2 12 a (λ z. omega arith) e, or-false))
 
-is-requires-2 : tie.Need-is-requires-2
-is-requires-2 c κs = search needs
-
-held-or-waited-requires : tie.Need-held-or-waited-requires
-held-or-waited-requires c κs = search needs
-
 returns-2 : tie.Need-returns-2
 unfolding inUse
-returns-2 c = λ s h. c .held-or-waited .ensures s h ∙ sym (rw (sym (c .before .before .before .before .is .ensures) ∙ c .before .before .before .if1 .left, sym (c .before .before .is2 .ensures) ∙ c .before .if2 .taken))
+returns-2 c = λ s h. c .held-or-waited .ensures s h ∙ sym (rw (sym (c .before .before .before .before .is .ensures) ∙ c .before .before .before .if1 .left)
+    (rw (sym (c .before .before .is2 .ensures) ∙ c .before .if2 .taken)))
 
 returns-3 : tie.Need-returns-3
 unfolding inUse
@@ -39,10 +28,10 @@ pub used-spec : {M : Type 1} → statement M
 used-spec =
     tie.close
     (tie.spec
-    is-requires
-    holds-requires
+    (λ c κs. search needs)
+    (λ c κs. search needs)
     returns
-    is-requires-2
-    held-or-waited-requires
+    (λ c κs. search needs)
+    (λ c κs. search needs)
     returns-2
     returns-3)

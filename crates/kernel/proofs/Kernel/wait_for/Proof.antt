@@ -5,15 +5,9 @@ use Rattle.rules.specs.Waits.{waitFor}
 use Rattle.kernel.proofs.Kernel.wait_for.Statement.{statement}
 use Rattle.kernel.proofs.Kernel.wait_for.Tie as tie
 
-wake-of-requires : tie.Need-wake-of-requires
-wake-of-requires c κs = search needs
-
-blocked-requires : tie.Need-blocked-requires
-blocked-requires c κs = search needs
-
 returns : tie.Need-returns
 unfolding waitFor
 returns c = λ s h. c .blocked .ensures s h ∙ rw (c .before .wake-of .ensures, same-tick _ s h)
 
 pub wait-for-spec : {M : Type 1} → statement M
-wait-for-spec = tie.close (tie.spec wake-of-requires blocked-requires returns)
+wait-for-spec = tie.close (tie.spec (λ c κs. search needs) (λ c κs. search needs) returns)

@@ -7,9 +7,6 @@ use Rattle.slots.specs.declared.Who.the-variants.{WaitersOf}
 use Rattle.kernel.proofs.Kernel.waiter.Statement.{statement}
 use Rattle.kernel.proofs.Kernel.waiter.Tie as tie
 
-first-waiter-requires : tie.Need-first-waiter-requires
-first-waiter-requires c κs = search needs
-
 returns : tie.Need-returns
 returns c = (
   λ s h. c .first-waiter .ensures s h,
@@ -20,4 +17,4 @@ returns c = (
 )
 
 pub waiter-spec : {M : Type 1} → statement M
-waiter-spec = tie.close (tie.spec first-waiter-requires returns)
+waiter-spec = tie.close (tie.spec (λ c κs. search needs) returns)

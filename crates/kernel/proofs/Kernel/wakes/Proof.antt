@@ -6,12 +6,11 @@ use Rattle.kernel.proofs.Ends.{wakes-done}
 use Rattle.kernel.proofs.Kernel.wakes.Statement.{statement}
 use Rattle.kernel.proofs.Kernel.wakes.Tie as tie
 
-wakes-requires : tie.Need-wakes-requires
-wakes-requires c κs = search needs
-
 returns : tie.Need-returns
 unfolding kernelOf
-returns c = λ s h. rw h (wakes-done s (byNumber 16) (c .before .before .before .before .wakes .result) (c .before .before .before .before .wakes .ensures ∙ rw h))
+returns c =
+    let wakes = c .before .before .before .before .wakes in
+    λ s h. rw h (wakes-done s (byNumber 16) (wakes .result) (wakes .ensures ∙ rw h))
 
 pub wakes-spec : {M : Type 1} → statement M
-wakes-spec = tie.close (tie.spec wakes-requires returns)
+wakes-spec = tie.close (tie.spec (λ c κs. search needs) returns)

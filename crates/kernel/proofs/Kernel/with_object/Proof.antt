@@ -4,12 +4,9 @@ use Rattle.objects.proofs.Columns.{put-of}
 use Rattle.kernel.proofs.Kernel.with_object.Statement.{statement}
 use Rattle.kernel.proofs.Kernel.with_object.Tie as tie
 
-set-requires : tie.Need-set-requires
-set-requires c κs = search needs
-
 returns : tie.Need-returns
 unfolding kernelOf
 returns c = λ s h. rw (c .set .ensures, h, put-of (s .objects) (c .before .args .o .0) (c .before .args .kind))
 
 pub with-object-spec : {M : Type 1} → statement M
-with-object-spec = tie.close (tie.spec set-requires returns)
+with-object-spec = tie.close (tie.spec (λ c κs. search needs) returns)

@@ -4,19 +4,13 @@ use Rattle.rules.specs.Refusals.{mustWait}
 use Rattle.kernel.proofs.Seen.must_wait.Statement.{statement}
 use Rattle.kernel.proofs.Seen.must_wait.Tie as tie
 
-waits-requires : tie.Need-waits-requires
-waits-requires c κs = search needs
-
 returns : tie.Need-returns
 unfolding mustWait
 returns c = rw (sym (c .before .waits .ensures) ∙ c .if1 .taken)
-
-stops-at-requires : tie.Need-stops-at-requires
-stops-at-requires c κs = search needs
 
 returns-2 : tie.Need-returns-2
 unfolding mustWait
 returns-2 c = rw (sym (c .before .before .waits .ensures) ∙ c .before .if1 .left) (c .stops-at .ensures)
 
 pub must-wait-spec : {M : Type 1} → statement M
-must-wait-spec = tie.close (tie.spec waits-requires returns stops-at-requires returns-2)
+must-wait-spec = tie.close (tie.spec (λ c κs. search needs) returns (λ c κs. search needs) returns-2)

@@ -3,33 +3,6 @@ use Rattle.rules.specs.Refusals.{namesNone}
 use Rattle.kernel.proofs.Seen.names_none.Statement.{statement}
 use Rattle.kernel.proofs.Seen.names_none.Tie as tie
 
-enum-told : tie.Need-enum-told
-enum-told c = search needs
-
-enum-told-2 : tie.Need-enum-told-2
-enum-told-2 c = search needs
-
-is-free-requires : tie.Need-is-free-requires
-is-free-requires c κs = search needs
-
-enum-told-3 : tie.Need-enum-told-3
-enum-told-3 c = search needs
-
-is-unused-requires : tie.Need-is-unused-requires
-is-unused-requires c κs = search needs
-
-enum-told-4 : tie.Need-enum-told-4
-enum-told-4 c = search needs
-
-is-queue-requires : tie.Need-is-queue-requires
-is-queue-requires c κs = search needs
-
-enum-told-5 : tie.Need-enum-told-5
-enum-told-5 c = search needs
-
-is-mutex-requires : tie.Need-is-mutex-requires
-is-mutex-requires c κs = search needs
-
 returns : tie.Need-returns
 unfolding namesNone
 returns c = rw (c .enum-told .given .1)
@@ -54,15 +27,15 @@ pub names-none-spec : {M : Type 1} → statement M
 names-none-spec =
     tie.close
     (tie.spec
-    enum-told
-    enum-told-2
-    is-free-requires
-    enum-told-3
-    is-unused-requires
-    enum-told-4
-    is-queue-requires
-    enum-told-5
-    is-mutex-requires
+    (λ c. search needs)
+    (λ c. search needs)
+    (λ c κs. search needs)
+    (λ c. search needs)
+    (λ c κs. search needs)
+    (λ c. search needs)
+    (λ c κs. search needs)
+    (λ c. search needs)
+    (λ c κs. search needs)
     returns
     returns-2
     returns-3

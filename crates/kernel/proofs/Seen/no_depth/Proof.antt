@@ -9,18 +9,12 @@ use Rattle.rules.specs.Asking.{is}
 use Rattle.kernel.proofs.Seen.no_depth.Statement.{statement}
 use Rattle.kernel.proofs.Seen.no_depth.Tie as tie
 
-is-requires : tie.Need-is-requires
-is-requires c κs = search needs
-
 returns : tie.Need-returns
 unfolding noDepth
 returns c =
     let a = c .before .before .args .a in
     let e : is 8 a ≡ true = sym (c .before .is .ensures) ∙ c .if1 .taken in
     rw (e, is-not 8 9 a (λ z. omega arith) e, or-false)
-
-is-requires-2 : tie.Need-is-requires-2
-is-requires-2 c κs = search needs
 
 returns-2 : tie.Need-returns-2
 unfolding noDepth
@@ -31,4 +25,4 @@ unfolding noDepth
 returns-3 c = rw (sym (c .before .before .before .is .ensures) ∙ c .before .before .if1 .left, sym (c .before .is2 .ensures) ∙ c .if2 .left)
 
 pub no-depth-spec : {M : Type 1} → statement M
-no-depth-spec = tie.close (tie.spec is-requires returns is-requires-2 returns-2 returns-3)
+no-depth-spec = tie.close (tie.spec (λ c κs. search needs) returns (λ c κs. search needs) returns-2 returns-3)

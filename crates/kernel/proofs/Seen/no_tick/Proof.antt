@@ -4,12 +4,6 @@ use Rattle.rules.specs.Refusals.{noTick}
 use Rattle.kernel.proofs.Seen.no_tick.Statement.{statement}
 use Rattle.kernel.proofs.Seen.no_tick.Tie as tie
 
-is-requires : tie.Need-is-requires
-is-requires c κs = search needs
-
-both-requires : tie.Need-both-requires
-both-requires c κs = search needs
-
 returns : tie.Need-returns
 unfolding noTick
 returns c = rw (sym (c .before .before .before .before .is .ensures) ∙ c .before .before .before .if1 .taken) (c .both .ensures)
@@ -19,4 +13,4 @@ unfolding noTick
 returns-2 c = rw (sym (c .before .is .ensures) ∙ c .if1 .left)
 
 pub no-tick-spec : {M : Type 1} → statement M
-no-tick-spec = tie.close (tie.spec is-requires both-requires returns returns-2)
+no-tick-spec = tie.close (tie.spec (λ c κs. search needs) (λ c κs. search needs) returns returns-2)

@@ -4,12 +4,6 @@ use Rattle.rules.specs.Refusals.{notSuspended}
 use Rattle.kernel.proofs.Seen.not_suspended.Statement.{statement}
 use Rattle.kernel.proofs.Seen.not_suspended.Tie as tie
 
-is-requires : tie.Need-is-requires
-is-requires c κs = search needs
-
-is-suspended-requires : tie.Need-is-suspended-requires
-is-suspended-requires c κs = search needs
-
 returns : tie.Need-returns
 unfolding notSuspended
 returns c = rw (sym (c .before .before .is .ensures) ∙ c .before .if1 .taken, ← c .is-suspended .ensures)
@@ -19,4 +13,4 @@ unfolding notSuspended
 returns-2 c = rw (sym (c .before .is .ensures) ∙ c .if1 .left)
 
 pub not-suspended-spec : {M : Type 1} → statement M
-not-suspended-spec = tie.close (tie.spec is-requires is-suspended-requires returns returns-2)
+not-suspended-spec = tie.close (tie.spec (λ c κs. search needs) (λ c κs. search needs) returns returns-2)

@@ -10,49 +10,28 @@ returns : tie.Need-returns
 unfolding notWithHold
 returns c = rw (le-ltb 0 (c .before .before .args .self .hold) (omega (arith, c .if1 .taken)))
 
-stops-requires : tie.Need-stops-requires
-stops-requires c κs = search needs
-
-same-requires : tie.Need-same-requires
-same-requires c κs = search needs
-
-both-requires : tie.Need-both-requires
-both-requires c κs = search needs
-
-waits-requires : tie.Need-waits-requires
-waits-requires c κs = search needs
-
-either-requires : tie.Need-either-requires
-either-requires c κs = search needs
-
-is-requires : tie.Need-is-requires
-is-requires c κs = search needs
-
-is-requires-2 : tie.Need-is-requires-2
-is-requires-2 c κs = search needs
-
-either-requires-2 : tie.Need-either-requires-2
-either-requires-2 c κs = search needs
-
-either-requires-3 : tie.Need-either-requires-3
-either-requires-3 c κs = search needs
-
 returns-2 : tie.Need-returns-2
 unfolding notWithHold
-returns-2 c = rw (lt-ltb 0 (c .before .before .before .before .before .before .before .before .before .before .before .before .before .args .self .hold) (omega (arith, c .before .before .before .before .before .before .before .before .before .before .before .if1 .left))) (c .either3 .ensures ∙ rw (c .before .either2 .ensures, c .before .before .is2 .ensures, c .before .before .before .is .ensures, c .before .before .before .before .either .ensures, c .before .before .before .before .before .waits .ensures, c .before .before .before .before .before .before .both .ensures, c .before .before .before .before .before .before .before .same .ensures, c .before .before .before .before .before .before .before .before .stops .ensures))
+returns-2 c =
+    let c4 = c .before .before .before .before in
+    let c8 = c4 .before .before .before .before in
+    let c12 = c8 .before .before .before .before in
+    rw (lt-ltb 0 (c12 .before .args .self .hold) (omega (arith, c8 .before .before .before .if1 .left)))
+    (c .either3 .ensures ∙ rw (c .before .either2 .ensures, c .before .before .is2 .ensures, c .before .before .before .is .ensures, c4 .either .ensures)
+    (rw (c4 .before .waits .ensures, c4 .before .before .both .ensures, c4 .before .before .before .same .ensures, c8 .stops .ensures)))
 
 pub not-with-hold-spec : {M : Type 1} → statement M
 not-with-hold-spec =
     tie.close
     (tie.spec
     returns
-    stops-requires
-    same-requires
-    both-requires
-    waits-requires
-    either-requires
-    is-requires
-    is-requires-2
-    either-requires-2
-    either-requires-3
+    (λ c κs. search needs)
+    (λ c κs. search needs)
+    (λ c κs. search needs)
+    (λ c κs. search needs)
+    (λ c κs. search needs)
+    (λ c κs. search needs)
+    (λ c κs. search needs)
+    (λ c κs. search needs)
+    (λ c κs. search needs)
     returns-2)

@@ -4,12 +4,6 @@ use Rattle.rules.specs.Refusals.{wrongSize}
 use Rattle.kernel.proofs.Seen.wrong_size.Statement.{statement}
 use Rattle.kernel.proofs.Seen.wrong_size.Tie as tie
 
-is-requires : tie.Need-is-requires
-is-requires c κs = search needs
-
-size-differs-requires : tie.Need-size-differs-requires
-size-differs-requires c κs = search needs
-
 returns : tie.Need-returns
 unfolding wrongSize
 returns c = rw (sym (c .before .before .is .ensures) ∙ c .before .if1 .taken) (c .size-differs .ensures)
@@ -19,4 +13,4 @@ unfolding wrongSize
 returns-2 c = rw (sym (c .before .is .ensures) ∙ c .if1 .left)
 
 pub wrong-size-spec : {M : Type 1} → statement M
-wrong-size-spec = tie.close (tie.spec is-requires size-differs-requires returns returns-2)
+wrong-size-spec = tie.close (tie.spec (λ c κs. search needs) (λ c κs. search needs) returns returns-2)

@@ -3,46 +3,36 @@ use Rattle.kernel.proofs.Sessions.{none-left, last-told}
 use Rattle.kernel.proofs.Session.end.Statement.{statement}
 use Rattle.kernel.proofs.Session.end.Tie as tie
 
-is-empty-requires : tie.Need-is-empty-requires
-is-empty-requires c κs = search needs
-
-either-requires : tie.Need-either-requires
-either-requires c κs = search needs
-
 returns : tie.Need-returns
-returns c = none-left (c .before .before .before .before .before .before .args .self .kernel) (c .before .before .before .before .before .before .args .store .now) (c .before .before .before .before .before .before .args .self .cut) (c .before .before .before .before .before .before .args .out .now) (c .before .before .is-empty .result) (c .before .either .result) (c .before .before .is-empty .ensures) (c .before .either .ensures) (c .if1 .taken)
-
-sound-requires : tie.Need-sound-requires
-sound-requires c κs = search needs
-
-line-refusal-requires : tie.Need-line-refusal-requires
-line-refusal-requires c κs = search needs
-
-of-slot-requires : tie.Need-of-slot-requires
-of-slot-requires c κs = search needs
-
-put-answer-requires : tie.Need-put-answer-requires
-put-answer-requires c κs = search needs
-
-same-length : tie.Need-same-length
-same-length c = search needs
+returns c =
+    let args = c .before .before .before .before .before .before .args in
+    none-left (args .self .kernel) (args .store .now) (args .self .cut) (args .out .now) (c .before .before .is-empty .result) (c .before .either .result)
+    (c .before .before .is-empty .ensures) (c .before .either .ensures) (c .if1 .taken)
 
 returns-2 : tie.Need-returns-2
 returns-2 c =
-    let a = c .before .before .before .before .before .before .before .before .before .before .before .before .before .before .args in
-    last-told (a .self .kernel) (a .store .now) (a .self .cut) (a .out .now) (c .before .before .before .before .before .before .before .before .before .before .is-empty .result) (c .before .before .before .before .before .before .before .before .before .either .result) (c .before .before .before .before .before .before .before .sound .result) (c .before .before .before .before .before .before .line-refusal .result) (c .before .before .before .put-answer .result) (c .before .before .before .put-answer .last .0)
-    (c .before .before .before .before .before .before .before .before .before .before .is-empty .ensures) (c .before .before .before .before .before .before .before .before .before .either .ensures) (c .before .before .before .before .before .before .before .before .if1 .left) (c .before .before .before .before .before .before .before .sound .ensures .0) (c .before .before .before .before .before .before .line-refusal .ensures) (rw (← c .before .before .before .before .of-slot .ensures) (c .before .before .before .put-answer .ensures))
+    let c4 = c .before .before .before .before in
+    let c8 = c4 .before .before .before .before in
+    let c12 = c8 .before .before .before .before in
+    let is-empty = c8 .before .before .is-empty in
+    let either = c8 .before .either in
+    let sound = c4 .before .before .before .sound in
+    let line-refusal = c4 .before .before .line-refusal in
+    let put-answer = c .before .before .before .put-answer in
+    let a = c12 .before .before .args in
+    last-told (a .self .kernel) (a .store .now) (a .self .cut) (a .out .now) (is-empty .result) (either .result) (sound .result) (line-refusal .result) (put-answer .result) (put-answer .last .0)
+    (is-empty .ensures) (either .ensures) (c8 .if1 .left) (sound .ensures .0) (line-refusal .ensures) (rw (← c4 .of-slot .ensures) (put-answer .ensures))
 
 pub end-spec : {M : Type 1} → statement M
 end-spec =
     tie.close
     (tie.spec
-    is-empty-requires
-    either-requires
+    (λ c κs. search needs)
+    (λ c κs. search needs)
     returns
-    sound-requires
-    line-refusal-requires
-    of-slot-requires
-    put-answer-requires
-    same-length
+    (λ c κs. search needs)
+    (λ c κs. search needs)
+    (λ c κs. search needs)
+    (λ c κs. search needs)
+    (λ c. search needs)
     returns-2)

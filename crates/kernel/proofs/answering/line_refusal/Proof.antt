@@ -7,21 +7,19 @@ use Rattle.kernel.proofs.answering.line_refusal.Tie as tie
 returns : tie.Need-returns
 returns c = rw (off (c .before .args .fine) (c .if1 .taken))
 
-enum-told : tie.Need-enum-told
-enum-told c = search needs
-
-enum-told-2 : tie.Need-enum-told-2
-enum-told-2 c = search needs
-
 returns-2 : tie.Need-returns-2
 returns-2 c = rw (on (c .before .before .before .args .fine) (c .before .before .if1 .left), c .enum-told .given .1)
 
 returns-3 : tie.Need-returns-3
-returns-3 c = rw (on (c .before .before .before .before .args .fine) (c .before .before .before .if1 .left), c .before .enum-told2 .given .1, eq-eqb (c .before .before .before .before .args .len) 9216 (c .if2 .taken))
+returns-3 c =
+    let a = c .before .before .before .before .args in
+    rw (on (a .fine) (c .before .before .before .if1 .left), c .before .enum-told2 .given .1, eq-eqb (a .len) 9216 (c .if2 .taken))
 
 returns-4 : tie.Need-returns-4
-returns-4 c = rw (on (c .before .before .before .before .args .fine) (c .before .before .before .if1 .left), c .before .enum-told2 .given .1, ne-eqb (c .before .before .before .before .args .len) 9216 (c .if2 .left))
+returns-4 c =
+    let a = c .before .before .before .before .args in
+    rw (on (a .fine) (c .before .before .before .if1 .left), c .before .enum-told2 .given .1, ne-eqb (a .len) 9216 (c .if2 .left))
 
 pub line-refusal-spec : {M : Type 1} → statement M
 line-refusal-spec =
-    tie.close (tie.spec returns enum-told enum-told-2 returns-2 returns-3 returns-4)
+    tie.close (tie.spec returns (λ c. search needs) (λ c. search needs) returns-2 returns-3 returns-4)

@@ -6,33 +6,6 @@ use native.Mathlib.Omega.{arith}
 use Rattle.kernel.proofs.parts.of_ring.Statement.{statement}
 use Rattle.kernel.proofs.parts.of_ring.Tie as tie
 
-cast-n : tie.Need-cast-n
-cast-n c = search needs
-
-begins-requires : tie.Need-begins-requires
-begins-requires c κs = search needs
-
-slot-requires : tie.Need-slot-requires
-slot-requires c κs = search needs
-
-mul-from : tie.Need-mul-from
-mul-from c = search needs
-
-add-end : tie.Need-add-end
-add-end c = search needs
-
-sub-fetch-at : tie.Need-sub-fetch-at
-sub-fetch-at c = search needs
-
-part-fetch-at-start : tie.Need-part-fetch-at-start
-part-fetch-at-start c = search needs
-
-part-fetch-at-end : tie.Need-part-fetch-at-end
-part-fetch-at-end c = search needs
-
-fetch-at-requires : tie.Need-fetch-at-requires
-fetch-at-requires c κs = search needs
-
 returns : tie.Need-returns
 unfolding itemAt
 returns c =
@@ -45,13 +18,13 @@ pub of-ring-spec : {M : Type 1} → statement M
 of-ring-spec =
     tie.close
     (tie.spec
-    cast-n
-    begins-requires
-    slot-requires
-    mul-from
-    add-end
-    sub-fetch-at
-    part-fetch-at-start
-    part-fetch-at-end
-    fetch-at-requires
+    (λ c. search needs)
+    (λ c κs. search needs)
+    (λ c κs. search needs)
+    (λ c. search needs)
+    (λ c. search needs)
+    (λ c. search needs)
+    (λ c. search needs)
+    (λ c. search needs)
+    (λ c κs. search needs)
     returns)

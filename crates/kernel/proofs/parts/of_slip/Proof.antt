@@ -6,30 +6,6 @@ use native.Mathlib.Omega.{arith}
 use Rattle.kernel.proofs.parts.of_slip.Statement.{statement}
 use Rattle.kernel.proofs.parts.of_slip.Tie as tie
 
-slot-requires : tie.Need-slot-requires
-slot-requires c κs = search needs
-
-mul-from : tie.Need-mul-from
-mul-from c = search needs
-
-add-from : tie.Need-add-from
-add-from c = search needs
-
-add-end : tie.Need-add-end
-add-end c = search needs
-
-sub-fetch-at : tie.Need-sub-fetch-at
-sub-fetch-at c = search needs
-
-part-fetch-at-start : tie.Need-part-fetch-at-start
-part-fetch-at-start c = search needs
-
-part-fetch-at-end : tie.Need-part-fetch-at-end
-part-fetch-at-end c = search needs
-
-fetch-at-requires : tie.Need-fetch-at-requires
-fetch-at-requires c κs = search needs
-
 returns : tie.Need-returns
 returns c =
     let a = c .before .before .before .before .args in
@@ -41,12 +17,12 @@ pub of-slip-spec : {M : Type 1} → statement M
 of-slip-spec =
     tie.close
     (tie.spec
-    slot-requires
-    mul-from
-    add-from
-    add-end
-    sub-fetch-at
-    part-fetch-at-start
-    part-fetch-at-end
-    fetch-at-requires
+    (λ c κs. search needs)
+    (λ c. search needs)
+    (λ c. search needs)
+    (λ c. search needs)
+    (λ c. search needs)
+    (λ c. search needs)
+    (λ c. search needs)
+    (λ c κs. search needs)
     returns)

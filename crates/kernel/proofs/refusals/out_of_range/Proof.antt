@@ -24,16 +24,19 @@ returns-4 c = rw (le-ltb _ _ (c .before .before .before .before .if1 .left), lt-
 
 returns-5 : tie.Need-returns-5
 unfolding outOfRange
-returns-5 c = rw (le-ltb _ _ (c .before .before .before .before .before .if1 .left), lt-leb _ _ (c .before .before .before .if2 .left), le-ltb _ _ (c .before .before .if3 .left), le-ltb _ _ (c .before .if4 .left), lt-ltb _ _ (c .if5 .taken))
+returns-5 c = rw (le-ltb _ _ (c .before .before .before .before .before .if1 .left), lt-leb _ _ (c .before .before .before .if2 .left))
+    (rw (le-ltb _ _ (c .before .before .if3 .left), le-ltb _ _ (c .before .if4 .left), lt-ltb _ _ (c .if5 .taken)))
 
 mul-result : tie.Need-mul-result
 mul-result c =
-    let p : c .before .before .before .before .before .before .before .args .a .capacity * c .before .before .before .before .before .before .before .args .a .size ≤ 64 * 64 = mul-le-mul {n₂ = 64} {m₂ = 64} (omega arith) (omega arith) in
+    let a = c .before .before .before .before .before .before .before .args in
+    let p : a .a .capacity * a .a .size ≤ 64 * 64 = mul-le-mul {n₂ = 64} {m₂ = 64} (omega arith) (omega arith) in
     record { fits = omega arith }
 
 returns-6 : tie.Need-returns-6
 unfolding outOfRange
-returns-6 c = rw (le-ltb _ _ (c .before .before .before .before .before .if1 .left), lt-leb _ _ (c .before .before .before .if2 .left), le-ltb _ _ (c .before .before .if3 .left), le-ltb _ _ (c .before .if4 .left), le-ltb _ _ (c .if5 .left))
+returns-6 c = rw (le-ltb _ _ (c .before .before .before .before .before .if1 .left), lt-leb _ _ (c .before .before .before .if2 .left))
+    (rw (le-ltb _ _ (c .before .before .if3 .left), le-ltb _ _ (c .before .if4 .left), le-ltb _ _ (c .if5 .left)))
 
 pub out-of-range-spec : {M : Type 1} → statement M
 out-of-range-spec =

@@ -4,12 +4,6 @@ use native.Mathlib.Omega.{arith}
 use Rattle.kernel.proofs.rings.begins.Statement.{statement}
 use Rattle.kernel.proofs.rings.begins.Tie as tie
 
-place-requires : tie.Need-place-requires
-place-requires c κs = search needs
-
-cast-result : tie.Need-cast-result
-cast-result c = search needs
-
 mul-result : tie.Need-mul-result
 mul-result c =
     let s = c .before .before in
@@ -23,4 +17,4 @@ returns c =
     (rw (← c .before .place .ensures .0), omega arith)
 
 pub begins-spec : {M : Type 1} → statement M
-begins-spec = tie.close (tie.spec place-requires cast-result mul-result returns)
+begins-spec = tie.close (tie.spec (λ c κs. search needs) (λ c. search needs) mul-result returns)

@@ -12,9 +12,10 @@ returns c = c .kind .ensures ∙ rw (c .before .before .before .before .before .
 
 returns-2 : tie.Need-returns-2
 returns-2 c =
-    let os = c .before .before .before .before .before .before .before .before .args .self in
+    let a = c .before .before .before .before .before .before .before .before .args in
+    let os = a .self in
     let f : Full os = search needs in
-    sym (past-kind os f (c .before .before .before .before .before .before .before .before .args .o .0) (omega arith))
+    sym (past-kind os f (a .o .0) (omega arith))
 
 pub get-spec : {M : Type 1} → statement M
 get-spec =

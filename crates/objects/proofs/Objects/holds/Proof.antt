@@ -24,8 +24,9 @@ loop-again c = (next (c .before .before .before .loop .inv .0) (c .either .ensur
 
 returns : tie.Need-returns Inv-loop μ-loop
 returns c =
-    let f : Full (c .before .before .before .before .args .self) = search needs in
-    ended (c .before .loop .inv .0) 16 (omega arith) ∙ held-some (c .before .before .before .before .args .self) (c .before .before .before .before .args .t) f
+    let a = c .before .before .before .before .args in
+    let f : Full (a .self) = search needs in
+    ended (c .before .loop .inv .0) 16 (omega arith) ∙ held-some (a .self) (a .t) f
 
 pub holds-spec : {M : Type 1} → statement M
 holds-spec =

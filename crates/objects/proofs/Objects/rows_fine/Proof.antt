@@ -12,7 +12,8 @@ use Rattle.objects.proofs.Objects.rows_fine.Statement.{statement}
 use Rattle.objects.proofs.Objects.rows_fine.Tie as tie
 
 abbrev Inv-loop : tie.InvT-loop
-Inv-loop state capacity size first count holder ok₀ i₀ ok i = Held (λ j. rowFine (six (getD state j 0) (getD capacity j 0) (getD size j 0) (getD first j 0) (getD count j 0) (getD holder j 0))) true ok i × (i ≤ 16)
+Inv-loop state capacity size first count holder ok₀ i₀ ok i =
+    Held (λ j. rowFine (six (getD state j 0) (getD capacity j 0) (getD size j 0) (getD first j 0) (getD count j 0) (getD holder j 0))) true ok i × (i ≤ 16)
 
 abbrev μ-loop : tie.MeasureT-loop
 μ-loop state capacity size first count holder ok₀ i₀ ok i = 16 - i

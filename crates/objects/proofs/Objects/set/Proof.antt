@@ -12,9 +12,10 @@ returns c = rw (c .before .before .before .before .before .before .before .of .e
 
 returns-2 : tie.Need-returns-2
 returns-2 c =
-    let os = c .before .before .before .before .before .before .before .before .before .args .self in
+    let a = c .before .before .before .before .before .before .before .before .before .args in
+    let os = a .self in
     let f : Full os = search needs in
-    sym (lost-kind os f (c .before .before .before .before .before .before .before .before .before .args .o .0) (omega arith) (c .before .before .before .before .before .before .before .before .before .args .k))
+    sym (lost-kind os f (a .o .0) (omega arith) (a .k))
 
 pub set-spec : {M : Type 1} → statement M
 set-spec =

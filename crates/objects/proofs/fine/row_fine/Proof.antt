@@ -7,8 +7,11 @@ use Rattle.objects.proofs.fine.row_fine.Tie as tie
 returns : tie.Need-returns
 unfolding rowFine
 returns c =
+    let c4 = c .before .before .before .before in
+    let c8 = c4 .before .before .before .before in
     c .both4 .ensures
-    ∙ rw (c .before .both3 .ensures, c .before .before .either3 .ensures, c .before .before .before .ring-fine .ensures, c .before .before .before .before .both2 .ensures, c .before .before .before .before .before .both .ensures, c .before .before .before .before .before .before .either2 .ensures, c .before .before .before .before .before .before .before .either .ensures, c .before .before .before .before .before .before .before .before .no-ring .ensures)
+    ∙ rw (c .before .both3 .ensures, c .before .before .either3 .ensures, c .before .before .before .ring-fine .ensures, c4 .both2 .ensures)
+    (rw (c4 .before .both .ensures, c4 .before .before .either2 .ensures, c4 .before .before .before .either .ensures, c8 .no-ring .ensures))
 
 pub row-fine-spec : {M : Type 1} → statement M
 row-fine-spec =

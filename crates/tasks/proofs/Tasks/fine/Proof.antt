@@ -13,14 +13,16 @@ use Rattle.tasks.proofs.Tasks.fine.Tie as tie
 
 returns : tie.Need-returns
 returns c =
-    let ts = c .before .before .before .before .before .before .args .self in
+    let a = c .before .before .before .before .before .before .args in
+    let ts = a .self in
     let f : Full ts = search needs in
-    let tick = c .before .before .before .before .before .before .args .tick in
-    let stands = c .before .before .before .before .before .before .args .stands in
-    let holds = c .before .before .before .before .before .before .args .t4 in
+    let tick = a .tick in
+    let stands = a .stands in
+    let holds = a .t4 in
     let idle = idleAlone (getD holds 0 false) (rowAt ts 0) in
     let e : c .both3 .result ≡ (idle && (allBelow 16 (rowsFine ts stands holds) && allBelow 16 (wakesFine ts tick))) =
-    c .both3 .ensures ∙ rw (c .before .both2 .ensures, c .before .before .wakes-fine .ensures, c .before .before .before .rows-fine .ensures, c .before .before .before .before .both .ensures, c .before .before .before .before .before .idle-fine .ensures) in
+    c .both3 .ensures ∙ rw (c .before .both2 .ensures, c .before .before .wakes-fine .ensures, c .before .before .before .rows-fine .ensures)
+    (rw (c .before .before .before .before .both .ensures, c .before .before .before .before .before .idle-fine .ensures)) in
     record { many = rows-many ts ∙ f .states; said = e; whole = λ h. fine-whole ts f tick stands holds idle (sym e ∙ h) }
 
 pub fine-spec : {M : Type 1} → statement M

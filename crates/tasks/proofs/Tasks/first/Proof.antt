@@ -26,11 +26,12 @@ loop-holds c =
 
 loop-again : tie.Need-loop-again Inv-loop μ-loop
 loop-again c =
-    let ts = c .before .before .before .before .before .before .before .before .before .before .args .self in
+    let a = c .before .before .before .before .before .before .before .before .before .before .args in
+    let ts = a .self in
     let f : Full ts = search needs in
     let l = c .before .before .before .before .loop in
-    let w = c .before .before .before .before .before .before .before .before .before .before .args .w in
-    let t = getD (c .before .before .before .before .before .before .before .before .before .before .args .o .places) (l .i) idle in
+    let w = a .w in
+    let t = getD (a .o .places) (l .i) idle in
     let s = c .before .slot in
     turn (l .inv) (search needs) idle
     (⊎-elim (λ v. v .4 ∙ v .3 .ensures ∙ lead-takes (ts .state) (s .result) t (s .ensures) w (ts .object) (ts .effective) (l .best) (sym (v .1 .ensures) ∙ v .2 .taken))
@@ -40,9 +41,10 @@ loop-again c =
 
 returns : tie.Need-returns Inv-loop μ-loop
 returns c =
-    let o = c .before .before .before .before .before .before .before .args .o in
+    let a = c .before .before .before .before .before .before .before .args in
+    let o = a .o in
     let len : length (o .places) ≡ 16 = search length-mapped in
-    done (c .before .loop .inv) (search needs) ∙ rw (c .before .before .reach .ensures, reached o len) (lead-is (c .before .before .before .before .before .before .before .args .self) (listed o) (c .before .before .before .before .before .before .before .args .w))
+    done (c .before .loop .inv) (search needs) ∙ rw (c .before .before .reach .ensures, reached o len) (lead-is (a .self) (listed o) (a .w))
 
 pub first-spec : {M : Type 1} → statement M
 first-spec =

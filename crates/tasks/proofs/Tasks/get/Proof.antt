@@ -12,9 +12,10 @@ returns c = rw (c .place .ensures, c .before .before .before .before .before .be
 
 returns-2 : tie.Need-returns-2
 returns-2 c =
-    let ts = c .before .before .before .before .before .before .before .before .before .args .self in
+    let a = c .before .before .before .before .before .before .before .before .before .args in
+    let ts = a .self in
     let f : Full ts = search needs in
-    c .free .ensures ∙ sym (past-row ts f (c .before .before .before .before .before .before .before .before .before .args .t .0) (omega arith))
+    c .free .ensures ∙ sym (past-row ts f (a .t .0) (omega arith))
 
 pub get-spec : {M : Type 1} → statement M
 get-spec =

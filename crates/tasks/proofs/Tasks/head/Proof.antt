@@ -27,34 +27,37 @@ loop-holds c =
 
 returns : tie.Need-returns Inv-loop μ-loop
 returns c =
-    let ts = c .before .before .before .before .before .before .before .before .before .before .before .args .self in
-    let o = c .before .before .before .before .before .before .before .before .before .before .before .args .o in
+    let a = c .before .before .before .before .before .before .before .before .before .before .before .args in
+    let ts = a .self in
+    let o = a .o in
     let len : length (o .places) ≡ 16 = search length-mapped in
     let l = c .before .before .before .before .before .before .loop in
     let s = c .before .before .before .slot in
-    let p = c .before .before .before .before .before .before .before .before .before .before .before .args .p in
+    let p = a .p in
     let t = getD (o .places) (l .i) idle in
     let k = met (l .inv) (search needs) idle (level-at (ts .state) (s .result) t (s .ensures) p (ts .effective) (sym (c .before .at-level .ensures) ∙ c .if2 .taken)) in
     sym (ap headOr k) ∙ rw (c .before .before .before .before .before .before .before .reach .ensures, reached o len, line-is ts (listed o) p)
 
 loop-again : tie.Need-loop-again Inv-loop μ-loop
 loop-again c =
-    let ts = c .before .before .before .before .before .before .before .before .before .args .self in
+    let a = c .before .before .before .before .before .before .before .before .before .args in
+    let ts = a .self in
     let f : Full ts = search needs in
     let l = c .before .before .before .before .loop in
     let s = c .before .slot in
-    let p = c .before .before .before .before .before .before .before .before .before .args .p in
-    let t = getD (c .before .before .before .before .before .before .before .before .before .args .o .places) (l .i) idle in
+    let p = a .p in
+    let t = getD (a .o .places) (l .i) idle in
     skip (l .inv) (search needs) idle
     (⊎-elim (λ v. level-at (ts .state) (s .result) t (s .ensures) p (ts .effective) (sym (v .1 .ensures) ∙ v .2 .left))
     (λ v. level-past (ts .state) (s .result) t (s .ensures) p (ts .effective) (f .states) (omega (arith, v .left))) (c .if1 .came))
 
 returns-2 : tie.Need-returns-2 Inv-loop μ-loop
 returns-2 c =
-    let ts = c .before .before .before .before .before .before .before .args .self in
-    let o = c .before .before .before .before .before .before .before .args .o in
+    let a = c .before .before .before .before .before .before .before .args in
+    let ts = a .self in
+    let o = a .o in
     let len : length (o .places) ≡ 16 = search length-mapped in
-    let p = c .before .before .before .before .before .before .before .args .p in
+    let p = a .p in
     c .of .ensures ∙ sym (ap headOr (met-none (c .before .before .loop .inv) (search needs))) ∙ rw (c .before .before .before .reach .ensures, reached o len, line-is ts (listed o) p)
 
 pub head-spec : {M : Type 1} → statement M

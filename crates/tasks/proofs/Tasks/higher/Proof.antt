@@ -24,31 +24,36 @@ loop-holds c = (seek, search needs)
 
 returns : tie.Need-returns Inv-loop μ-loop
 returns c =
-    let ts = c .before .before .before .before .before .before .before .before .before .before .before .args .self in
-    let o = c .before .before .before .before .before .before .before .before .before .before .before .args .o in
+    let a = c .before .before .before .before .before .before .before .before .before .before .before .args in
+    let reach = c .before .before .before .before .before .before .before .reach in
+    let slot = c .before .before .before .slot in
+    let ts = a .self in
+    let o = a .o in
     let len : length (o .places) ≡ 16 = search length-mapped in
     let l = c .before .before .before .before .before .before .loop in
-    let n = c .before .before .before .before .before .before .before .reach .result in
-    let few : n ≤ length (o .places) = omega (arith, c .before .before .before .before .before .before .before .reach .ensures) in
+    let n = reach .result in
+    let few : n ≤ length (o .places) = omega (arith, reach .ensures) in
     let low : l .i < n = c .before .before .before .before .before .loop-test .taken in
     let t = getD (o .places) (l .i) idle in
     this (l .inv .0) (rw (first-long (o .places) n few) low) idle
-    (rw (first-at (o .places) n few (l .i) low) (above-at (ts .state) (c .before .before .before .slot .result) t (c .before .before .before .slot .ensures) (c .before .before .before .before .before .before .before .before .before .before .before .args .p) (ts .effective) (sym (c .before .above .ensures) ∙ c .if2 .taken)))
-    ∙ rw (c .before .before .before .before .before .before .before .reach .ensures, reached o len) (above-is ts (listed o) (c .before .before .before .before .before .before .before .before .before .before .before .args .p))
+    (rw (first-at (o .places) n few (l .i) low) (above-at (ts .state) (slot .result) t (slot .ensures) (a .p) (ts .effective) (sym (c .before .above .ensures) ∙ c .if2 .taken)))
+    ∙ rw (reach .ensures, reached o len) (above-is ts (listed o) (a .p))
 
 loop-again : tie.Need-loop-again Inv-loop μ-loop
 loop-again c =
-    let ts = c .before .before .before .before .before .before .before .before .before .args .self in
+    let a = c .before .before .before .before .before .before .before .before .before .args in
+    let reach = c .before .before .before .before .before .reach in
+    let ts = a .self in
     let f : Full ts = search needs in
-    let o = c .before .before .before .before .before .before .before .before .before .args .o in
+    let o = a .o in
     let len : length (o .places) ≡ 16 = search length-mapped in
     let l = c .before .before .before .before .loop in
-    let n = c .before .before .before .before .before .reach .result in
-    let few : n ≤ length (o .places) = omega (arith, c .before .before .before .before .before .reach .ensures) in
+    let n = reach .result in
+    let few : n ≤ length (o .places) = omega (arith, reach .ensures) in
     let low : l .i < n = c .before .before .before .loop-test .taken in
     let t = getD (o .places) (l .i) idle in
     let s = c .before .slot in
-    let p = c .before .before .before .before .before .before .before .before .before .args .p in (
+    let p = a .p in (
       not-this (l .inv .0) (rw (first-long (o .places) n few) low) idle (rw (first-at (o .places) n few (l .i) low)
           (⊎-elim (λ v. above-at (ts .state) (s .result) t (s .ensures) p (ts .effective) (sym (v .1 .ensures) ∙ v .2 .left))
           (λ v. above-past (ts .state) (s .result) t (s .ensures) p (ts .effective) (f .states) (omega (arith, v .left))) (c .if1 .came))),
@@ -57,13 +62,14 @@ loop-again c =
 
 returns-2 : tie.Need-returns-2 Inv-loop μ-loop
 returns-2 c =
-    let ts = c .before .before .before .before .before .before .args .self in
-    let o = c .before .before .before .before .before .before .args .o in
+    let a = c .before .before .before .before .before .before .args in
+    let ts = a .self in
+    let o = a .o in
     let len : length (o .places) ≡ 16 = search length-mapped in
     let n = c .before .before .reach .result in
     let few : n ≤ length (o .places) = omega (arith, c .before .before .reach .ensures) in
     none-left (c .before .loop .inv .0) (rw (first-long (o .places) n few) (search needs))
-    ∙ rw (c .before .before .reach .ensures, reached o len) (above-is ts (listed o) (c .before .before .before .before .before .before .args .p))
+    ∙ rw (c .before .before .reach .ensures, reached o len) (above-is ts (listed o) (a .p))
 
 pub higher-spec : {M : Type 1} → statement M
 higher-spec =

@@ -8,10 +8,12 @@ use Rattle.tasks.proofs.Tasks.leader.Tie as tie
 
 returns : tie.Need-returns
 returns c =
-    let ts = c .before .before .before .before .args .self in
-    let o = c .before .before .before .before .args .o in
+    let a = c .before .before .before .before .args in
+    let ts = a .self in
+    let o = a .o in
     let f : Full ts = search needs in
-    head-leads ts f (o .living) (listed o) (λ e. rw e) (c .before .before .head .result) (c .before .before .before .before .args .u) (c .before .before .head .ensures ∙ rw (c .before .before .before .top .ensures)) (rw (← c .before .slot .ensures) (c .if1 .taken))
+    head-leads ts f (o .living) (listed o) (λ e. rw e) (c .before .before .head .result) (a .u)
+    (c .before .before .head .ensures ∙ rw (c .before .before .before .top .ensures)) (rw (← c .before .slot .ensures) (c .if1 .taken))
 
 returns-2 : tie.Need-returns-2
 returns-2 c = c .or .ensures ∙ rw (c .before .first .ensures)

@@ -13,9 +13,10 @@ returns c = rw (c .before .slot .ensures)
 
 returns-2 : tie.Need-returns-2
 returns-2 c =
-    let ts = c .before .before .before .args .self in
+    let a = c .before .before .before .args in
+    let ts = a .self in
     let f : Full ts = search needs in
-    sym (ap (λ (x : Task). x .effective) (past-row ts f (c .before .before .before .args .t .0) (omega arith)))
+    sym (ap (λ (x : Task). x .effective) (past-row ts f (a .t .0) (omega arith)))
 
 pub level-spec : {M : Type 1} → statement M
 level-spec = tie.close (tie.spec (λ c κs. search needs) (λ c. search needs) returns returns-2)

@@ -25,7 +25,9 @@ loop-again : tie.Need-loop-again Inv-loop μ-loop
 loop-again c = (all-turn (c .before .before .before .loop .inv .0) (c .both .ensures ∙ rw (c .before .row-fine .ensures)), search needs)
 
 returns : tie.Need-returns Inv-loop μ-loop
-returns c = all-done (c .before .loop .inv .0) 16 (omega arith) ∙ rows-are (c .before .before .before .before .before .before .before .args .self) (c .before .before .before .before .before .before .before .args .t2) (c .before .before .before .before .before .before .before .args .t3)
+returns c =
+    let a = c .before .before .before .before .before .before .before .args in
+    all-done (c .before .loop .inv .0) 16 (omega arith) ∙ rows-are (a .self) (a .t2) (a .t3)
 
 pub rows-fine-spec : {M : Type 1} → statement M
 rows-fine-spec =

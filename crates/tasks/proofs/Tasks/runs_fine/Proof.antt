@@ -15,10 +15,13 @@ unfolding runsIn
 returns c =
     let ts = c .before .before .before .before .before .before .before .before .args .self in
     let f : Full ts = search needs in
-    let u = c .before .before .before .before .before .before .before .before .args .u in
+    let a = c .before .before .before .before .before .before .before .before .args in
+    let c4 = c .before .before .before .before in
+    let u = a .u in
     c .both2 .ensures
-    ∙ rw (c .before .both .ensures, c .before .before .slot .ensures, c .before .before .before .either .ensures, c .before .before .before .before .outranked .ensures, c .before .before .before .before .before .same .ensures, c .before .before .before .before .before .before .head .ensures, c .before .before .before .before .before .before .before .level .ensures)
-    (runs-is ts f (listed (c .before .before .before .before .before .before .before .before .args .o)) u (rowAt ts (u .0) .effective) (c .before .before .before .before .before .before .before .before .args .held || not (outrankedIn ts (rowAt ts (u .0) .effective))))
+    ∙ rw (c .before .both .ensures, c .before .before .slot .ensures, c .before .before .before .either .ensures, c4 .outranked .ensures, c4 .before .same .ensures)
+    (rw (c4 .before .before .head .ensures, c4 .before .before .before .level .ensures)
+    (runs-is ts f (listed (a .o)) u (rowAt ts (u .0) .effective) (a .held || not (outrankedIn ts (rowAt ts (u .0) .effective)))))
 
 pub runs-fine-spec : {M : Type 1} → statement M
 runs-fine-spec =

@@ -12,9 +12,10 @@ returns c = rw (c .before .before .before .before .before .before .before .of .e
 
 returns-2 : tie.Need-returns-2
 returns-2 c =
-    let ts = c .before .before .before .before .before .before .before .before .before .args .self in
+    let a = c .before .before .before .before .before .before .before .before .before .args in
+    let ts = a .self in
     let f : Full ts = search needs in
-    sym (lost-row ts f (c .before .before .before .before .before .before .before .before .before .args .t .0) (omega arith) (c .before .before .before .before .before .before .before .before .before .args .x))
+    sym (lost-row ts f (a .t .0) (omega arith) (a .x))
 
 pub set-spec : {M : Type 1} → statement M
 set-spec =

@@ -26,9 +26,10 @@ loop-again c = (next (c .before .before .before .loop .inv .0) (c .lesser .ensur
 
 returns : tie.Need-returns Inv-loop μ-loop
 returns c =
-    let ts = c .before .before .before .before .args .self in
+    let a = c .before .before .before .before .args in
+    let ts = a .self in
     let f : Full ts = search needs in
-    ended (c .before .loop .inv .0) 16 (omega arith) ∙ until-is ts f (c .before .before .before .before .args .now)
+    ended (c .before .loop .inv .0) 16 (omega arith) ∙ until-is ts f (a .now)
 
 pub until-due-spec : {M : Type 1} → statement M
 until-due-spec =

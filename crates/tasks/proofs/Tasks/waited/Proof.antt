@@ -27,9 +27,10 @@ loop-again c = (next (c .before .before .before .loop .inv .0) (c .either .ensur
 
 returns : tie.Need-returns Inv-loop μ-loop
 returns c =
-    let ts = c .before .before .before .before .args .self in
+    let a = c .before .before .before .before .args in
+    let ts = a .self in
     let f : Full ts = search needs in
-    ended (c .before .loop .inv .0) 16 (omega arith) ∙ waited-is ts f (c .before .before .before .before .args .o)
+    ended (c .before .loop .inv .0) 16 (omega arith) ∙ waited-is ts f (a .o)
 
 pub waited-spec : {M : Type 1} → statement M
 waited-spec =

@@ -21,14 +21,16 @@ loop-holds c = (all-begin refl, search needs)
 
 loop-again : tie.Need-loop-again Inv-loop μ-loop
 loop-again c =
-    let ts = c .before .before .before .before .before .before .before .before .args .self in
-    let opens = c .before .before .before .before .before .before .before .before .args .t2 in
-    let takes = c .before .before .before .before .before .before .before .before .args .t3 in
-    let holder = c .before .before .before .before .before .before .before .before .args .t4 in
+    let a = c .before .before .before .before .before .before .before .before .args in
+    let ts = a .self in
+    let opens = a .t2 in
+    let takes = a .t3 in
+    let holder = a .t4 in
     let l = c .before .before .before .loop in
     let w = sym (c .before .waits .ensures) in (
       all-turn (l .inv .0) (⊎-elim
-          (λ v. v .7 ∙ v .6 .ensures ∙ rw (v .5 .ensures, v .4 .ensures, v .3 .ensures) (wait-fits (ts .state) (ts .object) opens takes holder (l .i) (v .1 .result) (v .1 .ensures) (l .ok) (w ∙ v .0 .taken) (v .2 .taken)))
+          (λ v. v .7 ∙ v .6 .ensures ∙ rw (v .5 .ensures, v .4 .ensures, v .3 .ensures)
+          (wait-fits (ts .state) (ts .object) opens takes holder (l .i) (v .1 .result) (v .1 .ensures) (l .ok) (w ∙ v .0 .taken) (v .2 .taken)))
           (⊎-elim
           (λ v. v .3 ∙ wait-past (ts .state) (ts .object) opens takes holder (l .i) (v .1 .result) (v .1 .ensures) (l .ok) (w ∙ v .0 .taken) (omega (arith, v .2 .left)))
           (λ v. v .1 ∙ wait-not (ts .state) (ts .object) opens takes holder (l .i) (l .ok) (w ∙ v .0 .left)))
@@ -38,8 +40,9 @@ loop-again c =
 
 returns : tie.Need-returns Inv-loop μ-loop
 returns c =
+    let a = c .before .before .before .before .before .before .args in
     let e : c .before .loop .i ≡ c .before .before .bound .result = omega arith in
-    waits-end (c .before .before .before .before .before .before .args .self) (c .before .before .before .before .before .before .args .t2) (c .before .before .before .before .before .before .args .t3) (c .before .before .before .before .before .before .args .t4) (c .before .loop .inv .0) (e ∙ c .before .before .bound .ensures ∙ rw (c .before .before .before .waiting .ensures))
+    waits-end (a .self) (a .t2) (a .t3) (a .t4) (c .before .loop .inv .0) (e ∙ c .before .before .bound .ensures ∙ rw (c .before .before .before .waiting .ensures))
 
 pub waits-fine-spec : {M : Type 1} → statement M
 waits-fine-spec =

@@ -23,7 +23,9 @@ loop-again : tie.Need-loop-again Inv-loop μ-loop
 loop-again c = (all-turn (c .before .before .before .loop .inv .0) (c .both .ensures ∙ rw (c .before .wake-fine .ensures)), search needs)
 
 returns : tie.Need-returns Inv-loop μ-loop
-returns c = all-done (c .before .loop .inv .0) 16 (omega arith) ∙ wakes-are (c .before .before .before .before .args .self) (c .before .before .before .before .args .tick)
+returns c =
+    let a = c .before .before .before .before .args in
+    all-done (c .before .loop .inv .0) 16 (omega arith) ∙ wakes-are (a .self) (a .tick)
 
 pub wakes-fine-spec : {M : Type 1} → statement M
 wakes-fine-spec =

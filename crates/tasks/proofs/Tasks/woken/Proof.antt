@@ -23,9 +23,10 @@ loop-holds c = (start, search needs)
 
 loop-again : tie.Need-loop-again Inv-loop μ-loop
 loop-again c =
+    let a = c .before .before .before .before .before .before .before .before .before .before .args in
     let l = c .before .before .before .loop in
-    let ts = columns (l .state) (l .object) (l .wake) (c .before .before .before .before .before .before .before .before .before .before .args .self .own) (c .before .before .before .before .before .before .before .before .before .before .args .self .effective) (l .outcome) in
-    let now = c .before .before .before .before .before .before .before .before .before .before .args .now in
+    let ts = columns (l .state) (l .object) (l .wake) (a .self .own) (a .self .effective) (l .outcome) in
+    let now = a .now in
     let is = sym (c .before .due .ensures) in (
       next (l .inv .0) (⊎-elim
           (λ v. woken-alike (v .4) (v .5) (v .6) (v .7) (v .8) ∙ due-turn now ts (l .order) (l .i) (is ∙ v .0 .taken) (v .1 .ensures) (v .3 .ensures ∙ rw (v .2 .ensures)))

@@ -7,10 +7,16 @@ use Rattle.tasks.proofs.fine.row_fine.Tie as tie
 returns : tie.Need-returns
 unfolding rowFine
 returns c =
+    let c4 = c .before .before .before .before in
+    let c8 = c4 .before .before .before .before in
+    let c12 = c8 .before .before .before .before in
+    let c16 = c12 .before .before .before .before in
     c .both11 .ensures
-    ∙ rw (c .before .both10 .ensures, c .before .before .both9 .ensures, c .before .before .before .both8 .ensures, c .before .before .before .before .one-if .ensures, c .before .before .before .before .before .either6 .ensures, c .before .before .before .before .before .before .both7 .ensures, c .before .before .before .before .before .before .before .both6 .ensures, c .before .before .before .before .before .before .before .before .both5 .ensures)
-    (rw (c .before .before .before .before .before .before .before .before .before .both4 .ensures, c .before .before .before .before .before .before .before .before .before .before .either5 .ensures, c .before .before .before .before .before .before .before .before .before .before .before .both3 .ensures, c .before .before .before .before .before .before .before .before .before .before .before .before .both2 .ensures, c .before .before .before .before .before .before .before .before .before .before .before .before .before .either4 .ensures, c .before .before .before .before .before .before .before .before .before .before .before .before .before .before .both .ensures, c .before .before .before .before .before .before .before .before .before .before .before .before .before .before .before .either3 .ensures)
-    (rw (c .before .before .before .before .before .before .before .before .before .before .before .before .before .before .before .before .either2 .ensures, c .before .before .before .before .before .before .before .before .before .before .before .before .before .before .before .before .before .either .ensures, c .before .before .before .before .before .before .before .before .before .before .before .before .before .before .before .before .before .before .waits .ensures)))
+    ∙ rw (c .before .both10 .ensures, c .before .before .both9 .ensures, c .before .before .before .both8 .ensures, c4 .one-if .ensures)
+    (rw (c4 .before .either6 .ensures, c4 .before .before .both7 .ensures, c4 .before .before .before .both6 .ensures, c8 .both5 .ensures)
+    (rw (c8 .before .both4 .ensures, c8 .before .before .either5 .ensures, c8 .before .before .before .both3 .ensures, c12 .both2 .ensures)
+    (rw (c12 .before .either4 .ensures, c12 .before .before .both .ensures, c12 .before .before .before .either3 .ensures)
+    (rw (c16 .either2 .ensures, c16 .before .either .ensures, c16 .before .before .waits .ensures)))))
 
 pub row-fine-spec : {M : Type 1} → statement M
 row-fine-spec =
