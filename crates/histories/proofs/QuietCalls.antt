@@ -95,7 +95,7 @@ module _ (t : TaskSlot) (os : List Object) where
 -- ── the calls
 module _ (k : State) (S : Sound k) (t : TaskSlot) where
   caller-there : isFree (taskAt (k .tasks) (k .running) .place) ≡ false
-  caller-there = ap isFree (S .runs)
+  caller-there = ap isFree (S .running .runs .ready)
 
   first-there : (o : ObjSlot) (u : TaskSlot) (r : List TaskSlot) → first k (WaitersOf o) ≡ u ∷ r → isFree (taskAt (k .tasks) u .place) ≡ false
   first-there o u r e = waits-there o (taskAt (k .tasks) u .place) (first-meant k (WaitersOf o) u (first-single k (WaitersOf o) u r e))

@@ -26,13 +26,13 @@ use Rattle.rules.specs.Step.{accepted, turnedAway, step}
 use Rattle.rules.proofs.Slots.{past-tasks}
 use Rattle.rules.proofs.Says.{sound-says, says-sound}
 use Rattle.rules.proofs.Passes.{Passed, passed}
-use Rattle.rules.proofs.Nearly.{settled, Nearly, Runs}
+use Rattle.rules.proofs.Nearly.{settled, Nearly, RunsIn}
 use Rattle.rules.proofs.Chosen.{chosen-sound}
 
 -- after its effect the kernel is nearly sound, and with a hold the running task still heads its line
 pub record Keeps (j : State) : Type 0 where
   pub nearly : Nearly (settled (j .tick)) j
-  pub runs : 0 < j .hold → Runs j
+  pub runs : 0 < j .hold → RunsIn j
 
 -- so the step keeps soundness, whether the call is accepted or not
 pub kept : (k : State) (c : Call) (item s : List ℕ) → sound k ≡ true → (Sound k → Passed k (asked c) (length s) → Keeps (effect k (asked c))) → sound (step k c item s .kernel) ≡ true
