@@ -260,7 +260,8 @@ module _ (k : Kernel) (stands : List ℕ) (hs : Holdings) (fine : Bool) (F : Fin
     pub is-plain : plain k ≡ true
     unfolding plain canonical
     is-plain =
-        and-intro _ _ (below-all 16 _ (λ n l. and-intro _ _ (and-left (known (getD (ts .state) n 0) (getD (ts .object) n 0)) _ (each n l)) (and-left (wakeKnown (getD (ts .state) n 0) (getD (ts .wake) n 0)) _ (wake n l))))
+        and-intro _ _ (below-all 16 _
+        (λ n l. and-intro _ _ (and-left (known (getD (ts .state) n 0) (getD (ts .object) n 0)) _ (each n l)) (and-left (wakeKnown (getD (ts .state) n 0) (getD (ts .wake) n 0)) _ (wake n l))))
         (fine-canonical (k .objects) kinds)
 
     alone : (n : ℕ) → n < 16 → AloneTested (getD stands n 0) (getD (hs .held) n false) (slotTask (s .tasks) n)
@@ -335,7 +336,8 @@ module _ (k : Kernel) (stands : List ℕ) (hs : Holdings) (fine : Bool) (F : Fin
       where
         cells : (n : ℕ) → n < 16 → (known (getD (ts .state) n 0) (getD (ts .object) n 0) && wakeKnown (getD (ts .state) n 0) (getD (ts .wake) n 0)) ≡ true
         cells n l =
-            all-below 16 (λ i. known (getD (ts .state) i 0) (getD (ts .object) i 0) && wakeKnown (getD (ts .state) i 0) (getD (ts .wake) i 0)) (and-left (canonical ts) (canonicalKinds (k .objects)) p) n l
+            all-below 16 (λ i. known (getD (ts .state) i 0) (getD (ts .object) i 0) && wakeKnown (getD (ts .state) i 0) (getD (ts .wake) i 0))
+            (and-left (canonical ts) (canonicalKinds (k .objects)) p) n l
 
         slotted : Bool
         slotted = allBelow 16 (λ n. holderSlot (kindAt (s .objects) (object n)))
@@ -376,7 +378,8 @@ module _ (k : Kernel) (stands : List ℕ) (hs : Holdings) (fine : Bool) (F : Fin
         each-kind : (n : ℕ) → n < 16 → fineAt (k .objects) n ≡ true
         each-kind n l =
             fine-of (k .objects) n (and-right (canonical ts) (canonicalKinds (k .objects)) p) l
-            (rw (← kind n l) (and-intro (ringInRange (slotKind (s .objects) n)) (holderSlot (slotKind (s .objects) n)) (all-below 16 _ (T .rings) n l) (all-below 16 _ (and-left slotted unheld halves) n l)))
+            (rw (← kind n l) (and-intro (ringInRange (slotKind (s .objects) n)) (holderSlot (slotKind (s .objects) n)) (all-below 16 _ (T .rings) n l)
+            (all-below 16 _ (and-left slotted unheld halves) n l)))
 
   pub quick-is : quick ≡ sound (shown k)
   unfolding shown

@@ -18,7 +18,8 @@ use Rattle.rules.specs.Sound.{tablesFine, levelsFine, listingFine, clockFine, n
 use Rattle.promises.specs.Alike.{Alike, idleFirst, idleLast}
 
 pub two-sound : (sound idleFirst ≡ true) × (sound idleLast ≡ true)
-unfolding idleFirst idleLast sound every allBelow any kept ordered count tidy taskAt kindAt holds line noHigher runsFine tablesFine levelsFine listingFine clockFine
+unfolding idleFirst idleLast sound every allBelow any kept ordered count tidy
+    taskAt kindAt holds line noHigher runsFine tablesFine levelsFine listingFine clockFine
 two-sound = (refl, refl)
 
 pub two-alike : Alike idleFirst idleLast

@@ -141,7 +141,8 @@ module _ {w : Owing} (k : State) (N : Nearly w k) (t : TaskSlot) (low : t .0 < 1
         mine : (taskAt (withTask k t new .tasks) (k .running) .place ≡ Ready) × (level (withTask k t new .tasks) (k .running) ≡ level (k .tasks) (k .running))
         mine = go (sameTask (k .running) t) refl
           where
-            go : (b : Bool) → sameTask (k .running) t ≡ b → (taskAt (withTask k t new .tasks) (k .running) .place ≡ Ready) × (level (withTask k t new .tasks) (k .running) ≡ level (k .tasks) (k .running))
+            go : (b : Bool) → sameTask (k .running) t ≡ b
+                → (taskAt (withTask k t new .tasks) (k .running) .place ≡ Ready) × (level (withTask k t new .tasks) (k .running) ≡ level (k .tasks) (k .running))
             go true e =
                 let u : k .running ≡ t = one-number (k .running) t (eqb-true (k .running .0) (t .0) e) in (
                   ap (λ v. taskAt (withTask k t new .tasks) v .place) u ∙ ap (λ (y : Task). y .place) new-at ∙ sym (ap (λ v. taskAt (k .tasks) v .place) u) ∙ R .ready,
@@ -171,13 +172,15 @@ module _ {w : Owing} (k : State) (N : Nearly w k) (t : TaskSlot) (low : t .0 < 1
             let u : t ≡ k .running = one-number t (k .running) (eqb-true (t .0) (k .running .0) q) in
             runs-head k new (toHead (withTask k t new) t) (ap (λ (v : TaskSlot). set (k .tasks) (v .0) new) u) refl (omega (arith, N .tables .task-slots, ap (λ (v : TaskSlot). v .0) u)) (is-ready _ e)
             (head-listed k N t new low ranked-fine (λ o h z. X z) idle-new ready-listed ∙ ap (λ (v : TaskSlot). v ∷ without v (listed (k .order))) u)
-        go false q = runs-tail k R t new (toTail (withTask k t new) t) refl refl (λ z. eqb-false (t .0) (k .running .0) q (sym z)) (tail-listed k N t new low ranked-fine (λ o h z. X z) idle-new ready-listed)
+        go false q =
+            runs-tail k R t new (toTail (withTask k t new) t) refl refl (λ z. eqb-false (t .0) (k .running .0) q (sym z)) (tail-listed k N t new low ranked-fine (λ o h z. X z) idle-new ready-listed)
 
     pub prioritized-runs : RunsIn (prioritized k t own eff)
     unfolding prioritized movedIf
     prioritized-runs = go (isReady (taskAt (k .tasks) t .place)) refl (eqb (level (k .tasks) t) eff) refl
       where
-        go : (a : Bool) → isReady (taskAt (k .tasks) t .place) ≡ a → (b : Bool) → eqb (level (k .tasks) t) eff ≡ b → RunsIn (if a then (if b then withTask k t new else moved (withTask k t new) t) else withTask k t new)
+        go : (a : Bool) → isReady (taskAt (k .tasks) t .place) ≡ a → (b : Bool) → eqb (level (k .tasks) t) eff ≡ b
+            → RunsIn (if a then (if b then withTask k t new else moved (withTask k t new) t) else withTask k t new)
         go true e true q = runs-still q
         go true e false q = runs-moved e
         go false e b q = runs-unready e

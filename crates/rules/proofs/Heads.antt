@@ -41,7 +41,8 @@ module _ (k : State) (R : RunsIn k) (t : TaskSlot) (x : Task) (j : State) (ts : 
 
   -- another task was changed and moved
   module _ (n : u .0 ≡ t .0 → ⊥) where
-    heads-from : (s : List TaskSlot) → ((p : ℕ) → line (j .tasks) p (listed (j .order)) ≡ without t (line (k .tasks) p (listed (k .order))) ++ (if inLine p (taskAt (j .tasks) t) then s else [])) → RunsIn j
+    heads-from : (s : List TaskSlot) → ((p : ℕ) → line (j .tasks) p (listed (j .order)) ≡ without t (line (k .tasks) p (listed (k .order))) ++ (if inLine p (taskAt (j .tasks) t) then s else []))
+        → RunsIn j
     heads-from s f =
         let same : level (j .tasks) (j .running) ≡ level (k .tasks) u = ap (λ v. level (j .tasks) v) r ∙ ap (λ (y : Task). y .effective) (others u n) in
         record {
@@ -65,16 +66,19 @@ module _ (k : State) (R : RunsIn k) (t : TaskSlot) (x : Task) (j : State) (ts : 
         none false p = sym (append-nil (without t (line (k .tasks) p (listed (k .order)))))
 
   -- the order stays, and so does every line
-  pub runs-stay : listed (j .order) ≡ listed (k .order) → ((p : ℕ) (v : TaskSlot) → inLine p (taskAt (j .tasks) v) ≡ inLine p (taskAt (k .tasks) v)) → taskAt (j .tasks) u .place ≡ Ready → level (j .tasks) u ≡ level (k .tasks) u → RunsIn j
+  pub runs-stay : listed (j .order) ≡ listed (k .order) → ((p : ℕ) (v : TaskSlot) → inLine p (taskAt (j .tasks) v) ≡ inLine p (taskAt (k .tasks) v))
+      → taskAt (j .tasks) u .place ≡ Ready → level (j .tasks) u ≡ level (k .tasks) u → RunsIn j
   unfolding line
   runs-stay e f a b =
+      let p = level (k .tasks) u in
       record {
         ready = rw r a;
-        heads = rw (r, b, e, kept-same (λ v. inLine (level (k .tasks) u) (taskAt (j .tasks) v)) (λ v. inLine (level (k .tasks) u) (taskAt (k .tasks) v)) (f (level (k .tasks) u)) (listed (k .order))) (R .heads);
+        heads = rw (r, b, e, kept-same (λ v. inLine p (taskAt (j .tasks) v)) (λ v. inLine p (taskAt (k .tasks) v)) (f p) (listed (k .order))) (R .heads);
       }
 
 -- the running task was changed and moved to the head
-pub runs-head : (k : State) (x : Task) (j : State) → j .tasks ≡ set (k .tasks) (k .running .0) x → j .running ≡ k .running → k .running .0 < length (k .tasks) → x .place ≡ Ready → listed (j .order) ≡ k .running ∷ without (k .running) (listed (k .order)) → RunsIn j
+pub runs-head : (k : State) (x : Task) (j : State) → j .tasks ≡ set (k .tasks) (k .running .0) x → j .running ≡ k .running → k .running .0 < length (k .tasks)
+    → x .place ≡ Ready → listed (j .order) ≡ k .running ∷ without (k .running) (listed (k .order)) → RunsIn j
 unfolding line
 runs-head k x j ts r low a e =
     record {

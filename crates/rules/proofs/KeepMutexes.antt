@@ -235,12 +235,18 @@ module _ (k : State) (S : Sound k) (store : ℕ) where
         now-ready = ap (λ (x : Task). x .place) (readied-at k t 1 (omega (arith, S .tables .task-slots, low)))
 
         others : (v : TaskSlot) (w : Wake) → taskAt (readied k t 1 .tasks) v .place ≡ Waiting o w → MayWait v (Mutex (By t))
-        others v w q = taker (λ z. let p : Ready ≡ Waiting o w = sym now-ready ∙ ap (λ (y : TaskSlot). taskAt (readied k t 1 .tasks) y .place) (one-number t v z) ∙ q in let y : _≡_ {A = ℕ} 0 1 = cc in omega arith)
+        others v w q =
+            taker (λ z.
+            let p : Ready ≡ Waiting o w = sym now-ready ∙ ap (λ (y : TaskSlot). taskAt (readied k t 1 .tasks) y .place) (one-number t v z) ∙ q in
+            let y : _≡_ {A = ℕ} 0 1 = cc in
+            omega arith)
 
         new-holder : (v : TaskSlot) → Mutex (By t) ≡ Mutex (By v) → Exists (readied k t 1 .tasks) v × (v .0 ≡ 0 → ⊥)
         new-holder v q =
-            let p : t ≡ v = cc in
-            (subst (λ x. Exists (readied k t 1 .tasks) x) p (λ z. let r : Ready ≡ Free = sym now-ready ∙ z in let y : _≡_ {A = ℕ} 0 1 = cc in omega arith), subst (λ (x : TaskSlot). x .0 ≡ 0 → ⊥) p not-idle-one)
+            let p : t ≡ v = cc in (
+              subst (λ x. Exists (readied k t 1 .tasks) x) p (λ z. let r : Ready ≡ Free = sym now-ready ∙ z in let y : _≡_ {A = ℕ} 0 1 = cc in omega arith),
+              subst (λ (x : TaskSlot). x .0 ≡ 0 → ⊥) p not-idle-one,
+            )
 
     handed : Handed (handedOn k o)
     unfolding handedOn
@@ -251,7 +257,8 @@ module _ (k : State) (S : Sound k) (store : ℕ) where
         go (t ∷ r) e = passed-on t (first-single k (WaitersOf o) t r e)
 
     -- paid back: everyone without a mutex has its own priority
-    settle : (j : State) → Nearly owing j → ((t : TaskSlot) → sameTask t u ≡ true → ((p : ObjSlot) → Holds (j .objects) t p → ⊥) → taskAt (j .tasks) t .own ≡ taskAt (j .tasks) t .effective) → Nearly (settled (k .tick)) j
+    settle : (j : State) → Nearly owing j → ((t : TaskSlot) → sameTask t u ≡ true → ((p : ObjSlot) → Holds (j .objects) t p → ⊥) → taskAt (j .tasks) t .own ≡ taskAt (j .tasks) t .effective)
+        → Nearly (settled (k .tick)) j
     settle j M E =
         record {
           tables = M .tables;
@@ -293,12 +300,15 @@ module _ (k : State) (S : Sound k) (store : ℕ) where
         is-own : (t : TaskSlot) → sameTask t u ≡ true → taskAt (prioritized j u own own .tasks) t .own ≡ taskAt (prioritized j u own own .tasks) t .effective
         is-own t e =
             let p : t ≡ u = one-number t u (eqb-true (t .0) (u .0) e) in
-            ap (λ v. taskAt (prioritized j u own own .tasks) v .own) p ∙ ap (λ (x : Task). x .own) now-own ∙ sym (ap (λ v. taskAt (prioritized j u own own .tasks) v .effective) p ∙ ap (λ (x : Task). x .effective) now-own)
+            ap (λ v. taskAt (prioritized j u own own .tasks) v .own) p ∙ ap (λ (x : Task). x .own) now-own
+            ∙ sym (ap (λ v. taskAt (prioritized j u own own .tasks) v .effective) p ∙ ap (λ (x : Task). x .effective) now-own)
 
         go : (b : Bool) → holds (j .objects) u ≡ b → Keeps (if b then j else prioritized j u own own)
         go true e =
             record {
-              nearly = at-tick j (H .tick) (settle j (H .nearly) (λ t q n. absurd (false≢true (sym (none-holds (j .objects) u (λ p h. n p (h ∙ ap (λ v. Mutex (By v)) (sym (one-number t u (eqb-true (t .0) (u .0) q)))))) ∙ e))));
+              nearly = at-tick j (H .tick)
+                  (settle j (H .nearly)
+                  (λ t q n. absurd (false≢true (sym (none-holds (j .objects) u (λ p h. n p (h ∙ ap (λ v. Mutex (By v)) (sym (one-number t u (eqb-true (t .0) (u .0) q)))))) ∙ e))));
               runs = λ h. H .runs;
             }
         go false e =

@@ -65,7 +65,8 @@ unfolding count
 none-there [] n e c = omega arith
 none-there (t ∷ l) n e c = false≢true e
 
-pub nobody-waits : {w : Owing} (k : State) → Nearly w k → (o : ObjSlot) → isNone (those (k .tasks) (WaitersOf o) (listed (k .order))) ≡ true → (t : TaskSlot) (v : Wake) → taskAt (k .tasks) t .place ≡ Waiting o v → ⊥
+pub nobody-waits : {w : Owing} (k : State) → Nearly w k → (o : ObjSlot) → isNone (those (k .tasks) (WaitersOf o) (listed (k .order))) ≡ true
+    → (t : TaskSlot) (v : Wake) → taskAt (k .tasks) t .place ≡ Waiting o v → ⊥
 nobody-waits k N o e t v q = none-there (those (k .tasks) (WaitersOf o) (listed (k .order))) (t .0) e (N .listing .lists o t ∙ rw (q, eq-eqb (o .0) (o .0) refl))
 
 pub first-none : {w : Owing} (k : State) → Nearly w k → (o : ObjSlot) → first k (WaitersOf o) ≡ [] → (t : TaskSlot) (v : Wake) → taskAt (k .tasks) t .place ≡ Waiting o v → ⊥
@@ -139,7 +140,9 @@ module _ (k : State) (S : Sound k) (store : ℕ) where
 
     pub mutex-keeps : Keeps (effect k (nothing 11 0 0 1 0))
     unfolding effect mutexMade
-    mutex-keeps = new-object (object (freeObject (k .objects))) (Mutex Nobody) room-for-mutex (free-kind room-for-mutex) (λ q e. absurd (let z : _≡_ {A = ℕ} 0 1 = cc in omega arith)) (λ t e. let z : _≡_ {A = ℕ} 0 1 = cc in omega arith)
+    mutex-keeps =
+        new-object (object (freeObject (k .objects))) (Mutex Nobody) room-for-mutex (free-kind room-for-mutex) (λ q e. absurd (let z : _≡_ {A = ℕ} 0 1 = cc in omega arith))
+        (λ t e. let z : _≡_ {A = ℕ} 0 1 = cc in omega arith)
 
   -- 12: remove
   module _ (o : ObjSlot) (P : Passed k (onObject 12 AnObject o 0) store) where
@@ -159,7 +162,9 @@ module _ (k : State) (S : Sound k) (store : ℕ) where
     unfolding effect removed
     remove-keeps =
         record {
-          nearly = object-nearly k N o Unused (object-low (k .objects) o (S .tables .object-slots) named) (λ t v p. absurd (nobody-waits k N o unwaited t v p)) (λ q e. absurd (let z : _≡_ {A = ℕ} 0 1 = cc in omega arith))
+          nearly =
+              object-nearly k N o Unused (object-low (k .objects) o (S .tables .object-slots) named) (λ t v p. absurd (nobody-waits k N o unwaited t v p))
+              (λ q e. absurd (let z : _≡_ {A = ℕ} 0 1 = cc in omega arith))
               (λ t e. absurd (let z : _≡_ {A = ℕ} 0 1 = cc in omega arith)) (λ t h a n. absurd (false≢true (sym unheld ∙ ap isHeld h)));
           runs = λ h. R;
         }

@@ -70,7 +70,8 @@ module _ (k : State) (S : Sound k) (o : ObjSlot) (q : Ring) (kind : kindAt (k .o
   caller-waits w s busy no-hold m =
       record {
         nearly = blocked-nearly k N caller-low busy (Waiting o (wakeOf (k .tick) w)) refl
-            (λ p v e. let z : o ≡ p = cc in subst (λ x. MayWait (k .running) (kindAt (k .objects) x)) z (subst (λ (x : Kind). MayWait (k .running) x) (sym kind) m)) (wake-ahead (k .tick) w o (S .clock .counts .tick-range) s);
+            (λ p v e. let z : o ≡ p = cc in subst (λ x. MayWait (k .running) (kindAt (k .objects) x)) z (subst (λ (x : Kind). MayWait (k .running) x) (sym kind) m))
+            (wake-ahead (k .tick) w o (S .clock .counts .tick-range) s);
         runs = λ h. absurd (no-hold h);
       }
 
@@ -97,7 +98,8 @@ module _ (k : State) (S : Sound k) (o : ObjSlot) (q : Ring) (kind : kindAt (k .o
     refilled-keeps h =
         let full = full-then h in
         let less = less-fits q ring in
-        let M = ring-keeps (oneMore (oneLess q)) (record { some = ring .some; few = ring .few; small = ring .small; whole = ring .whole; starts = less .starts; counts = omega arith }) (λ u v p. sender (omega arith)) in
+        let M = ring-keeps (oneMore (oneLess q)) (record { some = ring .some; few = ring .few; small = ring .small; whole = ring .whole; starts = less .starts; counts = omega arith })
+        (λ u v p. sender (omega arith)) in
         record {
           nearly = readied-nearly (withObject k o (Queue (oneMore (oneLess q)))) M t waiter-low 1 (omega arith) refl;
           runs = λ z. readied-runs (withObject k o (Queue (oneMore (oneLess q)))) M t waiter-low 1 (omega arith) refl R not-caller;
@@ -113,7 +115,8 @@ module _ (k : State) (S : Sound k) (o : ObjSlot) (q : Ring) (kind : kindAt (k .o
         go true e =
             let l : q .count < q .capacity = ltb-true (q .count) (q .capacity) e in
             record {
-              nearly = ring-keeps (oneMore q) (record { some = ring .some; few = ring .few; small = ring .small; whole = ring .whole; starts = ring .starts; counts = omega arith }) (λ t v p. absurd (none l t v p));
+              nearly = ring-keeps (oneMore q) (record { some = ring .some; few = ring .few; small = ring .small; whole = ring .whole; starts = ring .starts; counts = omega arith })
+                  (λ t v p. absurd (none l t v p));
               runs = λ h. R;
             }
         go false e =
@@ -187,5 +190,6 @@ module _ (k : State) (S : Sound k) (store : ℕ) (o : ObjSlot) (w : ℕ) where
       where
         go : (x : Kind) → kindAt (k .objects) o ≡ x → isQueue x ≡ true → Keeps (receivedFrom k o x w)
         go Unused e m = absurd (false≢true m)
-        go (Queue q) e m = received-keeps k S o q e w (receive-waits q e) (λ s. wait-busy k (onObject 14 AQueue o w) (P .idle) (waiting s)) (λ s. wait-free k (onObject 14 AQueue o w) (P .held) (waiting s))
+        go (Queue q) e m =
+            received-keeps k S o q e w (receive-waits q e) (λ s. wait-busy k (onObject 14 AQueue o w) (P .idle) (waiting s)) (λ s. wait-free k (onObject 14 AQueue o w) (P .held) (waiting s))
         go (Mutex h) e m = absurd (false≢true m)

@@ -168,7 +168,8 @@ module _ (k : State) (S : Sound k) (store : ℕ) where
             let low = exists-low (k .tasks) t (S .tables .task-slots) found in
             record {
               nearly = leave-nearly k N t stopped low stopped-fine (λ o h e. suspended-not-free e) (λ e. absurd (not-idle-one e)) refl;
-              runs = λ h. runs-leave k R t stopped (leaves (withTask k t stopped) t) refl refl (not-caller h) (leave-listed k N t stopped low stopped-fine (λ o q e. suspended-not-free e) (λ e. absurd (not-idle-one e)) refl);
+              runs = λ h. runs-leave k R t stopped (leaves (withTask k t stopped) t) refl refl (not-caller h)
+                  (leave-listed k N t stopped low stopped-fine (λ o q e. suspended-not-free e) (λ e. absurd (not-idle-one e)) refl);
             }
         go false = record { nearly = N; runs = λ h. R }
 
@@ -188,7 +189,8 @@ module _ (k : State) (S : Sound k) (store : ℕ) where
         let low = exists-low (k .tasks) t (S .tables .task-slots) known in
         record {
           nearly = readied-nearly k N t low (taskAt (k .tasks) t .outcome) (S .tables .tasks t .outcome-range) refl;
-          runs = λ h. readied-runs k N t low (taskAt (k .tasks) t .outcome) (S .tables .tasks t .outcome-range) refl R (λ e. apart (k .tasks) t (k .running) isSuspended was-suspended (ap isSuspended (R .ready)) (sym e));
+          runs = λ h. readied-runs k N t low (taskAt (k .tasks) t .outcome) (S .tables .tasks t .outcome-range) refl R
+              (λ e. apart (k .tasks) t (k .running) isSuspended was-suspended (ap isSuspended (R .ready)) (sym e));
         }
 
   -- 5: set priority
@@ -236,7 +238,8 @@ module _ (k : State) (S : Sound k) (store : ℕ) where
         let g = given (holds (k .objects) t) refl in
         let low = exists-low (k .tasks) t (S .tables .task-slots) exists in
         record {
-          nearly = rw (prioritized-same k t p (eff (holds (k .objects) t)) .tick) (prioritized-nearly k N t low p (eff (holds (k .objects) t)) (g .0) (g .1) (λ e n. g .2 n) (not-free (k .tasks) t exists) (λ z. (idle-to-0 z, g .3 z)));
+          nearly = rw (prioritized-same k t p (eff (holds (k .objects) t)) .tick)
+              (prioritized-nearly k N t low p (eff (holds (k .objects) t)) (g .0) (g .1) (λ e n. g .2 n) (not-free (k .tasks) t exists) (λ z. (idle-to-0 z, g .3 z)));
           runs = λ h. prioritized-runs k N t low p (eff (holds (k .objects) t)) (g .0) (g .1) (λ e n. g .2 n) (not-free (k .tasks) t exists) (λ z. (idle-to-0 z, g .3 z)) R;
         }
 

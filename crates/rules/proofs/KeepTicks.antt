@@ -220,13 +220,17 @@ module _ (k : State) (S : Sound k) (store : ℕ) where
   R : RunsIn k
   R = S .running .runs
 
+  C : Counts (k .tick) (k .hold) (k .pended)
+  C = S .clock .counts
+
   -- 8: hold
   pub hold-keeps : Passed k (nothing 8 0 0 1 0) store → Keeps (effect k (nothing 8 0 0 1 0))
   unfolding effect held asked noDepth
   hold-keeps P =
       let d = eqb-false (k .hold) 255 (or-off (eqb (k .hold) 255) false (P .deep) .0) in
       record {
-        nearly = recount k (k .hold + 1) (k .pended) N (record { tick-range = S .clock .counts .tick-range; hold-range = omega (arith, S .clock .counts .hold-range, d); pended-range = S .clock .counts .pended-range; pends = λ e. absurd (omega arith) });
+        nearly = recount k (k .hold + 1) (k .pended) N
+            (record { tick-range = C .tick-range; hold-range = omega (arith, C .hold-range, d); pended-range = C .pended-range; pends = λ e. absurd (omega arith) });
         runs = λ h. R;
       }
 
@@ -235,7 +239,7 @@ module _ (k : State) (S : Sound k) (store : ℕ) where
   unfolding noTick
   tick-pends P h =
       let f : eqb (k .pended) 65535 ≡ false = rw (lt-ltb 0 (k .hold) h) at (P .ticks) in
-      omega (arith, eqb-false (k .pended) 65535 f, S .clock .counts .pended-range)
+      omega (arith, eqb-false (k .pended) 65535 f, C .pended-range)
 
   turns : (j : State) → Ticked k j → k .hold ≡ 0 → Keeps (turned j)
   unfolding turned toTail
@@ -248,7 +252,8 @@ module _ (k : State) (S : Sound k) (store : ℕ) where
       no-hold h = omega (arith, T .after .hold)
 
       go : (b : Bool) → Keeps (if b then toTail j (j .running) else j)
-      go true = record { nearly = moved-nearly j (T .nearly) (j .running) (ready-low (j .tasks) (j .running) (T .nearly .tables .task-slots) runs-ready) (rw runs-ready); runs = λ h. absurd (no-hold h) }
+      go true =
+          record { nearly = moved-nearly j (T .nearly) (j .running) (ready-low (j .tasks) (j .running) (T .nearly .tables .task-slots) runs-ready) (rw runs-ready); runs = λ h. absurd (no-hold h) }
       go false = record { nearly = T .nearly; runs = λ h. absurd (no-hold h) }
 
   pub tick-keeps : Passed k (nothing 17 0 0 1 0) store → Keeps (effect k (nothing 17 0 0 1 0))
@@ -259,7 +264,8 @@ module _ (k : State) (S : Sound k) (store : ℕ) where
       go true e =
           let h : 0 < k .hold = ltb-true 0 (k .hold) e in
           record {
-            nearly = recount k (k .hold) (k .pended + 1) N (record { tick-range = S .clock .counts .tick-range; hold-range = S .clock .counts .hold-range; pended-range = tick-pends P h; pends = λ z. absurd (omega arith) });
+            nearly = recount k (k .hold) (k .pended + 1) N
+                (record { tick-range = C .tick-range; hold-range = C .hold-range; pended-range = tick-pends P h; pends = λ z. absurd (omega arith) });
             runs = λ q. R;
           }
       go false e = turns (oneTick k) (one-tick k N) (omega (arith, ltb-false 0 (k .hold) e))
@@ -282,10 +288,13 @@ module _ (k : State) (S : Sound k) (store : ℕ) where
       some = eqb-false (k .hold) 0 (P .deep)
 
       go : (b : Bool) → eqb (k .hold) 1 ≡ b → Keeps (if b then upTo (λ x i. oneTick x) (k .pended) (withHold k 0 0) else withHold k (k .hold - 1) (k .pended))
-      go true e = all-ticks (k .pended) (withHold k 0 0) (recount k 0 0 N (record { tick-range = S .clock .counts .tick-range; hold-range = omega arith; pended-range = omega arith; pends = λ z. refl })) refl .0
+      go true e =
+          all-ticks (k .pended) (withHold k 0 0)
+          (recount k 0 0 N (record { tick-range = C .tick-range; hold-range = omega arith; pended-range = omega arith; pends = λ z. refl })) refl .0
       go false e =
           let d = eqb-false (k .hold) 1 e in
           record {
-            nearly = recount k (k .hold - 1) (k .pended) N (record { tick-range = S .clock .counts .tick-range; hold-range = omega (arith, S .clock .counts .hold-range); pended-range = S .clock .counts .pended-range; pends = λ z. absurd (omega (arith, some, d)) });
+            nearly = recount k (k .hold - 1) (k .pended) N
+                (record { tick-range = C .tick-range; hold-range = omega (arith, C .hold-range); pended-range = C .pended-range; pends = λ z. absurd (omega (arith, some, d)) });
             runs = λ h. R;
           }

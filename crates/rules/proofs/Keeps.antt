@@ -114,6 +114,7 @@ module _ {ℓ} {A : Type ℓ} (p : A → Bool) (d : A) where
   index-passes [] h = absurd (omega arith)
   index-passes (x ∷ xs) h = go (p x) refl (index-passes xs) h
     where
-      go : (b : Bool) → p x ≡ b → (index p xs < length xs → p (getD xs (index p xs) d) ≡ true) → (if b then 0 else suc (index p xs)) < suc (length xs) → p (getD (x ∷ xs) (if b then 0 else suc (index p xs)) d) ≡ true
+      go : (b : Bool) → p x ≡ b → (index p xs < length xs → p (getD xs (index p xs) d) ≡ true) → (if b then 0 else suc (index p xs)) < suc (length xs)
+          → p (getD (x ∷ xs) (if b then 0 else suc (index p xs)) d) ≡ true
       go true e ih m = e
       go false e ih m = ih (omega arith)
