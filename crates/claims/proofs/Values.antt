@@ -1,21 +1,17 @@
 -- The test of a kernel value is true exactly if it is sound, and a sound value whose columns are full is that of its state.
 use mathlib.Core.Path.{_≡_, refl, sym}
-use mathlib.Core.Bool.{Bool, true, false, false≢true}
+use mathlib.Core.Bool.{Bool, true, false}
 use Rattle.lists.specs.Choice.{if_then_else_}
-use Rattle.lists.proofs.Bools.{and-left, and-right, at}
+use Rattle.lists.proofs.Bools.{and-left, and-right}
 use Rattle.tasks.specs.Known.{canonical as plainTasks}
 use Rattle.tasks.proofs.Tables.{tasks-back}
 use Rattle.objects.proofs.Tables.{objects-back}
 use Rattle.rules.specs.Sound.{sound}
 use Rattle.rules.proofs.Says.{sound-says, says-sound}
 use Rattle.kernel.specs.Stands.{kernelOf, plain, rows, none, shown}
+use Rattle.kernel.proofs.Shown.{no-tables}
 use Rattle.claims.specs.Types.{Kernel}
 use Rattle.claims.specs.Values.{SoundValue, Full, Stands}
-
--- a state without tables is not sound
-no-tables : (k : Kernel) → sound (none k) ≡ true → false ≡ true
-unfolding sound
-no-tables k e = at _ e 0
 
 pub test-says : (k : Kernel) → sound (shown k) ≡ true → SoundValue k
 unfolding shown
@@ -23,7 +19,7 @@ test-says k = go (plain k) refl
   where
     go : (b : Bool) → plain k ≡ b → sound (if b then rows k else none k) ≡ true → SoundValue k
     go true p e = record { unused = p; state = sound-says (rows k) e }
-    go false p e = absurd (false≢true (no-tables k e))
+    go false p e = absurd (no-tables k e)
 
 pub says-test : (k : Kernel) → SoundValue k → sound (shown k) ≡ true
 unfolding shown

@@ -9,7 +9,7 @@ use Rattle.slots.specs.Tasks.{taskAt}
 use Rattle.slots.specs.Objects.{kindAt}
 use Rattle.rules.specs.Lines.{level}
 use Rattle.rules.specs.Sentences.{Holds}
-use Rattle.rules.proofs.Says.{held-one}
+use Rattle.rules.proofs.Held.{held-one}
 use Rattle.histories.specs.Types.{TaskSlot, ObjSlot}
 use Rattle.histories.specs.Moments.{Moment, hasMutex, waitsIn, waited, begins, tasksBelow}
 use Rattle.histories.specs.Borrowed.{largest, isCreated, isChanged, givenAt, lastOf, lends, lentAt}

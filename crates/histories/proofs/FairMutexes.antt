@@ -23,7 +23,7 @@ use Rattle.rules.specs.Refusals.{hisAlready}
 use Rattle.rules.specs.Waits.{wakeOf, blocked, waitFor}
 use Rattle.rules.specs.Loans.{prioritized, lent, ownAgain}
 use Rattle.rules.specs.Effects.{takenFrom, taken, handedOn, given}
-use Rattle.rules.proofs.Says.{some-holds}
+use Rattle.rules.proofs.Held.{some-holds}
 use Rattle.rules.proofs.Passes.{Passed}
 use Rattle.rules.proofs.Slotted.{at-same, at-other}
 use Rattle.rules.proofs.Blocks.{Same, prioritized-same, prioritized-tasks}
@@ -45,7 +45,8 @@ owns-kept k t eff v =
     ∙ each (k .tasks) t (ranked (taskAt (k .tasks) t) (taskAt (k .tasks) t .own) eff) (λ v y. y .own ≡ taskAt (k .tasks) v .own) refl (λ v. refl) v
 
 -- who waits on a mutex of t, and did not before, lends
-lends-on : (t : TaskSlot) (m : Moment) (u : TaskSlot) (o : ObjSlot) (w : Wake) → taskAt (m .after .tasks) u .place ≡ Waiting o w → waitsIn (m .before) u o ≡ false → Holds (m .after .objects) t o → lends t m u ≡ true
+lends-on : (t : TaskSlot) (m : Moment) (u : TaskSlot) (o : ObjSlot) (w : Wake) → taskAt (m .after .tasks) u .place ≡ Waiting o w → waitsIn (m .before) u o ≡ false → Holds (m .after .objects) t o
+    → lends t m u ≡ true
 lends-on t m u o w e b h = rw (e, eq-eqb (o .0) (o .0) refl, b, h, eq-eqb (t .0) (t .0) refl)
 
 module _ (k : State) (S : Sound k) (n : ℕ) (a : Saying) where
@@ -53,7 +54,7 @@ module _ (k : State) (S : Sound k) (n : ℕ) (a : Saying) where
   r = k .running
 
   caller-low : r .0 < 16
-  caller-low = ready-low (k .tasks) r (S .task-slots) (S .runs)
+  caller-low = ready-low (k .tasks) r (S .tables .task-slots) (S .running .runs .ready)
 
   -- 15: take of a mutex that h holds
   module _ (num : ObjNo) (w : ℕ) (P : Passed k (asked (Take num w)) n) (h : TaskSlot) (kind : kindAt (k .objects) (objSlot num) ≡ Mutex (By h)) where
@@ -74,10 +75,10 @@ module _ (k : State) (S : Sound k) (n : ℕ) (a : Saying) where
 
     -- the holder is there, and is not the caller
     holder-there : isFree (taskAt (k .tasks) h .place) ≡ false
-    holder-there = exists-there (taskAt (k .tasks) h .place) (S .holders h o kind)
+    holder-there = exists-there (taskAt (k .tasks) h .place) (S .tables .holders h o kind)
 
     holder-low : h .0 < length (k .tasks)
-    holder-low = omega (arith, exists-low (k .tasks) h (S .task-slots) holder-there, S .task-slots)
+    holder-low = omega (arith, exists-low (k .tasks) h (S .tables .task-slots) holder-there, S .tables .task-slots)
 
     not-caller : h .0 ≡ r .0 → ⊥
     unfolding asked hisAlready
@@ -99,7 +100,7 @@ module _ (k : State) (S : Sound k) (n : ℕ) (a : Saying) where
     still-his = ap (λ os. kindAt os o) same-objects ∙ kind
 
     slots : length (j .tasks) ≡ 16
-    slots = ap length (prioritized-tasks k h (taskAt (k .tasks) h .own) eff) ∙ length-set (k .tasks) (h .0) (ranked (taskAt (k .tasks) h) (taskAt (k .tasks) h .own) eff) ∙ S .task-slots
+    slots = ap length (prioritized-tasks k h (taskAt (k .tasks) h .own) eff) ∙ length-set (k .tasks) (h .0) (ranked (taskAt (k .tasks) h) (taskAt (k .tasks) h .own) eff) ∙ S .tables .task-slots
 
     caller-now : taskAt (waitFor j o w .tasks) r ≡ placed (taskAt (j .tasks) r) place 0
     caller-now = ap (λ ts. taskAt ts r) tables ∙ at-same (j .tasks) r (placed (taskAt (j .tasks) r) place 0) (omega (arith, caller-low, slots))
@@ -115,7 +116,7 @@ module _ (k : State) (S : Sound k) (n : ℕ) (a : Saying) where
     caller-level = ap (λ (x : Task). x .effective) caller-now ∙ prioritized-quiet k r h (taskAt (k .tasks) h .own) eff not-caller .effective
 
     caller-lends : lends h wait r ≡ true
-    caller-lends = lends-on h wait r o (wakeOf (j .tick) w) (ap (λ (x : Task). x .place) caller-now) (ap (waitsOn o) (S .runs)) still-his
+    caller-lends = lends-on h wait r o (wakeOf (j .tick) w) (ap (λ (x : Task). x .place) caller-now) (ap (waitsOn o) (S .running .runs .ready)) still-his
 
     only-caller : (v : TaskSlot) → lends h wait v ≡ true → v ≡ r
     only-caller v e = go (sameTask v r) refl
@@ -126,7 +127,8 @@ module _ (k : State) (S : Sound k) (n : ℕ) (a : Saying) where
         go : (b : Bool) → sameTask v r ≡ b → v ≡ r
         go true q = one-number v r (eqb-true (v .0) (r .0) q)
         go false q =
-            let same : taskAt (waitFor j o w .tasks) v .place ≡ taskAt (k .tasks) v .place = ap (λ (x : Task). x .place) (other-now v (eqb-false (v .0) (r .0) q)) ∙ places-kept k h (taskAt (k .tasks) h .own) eff v in
+            let same : taskAt (waitFor j o w .tasks) v .place ≡ taskAt (k .tasks) v .place =
+            ap (λ (x : Task). x .place) (other-now v (eqb-false (v .0) (r .0) q)) ∙ places-kept k h (taskAt (k .tasks) h .own) eff v in
             absurd (false≢true (sym (l .not-before) ∙ sym (ap (waitsOn (on wait v)) same) ∙ l .now))
 
     lent-one : largest (lentAt h wait) ≡ level (k .tasks) r
@@ -140,7 +142,10 @@ module _ (k : State) (S : Sound k) (n : ℕ) (a : Saying) where
         record {
           own = λ e. rw g (ap (λ (x : Task). x .own) holder-now);
           there = λ e q. holder-there;
-          kept = λ b c. rw (g, lent-one) (ap (λ (x : Task). x .effective) holder-now ∙ rw (larger-max (level (k .tasks) h) (level (k .tasks) r), larger-max 0 (larger (level (k .tasks) r) (level (k .tasks) h)), larger-max (level (k .tasks) r) (level (k .tasks) h)) (omega arith));
+          kept = λ b c. rw (g, lent-one)
+              (ap (λ (x : Task). x .effective) holder-now
+              ∙ rw (larger-max (level (k .tasks) h) (level (k .tasks) r), larger-max 0 (larger (level (k .tasks) r) (level (k .tasks) h)), larger-max (level (k .tasks) r) (level (k .tasks) h))
+              (omega arith));
           first = λ b c. absurd (false≢true (sym c ∙ some-holds (k .objects) h o kind));
         }
 
@@ -153,7 +158,7 @@ module _ (k : State) (S : Sound k) (n : ℕ) (a : Saying) where
         prioritized-tables t d = subst (λ os. Quiet t os (k .tasks) (j .tasks)) (s .objects ∙ sym same-objects) (prioritized-quiet k t h (taskAt (k .tasks) h .own) eff d)
 
         caller-there : isFree (taskAt (j .tasks) (j .running) .place) ≡ false
-        caller-there = ap isFree (places-kept k h (taskAt (k .tasks) h .own) eff (j .running) ∙ ap (λ v. taskAt (k .tasks) v .place) (s .running) ∙ S .runs)
+        caller-there = ap isFree (places-kept k h (taskAt (k .tasks) h .own) eff (j .running) ∙ ap (λ v. taskAt (k .tasks) v .place) (s .running) ∙ S .running .runs .ready)
 
     wait-fair : (t : TaskSlot) → Fair wait t
     unfolding asked
@@ -190,7 +195,7 @@ module _ (k : State) (S : Sound k) (n : ℕ) (a : Saying) where
         let g : givenAt r (gift (prioritized i r own own)) ≡ [] = none-given r _ refl refl in
         bare-fair (gift (prioritized i r own own)) r (ap (λ os. holds os r) (prioritized-same i r own own .objects) ∙ e)
         (λ f. rw g (owns-kept i r own r ∙ q .own))
-        (λ f z. ap isFree (S .runs))
+        (λ f z. ap isFree (S .running .runs .ready))
 
     pub give-fair : (t : TaskSlot) → Fair (gift (given k p)) t
     unfolding given ownAgain asked

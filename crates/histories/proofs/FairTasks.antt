@@ -22,7 +22,7 @@ use Rattle.rules.specs.Sentences.{Sound}
 use Rattle.rules.specs.Refusals.{namesNone, noSlot, inUse}
 use Rattle.rules.specs.Loans.{prioritized, newPriority}
 use Rattle.rules.specs.Effects.{created, deleted}
-use Rattle.rules.proofs.Says.{none-holds}
+use Rattle.rules.proofs.Held.{none-holds}
 use Rattle.rules.proofs.Passes.{Passed}
 use Rattle.rules.proofs.Slotted.{at-same}
 use Rattle.rules.proofs.Blocks.{prioritized-same, prioritized-tasks}
@@ -64,7 +64,8 @@ pub ranked-at : (k : State) (t : TaskSlot) (own eff : ℕ) → t .0 < length (k 
 ranked-at k t own eff low = ap (λ ts. taskAt ts t) (prioritized-tasks k t own eff) ∙ at-same (k .tasks) t (ranked (taskAt (k .tasks) t) own eff) low
 
 pub prioritized-quiet : (k : State) (t u : TaskSlot) (own eff : ℕ) → (u .0 ≡ t .0 → ⊥) → Quietly t k (prioritized k u own eff)
-prioritized-quiet k t u own eff d = subst (λ us. Quiet t (prioritized k u own eff .objects) (k .tasks) us) (sym (prioritized-tasks k u own eff)) (ranked-quiet t (prioritized k u own eff .objects) (k .tasks) u own eff d)
+prioritized-quiet k t u own eff d =
+    subst (λ us. Quiet t (prioritized k u own eff .objects) (k .tasks) us) (sym (prioritized-tasks k u own eff)) (ranked-quiet t (prioritized k u own eff .objects) (k .tasks) u own eff d)
 
 some-given : {p : ℕ} {l : List ℕ} → l ≡ p ∷ [] → l ≡ [] → ⊥
 some-given e f = let z : _≡_ {A = ℕ} 0 1 = cc in omega arith
@@ -83,7 +84,7 @@ module _ (k : State) (S : Sound k) (n : ℕ) (a : Saying) where
     has-slot =
         let most = index-most (λ (x : Task). isFree (x .place)) freeTask (k .tasks) in
         let d = eqb-false (freeSlot (k .tasks)) 16 (P .slot) in
-        omega (arith, d, S .task-slots)
+        omega (arith, d, S .tables .task-slots)
 
     was-free : isFree (taskAt (k .tasks) new .place) ≡ true
     unfolding freeSlot taskAt
@@ -95,7 +96,7 @@ module _ (k : State) (S : Sound k) (n : ℕ) (a : Saying) where
 
     holds-none : holds (created k p .objects) new ≡ false
     unfolding created toTail
-    holds-none = none-holds (k .objects) new (λ o h. S .holders new o h (no-place _ was-free))
+    holds-none = none-holds (k .objects) new (λ o h. S .tables .holders new o h (no-place _ was-free))
 
     given-first : givenAt new creation ≡ p ∷ []
     unfolding givenAt asked
@@ -136,7 +137,7 @@ module _ (k : State) (S : Sound k) (n : ℕ) (a : Saying) where
 
     now-gone : isFree (taskAt (deleted k old .tasks) old .place) ≡ true
     unfolding deleted leaves
-    now-gone = ap (λ (x : Task). isFree (x .place)) (at-same (k .tasks) old freeTask (omega (arith, exists-low (k .tasks) old (S .task-slots) was-there, S .task-slots)))
+    now-gone = ap (λ (x : Task). isFree (x .place)) (at-same (k .tasks) old freeTask (omega (arith, exists-low (k .tasks) old (S .tables .task-slots) was-there, S .tables .task-slots)))
 
     pub delete-fair : (t : TaskSlot) → Fair deletion t
     unfolding deleted leaves asked
@@ -162,7 +163,7 @@ module _ (k : State) (S : Sound k) (n : ℕ) (a : Saying) where
 
     changed : taskAt (newPriority k u p .tasks) u ≡ ranked (taskAt (k .tasks) u) p eff
     unfolding newPriority
-    changed = ranked-at k u p eff (omega (arith, exists-low (k .tasks) u (S .task-slots) named, S .task-slots))
+    changed = ranked-at k u p eff (omega (arith, exists-low (k .tasks) u (S .tables .task-slots) named, S .tables .task-slots))
 
     same-holds : holds (newPriority k u p .objects) u ≡ holds (k .objects) u
     unfolding newPriority

@@ -12,7 +12,8 @@ use Rattle.rules.specs.Tables.{fresh, holds}
 use Rattle.rules.specs.Lines.{level}
 use Rattle.rules.specs.Sound.{sound}
 use Rattle.rules.specs.Sentences.{Exists}
-use Rattle.rules.proofs.Says.{sound-says, not-held}
+use Rattle.rules.proofs.Held.{not-held}
+use Rattle.rules.proofs.Says.{sound-says}
 use Rattle.rules.proofs.Every.{fresh-sound, step-kept}
 use Rattle.promises.specs.History.{Made, after, reached}
 use Rattle.promises.specs.Program.{linesOf, answering}
@@ -92,7 +93,7 @@ module _ (ms : List Made) (t : TaskSlot) (there : Exists ((reached ms) .tasks) t
   -- "a task without a mutex has exactly the priority last given to it by its creation or an accepted change since"
   pub without-mutex : hasMutex (reached ms) t ≡ false → level ((reached ms) .tasks) t ≡ lastGiven t (moments ms)
   without-mutex e =
-      sym (sound-says (reached ms) (A .fine) .equal t (not-held ((reached ms) .objects) t e))
+      sym (sound-says (reached ms) (A .fine) .levels t .equal (not-held ((reached ms) .objects) t e))
       ∙ A .own t (exists-there (taskAt ((reached ms) .tasks) t .place) there)
 
   -- "A task with one has the largest of" those counted since it went from none to one

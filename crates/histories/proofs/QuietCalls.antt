@@ -50,7 +50,8 @@ module _ (t : TaskSlot) (os : List Object) where
   -- the caller waits on what is no mutex of t
   pub wait-quiet : (j : State) (o : ObjSlot) (w : ℕ) → isFree (taskAt (j .tasks) (j .running) .place) ≡ false → (Holds os t o → ⊥) → Quiet t os (j .tasks) (waitFor j o w .tasks)
   unfolding waitFor blocked toTail
-  wait-quiet j o w e n = placed-quiet t os (j .tasks) (j .running) (Waiting o (wakeOf (j .tick) w)) 0 refl e (λ p h q. n (subst (λ x. Holds os t x) (one-object p o (sym (eqb-true (o .0) (p .0) q))) h))
+  wait-quiet j o w e n =
+      placed-quiet t os (j .tasks) (j .running) (Waiting o (wakeOf (j .tick) w)) 0 refl e (λ p h q. n (subst (λ x. Holds os t x) (one-object p o (sym (eqb-true (o .0) (p .0) q))) h))
 
   woken-quiet : (j : State) (u : TaskSlot) → Quiet t os (j .tasks) (wokenIfDue j u .tasks)
   unfolding wokenIfDue
@@ -95,7 +96,7 @@ module _ (t : TaskSlot) (os : List Object) where
 -- ── the calls
 module _ (k : State) (S : Sound k) (t : TaskSlot) where
   caller-there : isFree (taskAt (k .tasks) (k .running) .place) ≡ false
-  caller-there = ap isFree (S .runs)
+  caller-there = ap isFree (S .running .runs .ready)
 
   first-there : (o : ObjSlot) (u : TaskSlot) (r : List TaskSlot) → first k (WaitersOf o) ≡ u ∷ r → isFree (taskAt (k .tasks) u .place) ≡ false
   first-there o u r e = waits-there o (taskAt (k .tasks) u .place) (first-meant k (WaitersOf o) u (first-single k (WaitersOf o) u r e))

@@ -9,7 +9,7 @@ use lib.ListN.{length, getD, List·getD-eq-default}
 use borrow.Author.Tests.{ltb-true, ltb-false, eqb-true}
 use Rattle.lists.specs.Choice.{if_then_else_}
 use Rattle.lists.specs.Lists.{kept, isNone, allBelow}
-use Rattle.lists.proofs.Bools.{and-left, and-right, and-intro, off, not-off, untrue, same-test, at, also, none, all-below, below-all}
+use Rattle.lists.proofs.Bools.{and-left, and-right, and-intro, off, not-off, untrue, same-test, all-below, below-all}
 use Rattle.lists.proofs.Tests.{any-at, any-none}
 use Rattle.numbers.specs.declared.TaskSlot.{TaskSlot}
 use Rattle.numbers.specs.Numbers.{task, object}
@@ -43,10 +43,15 @@ use Rattle.objects.proofs.Plain.{ranges-of, fine-of}
 use Rattle.rules.specs.State.{State}
 use Rattle.rules.specs.Tables.{holds}
 use Rattle.rules.specs.Lines.{line, level}
-use Rattle.rules.specs.Sound.{slotTask, slotKind, heads, noHigher, runsFine, counted, sound}
+use Rattle.rules.specs.Sound.{slotTask, slotKind, levelsFine, heads, noHigher, runsFine, counted, pendsFine, sound}
 use Rattle.rules.proofs.Slots.{past-tasks, past-objects}
+use Rattle.rules.proofs.SaysTables.{TablesTested, tables-tested, tested-tables}
+use Rattle.rules.proofs.SaysListing.{ListingTested, listing-tested, tested-listing}
+use Rattle.rules.proofs.SaysClock.{ClockTested, clock-tested, tested-clock}
+use Rattle.rules.proofs.Says.{Tested, sound-tested, tested-sound}
 use Rattle.kernel.specs.Types.{Kernel}
 use Rattle.kernel.specs.Stands.{kernelOf, plain, rows, none as noTables, shown}
+use Rattle.kernel.proofs.Shown.{no-tables}
 
 -- ── small laws
 ready-once : (n : ℕ) (p : Place) → isReady p ≡ true → standsFine n p ≡ true → n ≡ 1
@@ -72,10 +77,37 @@ unfolding kept
 kept-none-at p [] f = refl
 kept-none-at p (t ∷ l) f = rw (f t, kept-none-at p l f)
 
--- a state without tables is not sound
-no-tables : (k : Kernel) → sound (noTables k) ≡ true → false ≡ true
-unfolding sound
-no-tables k e = at _ e 0
+-- the tests of one row by their names
+record AloneTested (n : ℕ) (held : Bool) (x : Task) : Type 0 where
+  stands : standsFine n (x .place) ≡ true
+  orders : ordersFine n (x .place) ≡ true
+  levels : prioritiesFine held x ≡ true
+  outcome : outcomeFine x ≡ true
+  fresh : freshIfFree x ≡ true
+  free : freeHolds held (x .place) ≡ true
+
+alone-tested : (n : ℕ) (held : Bool) (x : Task) → aloneFine n held x ≡ true → AloneTested n held x
+alone-tested n held x e =
+    let a = and-right (standsFine n (x .place)) _ e in
+    let b = and-right (ordersFine n (x .place)) _ a in
+    let c = and-right (prioritiesFine held x) _ b in
+    let d = and-right (outcomeFine x) _ c in
+    record {
+      stands = and-left (standsFine n (x .place)) _ e;
+      orders = and-left (ordersFine n (x .place)) _ a;
+      levels = and-left (prioritiesFine held x) _ b;
+      outcome = and-left (outcomeFine x) _ c;
+      fresh = and-left (freshIfFree x) _ d;
+      free = and-right (freshIfFree x) _ d;
+    }
+
+tested-alone : (n : ℕ) (held : Bool) (x : Task) → AloneTested n held x → aloneFine n held x ≡ true
+tested-alone n held x T =
+    and-intro (standsFine n (x .place)) _ (T .stands)
+    (and-intro (ordersFine n (x .place)) _ (T .orders)
+    (and-intro (prioritiesFine held x) _ (T .levels)
+    (and-intro (outcomeFine x) _ (T .outcome)
+    (and-intro (freshIfFree x) (freeHolds held (x .place)) (T .fresh) (T .free)))))
 
 -- ── rows of the columns, and of the list that they read as
 module _ (ts : Tasks) (many : length (rowsOf ts) ≡ 16) where
@@ -193,7 +225,7 @@ module _ (k : Kernel) (stands : List ℕ) (hs : Holdings) (fine : Bool) (F : Fin
   runs = runsIn ts (listed (k .order)) (k .running) (ltb 0 (k .hold))
 
   abbrev pends : Bool
-  pends = ltb 0 (k .hold) || eqb (k .pended) 0
+  pends = pendsFine (k .hold) (k .pended)
 
   abbrev pub quick : Bool
   quick = (fine && (waits && hs .fine)) && (runs && (tidy (k .order) && pends))
@@ -228,77 +260,84 @@ module _ (k : Kernel) (stands : List ℕ) (hs : Holdings) (fine : Bool) (F : Fin
     pub is-plain : plain k ≡ true
     unfolding plain canonical
     is-plain =
-        and-intro _ _ (below-all 16 _ (λ n l. and-intro _ _ (and-left (known (getD (ts .state) n 0) (getD (ts .object) n 0)) _ (each n l)) (and-left (wakeKnown (getD (ts .state) n 0) (getD (ts .wake) n 0)) _ (wake n l))))
+        and-intro _ _ (below-all 16 _
+        (λ n l. and-intro _ _ (and-left (known (getD (ts .state) n 0) (getD (ts .object) n 0)) _ (each n l)) (and-left (wakeKnown (getD (ts .state) n 0) (getD (ts .wake) n 0)) _ (wake n l))))
         (fine-canonical (k .objects) kinds)
 
-    alone : (n : ℕ) → n < 16 → aloneFine (getD stands n 0) (getD (hs .held) n false) (slotTask (s .tasks) n) ≡ true
-    alone n l = rw (row n l) (and-right (known (getD (ts .state) n 0) (getD (ts .object) n 0)) _ (each n l))
+    alone : (n : ℕ) → n < 16 → AloneTested (getD stands n 0) (getD (hs .held) n false) (slotTask (s .tasks) n)
+    alone n l = alone-tested _ _ _ (rw (row n l) (and-right (known (getD (ts .state) n 0) (getD (ts .object) n 0)) _ (each n l)))
 
-    once : (n : ℕ) → n < 16 → standsFine (count n (listed (k .order))) (rowAt ts n .place) ≡ true
-    once n l = rw (← stands-at n l, ← row n l) (and-left _ _ (alone n l))
+    once : (n : ℕ) → n < 16 → standsFine (count n (listed (k .order))) (slotTask (s .tasks) n .place) ≡ true
+    once n l = rw (← stands-at n l) (alone n l .stands)
+
+    idles : idleAlone (getD (hs .held) 0 false) (rowAt ts 0) ≡ true
+    idles = and-left (idleAlone (getD (hs .held) 0 false) (rowAt ts 0)) _ all-rows
+
+    ranges-at : (n : ℕ) → n < 16 → (ringInRange (kindIn (k .objects) n) && holderSlot (kindIn (k .objects) n)) ≡ true
+    ranges-at n l = ranges-of (k .objects) n (all-below 16 (fineAt (k .objects)) kinds n l)
+
+    tables-so : TablesTested (s .tasks) (s .objects)
+    tables-so =
+        record {
+          slots = rw (F .many, H .many);
+          as-idle = rw (row 0 (omega arith)) (and-left (idleFine (rowAt ts 0)) _ idles);
+          waits = below-all 16 _ (λ n l. rw (row n l) (sym (waits-is (k .objects) hs H (task n) (rowAt ts n .place))
+              ∙ all-below 16 (waitsAt ts (hs .open) (hs .taken) (hs .holder)) (and-left waits _ (and-right fine _ tables)) n l));
+          idle-holds = rw (← holding-at 0 (omega arith)) (and-right (idleFine (rowAt ts 0)) _ idles);
+          holders = sym (holders-exist (s .tasks) (s .objects) (F .many) (H .many))
+              ∙ and-intro _ _ (below-all 16 _ (λ n l. rw (kind n l) (and-right (ringInRange (kindIn (k .objects) n)) _ (ranges-at n l))))
+              (below-all 16 _ (λ n l. rw (← marked n) (alone n l .free)));
+          rings = below-all 16 _ (λ n l. rw (kind n l) (and-left (ringInRange (kindIn (k .objects) n)) _ (ranges-at n l)));
+          outcomes = below-all 16 _ (λ n l. alone n l .outcome);
+          fresh = below-all 16 _ (λ n l. alone n l .fresh);
+        }
 
     to-plain : sound s ≡ true
-    unfolding sound
+    unfolding levelsFine
     to-plain =
-        also _ _ (rw (F .many, H .many, places))
-        (also _ _ (rw (row 0 (omega arith)) (and-left (idleFine (rowAt ts 0)) _ (and-left (idleAlone (getD (hs .held) 0 false) (rowAt ts 0)) _ all-rows)))
-        (also _ _ (below-all 16 _ (λ n l. rw (row n l) (once n l)))
-        (also _ _ (sym (runs-is ts (F .many) (listed (k .order)) once (k .running) (k .hold)) ∙ and-left runs _ last)
-        (also _ _ (below-all 16 _ (λ n l. rw (row n l) (sym (waits-is (k .objects) hs H (task n) (rowAt ts n .place)) ∙ all-below 16 (waitsAt ts (hs .open) (hs .taken) (hs .holder)) (and-left waits _ (and-right fine _ tables)) n l)))
-        (also _ _ (rw (← holding-at 0 (omega arith)) (and-right (idleFine (rowAt ts 0)) _ (and-left (idleAlone (getD (hs .held) 0 false) (rowAt ts 0)) _ all-rows)))
-        (also _ _ (below-all 16 _ (λ n l. rw (← holding-at n l) (third n l)))
-        (also _ _ (sym (holders-exist (s .tasks) (s .objects) (F .many) (H .many)) ∙ and-intro _ _ (below-all 16 _ (λ n l. rw (kind n l) (ranges-at n l .1))) (below-all 16 _ (λ n l. rw (← marked n) (last-of n l))))
-        (also _ _ (below-all 16 _ (λ n l. rw (row n l) (and-right (wakeKnown (getD (ts .state) n 0) (getD (ts .wake) n 0)) _ (wake n l))))
-        (also _ _ (and-left (tidy (k .order)) pends (and-right runs _ last))
-        (also _ _ (below-all 16 _ (λ n l. rw (kind n l) (ranges-at n l .0)))
-        (also _ _ ranges
-        (also _ _ (below-all 16 _ (λ n l. fourth n l))
-        (also _ _ (and-right (tidy (k .order)) pends (and-right runs _ last))
-        (also _ _ (below-all 16 _ (λ n l. fifth n l))
-        (also _ _ (below-all 16 _ (λ n l. rw (← stands-at n l) (second n l)))
-        none)))))))))))))))
-      where
-        x : ℕ → Task
-        x n = slotTask (s .tasks) n
-
-        second : (n : ℕ) → n < 16 → ordersFine (getD stands n 0) (x n .place) ≡ true
-        second n l = and-left _ _ (and-right (standsFine (getD stands n 0) (x n .place)) _ (alone n l))
-
-        more : (n : ℕ) → n < 16 → (prioritiesFine (getD (hs .held) n false) (x n) && (outcomeFine (x n) && (freshIfFree (x n) && freeHolds (getD (hs .held) n false) (x n .place)))) ≡ true
-        more n l = and-right (ordersFine (getD stands n 0) (x n .place)) _ (and-right (standsFine (getD stands n 0) (x n .place)) _ (alone n l))
-
-        third : (n : ℕ) → n < 16 → prioritiesFine (getD (hs .held) n false) (x n) ≡ true
-        third n l = and-left _ _ (more n l)
-
-        rest : (n : ℕ) → n < 16 → (outcomeFine (x n) && (freshIfFree (x n) && freeHolds (getD (hs .held) n false) (x n .place))) ≡ true
-        rest n l = and-right (prioritiesFine (getD (hs .held) n false) (x n)) _ (more n l)
-
-        fourth : (n : ℕ) → n < 16 → outcomeFine (x n) ≡ true
-        fourth n l = and-left _ _ (rest n l)
-
-        fifth : (n : ℕ) → n < 16 → freshIfFree (x n) ≡ true
-        fifth n l = and-left _ _ (and-right (outcomeFine (x n)) _ (rest n l))
-
-        last-of : (n : ℕ) → n < 16 → freeHolds (getD (hs .held) n false) (x n .place) ≡ true
-        last-of n l = and-right (freshIfFree (x n)) _ (and-right (outcomeFine (x n)) _ (rest n l))
-
-        ranges-at : (n : ℕ) → n < 16 → (ringInRange (kindIn (k .objects) n) ≡ true) × (holderSlot (kindIn (k .objects) n) ≡ true)
-        ranges-at n l =
-            let r = ranges-of (k .objects) n (all-below 16 (fineAt (k .objects)) kinds n l) in
-            (and-left (ringInRange (kindIn (k .objects) n)) _ r, and-right (ringInRange (kindIn (k .objects) n)) _ r)
+        let orders = and-right runs _ last in
+        tested-sound s record {
+          tables = tested-tables _ _ tables-so;
+          levels = below-all 16 _ (λ n l. rw (← holding-at n l) (alone n l .levels));
+          listing = tested-listing _ _ record {
+            places = rw places;
+            stands = below-all 16 _ once;
+            tidied = and-left (tidy (k .order)) pends orders;
+            none-else = below-all 16 _ (λ n l. rw (← stands-at n l) (alone n l .orders));
+          };
+          clock = tested-clock _ _ _ _ record {
+            wakes = below-all 16 _ (λ n l. rw (row n l) (and-right (wakeKnown (getD (ts .state) n 0) (getD (ts .wake) n 0)) _ (wake n l)));
+            ranges = ranges;
+            pends = and-right (tidy (k .order)) pends orders;
+          };
+          runs = sym (runs-is ts (F .many) (listed (k .order)) (λ n l. rw (← row n l) (once n l)) (k .running) (k .hold)) ∙ and-left runs _ last;
+        }
 
   -- and back
   module _ (e : sound s ≡ true) (p : plain k ≡ true) where
+    E : Tested s
+    E = sound-tested s e
+
+    T : TablesTested (s .tasks) (s .objects)
+    T = tables-tested (s .tasks) (s .objects) (E .tables)
+
+    L : ListingTested (s .tasks) (k .order)
+    L = listing-tested (s .tasks) (k .order) (E .listing)
+
+    C : ClockTested (s .tasks) (k .tick) (k .hold) (k .pended)
+    C = clock-tested (s .tasks) (k .tick) (k .hold) (k .pended) (E .clock)
+
     from-plain : quick ≡ true
-    unfolding sound plain canonical
+    unfolding levelsFine plain canonical
     from-plain =
         and-intro _ _ (and-intro fine _ (F .said ∙ and-intro _ _ idles (and-intro _ _ (below-all 16 _ each-row) (below-all 16 _ each-wake)))
         (and-intro waits _ (below-all 16 _ each-wait) (H .said ∙ below-all 16 _ each-kind)))
-        (and-intro runs _ (runs-is ts (F .many) (listed (k .order)) once-too (k .running) (k .hold) ∙ at _ e 3) (and-intro (tidy (k .order)) pends (at _ e 9) (at _ e 13)))
+        (and-intro runs _ (runs-is ts (F .many) (listed (k .order)) once-too (k .running) (k .hold) ∙ E .runs) (and-intro (tidy (k .order)) pends (L .tidied) (C .pends)))
       where
         cells : (n : ℕ) → n < 16 → (known (getD (ts .state) n 0) (getD (ts .object) n 0) && wakeKnown (getD (ts .state) n 0) (getD (ts .wake) n 0)) ≡ true
         cells n l =
-            all-below 16 (λ i. known (getD (ts .state) i 0) (getD (ts .object) i 0) && wakeKnown (getD (ts .state) i 0) (getD (ts .wake) i 0)) (and-left (canonical ts) (canonicalKinds (k .objects)) p) n l
+            all-below 16 (λ i. known (getD (ts .state) i 0) (getD (ts .object) i 0) && wakeKnown (getD (ts .state) i 0) (getD (ts .wake) i 0))
+            (and-left (canonical ts) (canonicalKinds (k .objects)) p) n l
 
         slotted : Bool
         slotted = allBelow 16 (λ n. holderSlot (kindAt (s .objects) (object n)))
@@ -307,38 +346,40 @@ module _ (k : Kernel) (stands : List ℕ) (hs : Holdings) (fine : Bool) (F : Fin
         unheld = allBelow 16 (λ n. freeHolds (getD (marksOf (s .objects)) n false) (taskAt (s .tasks) (task n) .place))
 
         halves : (slotted && unheld) ≡ true
-        halves = holders-exist (s .tasks) (s .objects) (F .many) (H .many) ∙ at _ e 7
+        halves = holders-exist (s .tasks) (s .objects) (F .many) (H .many) ∙ T .holders
 
         once-too : (n : ℕ) → n < 16 → standsFine (count n (listed (k .order))) (rowAt ts n .place) ≡ true
-        once-too n l = rw (← row n l) (all-below 16 _ (at _ e 2) n l)
+        once-too n l = rw (← row n l) (all-below 16 _ (L .stands) n l)
 
         idles : idleAlone (getD (hs .held) 0 false) (rowAt ts 0) ≡ true
-        idles = and-intro (idleFine (rowAt ts 0)) (not (getD (hs .held) 0 false)) (rw (← row 0 (omega arith)) (at _ e 1)) (rw (holding-at 0 (omega arith)) (at _ e 5))
+        idles = and-intro (idleFine (rowAt ts 0)) (not (getD (hs .held) 0 false)) (rw (← row 0 (omega arith)) (T .as-idle)) (rw (holding-at 0 (omega arith)) (T .idle-holds))
 
         each-row : (n : ℕ) → n < 16 → rowsFine ts stands (hs .held) n ≡ true
         each-row n l =
-            let x = slotTask (s .tasks) n in
-            let c = count n (listed (k .order)) in
-            let h = getD (hs .held) n false in
             and-intro (known (getD (ts .state) n 0) (getD (ts .object) n 0)) _ (and-left _ _ (cells n l))
-            (rw (stands-at n l, ← row n l)
-            (and-intro (standsFine c (x .place)) _ (all-below 16 _ (at _ e 2) n l)
-            (and-intro (ordersFine c (x .place)) _ (all-below 16 _ (at _ e 15) n l)
-            (and-intro (prioritiesFine h x) _ (rw (holding-at n l) (all-below 16 _ (at _ e 6) n l))
-            (and-intro (outcomeFine x) _ (all-below 16 _ (at _ e 12) n l)
-            (and-intro (freshIfFree x) (freeHolds h (x .place)) (all-below 16 _ (at _ e 14) n l)
-            (rw (marked n) (all-below 16 _ (and-right slotted unheld halves) n l))))))))
+            (rw (← row n l)
+            (tested-alone (getD stands n 0) (getD (hs .held) n false) (slotTask (s .tasks) n) record {
+              stands = rw (stands-at n l) (all-below 16 _ (L .stands) n l);
+              orders = rw (stands-at n l) (all-below 16 _ (L .none-else) n l);
+              levels = rw (holding-at n l) (all-below 16 _ (E .levels) n l);
+              outcome = all-below 16 _ (T .outcomes) n l;
+              fresh = all-below 16 _ (T .fresh) n l;
+              free = rw (marked n) (all-below 16 _ (and-right slotted unheld halves) n l);
+            }))
 
         each-wake : (n : ℕ) → n < 16 → wakesFine ts (k .tick) n ≡ true
-        each-wake n l = and-intro (wakeKnown (getD (ts .state) n 0) (getD (ts .wake) n 0)) (notDue (k .tick) (rowAt ts n .place)) (and-right (known (getD (ts .state) n 0) (getD (ts .object) n 0)) _ (cells n l)) (rw (← row n l) (all-below 16 _ (at _ e 8) n l))
+        each-wake n l =
+            and-intro (wakeKnown (getD (ts .state) n 0) (getD (ts .wake) n 0)) (notDue (k .tick) (rowAt ts n .place))
+            (and-right (known (getD (ts .state) n 0) (getD (ts .object) n 0)) _ (cells n l)) (rw (← row n l) (all-below 16 _ (C .wakes) n l))
 
         each-wait : (n : ℕ) → n < 16 → waitsAt ts (hs .open) (hs .taken) (hs .holder) n ≡ true
-        each-wait n l = waits-is (k .objects) hs H (task n) (rowAt ts n .place) ∙ rw (← row n l) (all-below 16 _ (at _ e 4) n l)
+        each-wait n l = waits-is (k .objects) hs H (task n) (rowAt ts n .place) ∙ rw (← row n l) (all-below 16 _ (T .waits) n l)
 
         each-kind : (n : ℕ) → n < 16 → fineAt (k .objects) n ≡ true
         each-kind n l =
             fine-of (k .objects) n (and-right (canonical ts) (canonicalKinds (k .objects)) p) l
-            (rw (← kind n l) (and-intro (ringInRange (slotKind (s .objects) n)) (holderSlot (slotKind (s .objects) n)) (all-below 16 _ (at _ e 10) n l) (all-below 16 _ (and-left slotted unheld halves) n l)))
+            (rw (← kind n l) (and-intro (ringInRange (slotKind (s .objects) n)) (holderSlot (slotKind (s .objects) n)) (all-below 16 _ (T .rings) n l)
+            (all-below 16 _ (and-left slotted unheld halves) n l)))
 
   pub quick-is : quick ≡ sound (shown k)
   unfolding shown
@@ -346,7 +387,7 @@ module _ (k : Kernel) (stands : List ℕ) (hs : Holdings) (fine : Bool) (F : Fin
     where
       go : (b : Bool) → plain k ≡ b → sound (if b then rows k else noTables k) ≡ true → quick ≡ true
       go true p e = from-plain e p
-      go false p e = absurd (false≢true (no-tables k e))
+      go false p e = absurd (no-tables k e)
 
   -- what passes stands for the state that it shows
   pub stands-for : quick ≡ true → k ≡ kernelOf (shown k)

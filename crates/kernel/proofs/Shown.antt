@@ -3,6 +3,7 @@ use Prim.Native.Nat.{ℕ}
 use mathlib.Core.Path.{_≡_, refl, sym, ap, _∙_}
 use mathlib.Core.Bool.{Bool, true, false}
 use mathlib.Core.List.{List}
+use native.Mathlib.Omega.{arith}
 use Rattle.lists.specs.Choice.{if_then_else_}
 use Rattle.lists.proofs.Bools.{and-intro}
 use Rattle.tasks.specs.Rows.{tasksOf}
@@ -14,6 +15,7 @@ use Rattle.objects.proofs.Plain.{objects-plain}
 use Rattle.rules.specs.State.{State}
 use Rattle.rules.specs.Sound.{sound}
 use Rattle.rules.specs.Step.{Stepped}
+use Rattle.rules.proofs.Says.{sound-says}
 use Rattle.kernel.specs.Types.{Kernel, Step}
 use Rattle.kernel.specs.Stands.{kernelOf, plain, rows, none, shown, standing}
 use Rattle.kernel.specs.Promises.{Is}
@@ -26,6 +28,10 @@ plain-of s = and-intro (canonical (tasksOf (s .tasks))) _ (tasks-plain (s .tasks
 pub shown-of : (s : State) → shown (kernelOf s) ≡ s
 unfolding shown kernelOf
 shown-of s = rw (plain-of s, rows-of (s .tasks), kinds-of (s .objects))
+
+-- a state without tables is not sound
+pub no-tables : (k : Kernel) → sound (none k) ≡ true → ⊥
+no-tables k e = let z : _≡_ {A = ℕ} 0 16 = sound-says (none k) e .tables .task-slots in omega arith
 
 -- who runs is always shown
 pub shown-running : (k : Kernel) → shown k .running ≡ k .running

@@ -19,7 +19,8 @@ use Rattle.rules.specs.Loans.{prioritized, newPriority}
 use Rattle.rules.specs.Effects.{effect}
 use Rattle.rules.specs.Step.{accepted, step}
 use Rattle.rules.proofs.Chosen.{chosen-tasks}
-use Rattle.rules.proofs.Says.{sound-says, some-holds}
+use Rattle.rules.proofs.Held.{some-holds}
+use Rattle.rules.proofs.Says.{sound-says}
 use Rattle.rules.proofs.Slotted.{at-same}
 use Rattle.rules.proofs.Blocks.{prioritized-tasks}
 use Rattle.rules.proofs.Keeps.{exists-low}
@@ -38,19 +39,19 @@ module _ (ms : List Made) where
 
   -- idle deleted: it is always there, and ready
   pub idle-stays : taskAt (k .tasks) idle .place ≡ Ready
-  idle-stays = S .idle-ready
+  idle-stays = S .tables .as-idle .ready
 
   -- a holder deleted: whoever holds a mutex exists
   pub holder-stays : (t : TaskSlot) (o : ObjSlot) → Holds (k .objects) t o → Exists (k .tasks) t
-  holder-stays = S .holders
+  holder-stays = S .tables .holders
 
   -- the hold's count overflowing: it is the number of accepted holds less the accepted releases, which stays within its range; so it never comes round to 0
   pub hold-counts : (k .hold ≡ depth fresh 0 ms) × (depth fresh 0 ms ≤ 255)
-  hold-counts = (depth-by-calls ms, omega (arith, depth-by-calls ms, S .hold-range))
+  hold-counts = (depth-by-calls ms, omega (arith, depth-by-calls ms, S .clock .counts .hold-range))
 
   -- an object in use removed: whoever waits, waits on an object that is there
   pub waited-stays : (t : TaskSlot) (o : ObjSlot) (w : Wake) → taskAt (k .tasks) t .place ≡ Waiting o w → kindAt (k .objects) o ≡ Unused → ⊥
-  waited-stays t o w e = not-unused (S .waits t o w e)
+  waited-stays t o w e = not-unused (S .tables .tasks t .waits o w e)
     where
       not-unused : {u : TaskSlot} {x : Kind} → MayWait u x → x ≡ Unused → ⊥
       not-unused (receiver h) q = let z : _≡_ {A = ℕ} 0 1 = cc in omega arith
@@ -73,4 +74,4 @@ module _ (ms : List Made) where
       both = larger (level (k .tasks) u) p
 
       low : u .0 < length (k .tasks)
-      low = omega (arith, S .task-slots, exists-low (k .tasks) u (S .task-slots) (exists-there (taskAt (k .tasks) u .place) (S .holders u o h)))
+      low = omega (arith, S .tables .task-slots, exists-low (k .tasks) u (S .tables .task-slots) (exists-there (taskAt (k .tasks) u .place) (S .tables .holders u o h)))

@@ -56,15 +56,16 @@ placed k S =
     record {
       one-state = λ t e. one-of-four (taskAt (k .tasks) t .place) e;
       order = S .listing .once;
-      lines = S .lines;
-      lists = S .lists;
+      lines = S .listing .lines;
+      lists = S .listing .lists;
       not-outranked = λ h t e. go h t e (ltb (level (k .tasks) (k .running)) (level (k .tasks) t)) refl;
     }
   where
-    go : k .hold ≡ 0 → (t : TaskSlot) → taskAt (k .tasks) t .place ≡ Ready → (b : Bool) → ltb (level (k .tasks) (k .running)) (level (k .tasks) t) ≡ b → level (k .tasks) t ≤ level (k .tasks) (k .running)
+    go : k .hold ≡ 0 → (t : TaskSlot) → taskAt (k .tasks) t .place ≡ Ready → (b : Bool) → ltb (level (k .tasks) (k .running)) (level (k .tasks) t) ≡ b
+        → level (k .tasks) t ≤ level (k .tasks) (k .running)
     go h t e true q =
-        let empty = S .no-higher h (level (k .tasks) t) (ltb-true _ _ q) in
-        absurd (none-listed (t .0) (ap (count (t .0)) (sym empty) ∙ S .lines (level (k .tasks) t) t ∙ rw (e, eq-eqb (level (k .tasks) t) (level (k .tasks) t) refl)))
+        let empty = S .running .no-higher h (level (k .tasks) t) (ltb-true _ _ q) in
+        absurd (none-listed (t .0) (ap (count (t .0)) (sym empty) ∙ S .listing .lines (level (k .tasks) t) t ∙ rw (e, eq-eqb (level (k .tasks) t) (level (k .tasks) t) refl)))
     go h t e false q = ltb-false _ _ q
 
 -- the order counts: lines and lists alone would let a suspended task stay listed

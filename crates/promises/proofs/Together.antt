@@ -26,37 +26,14 @@ use Rattle.promises.proofs.Twins.{Twins, one-kernel}
 sound-other : (k : State) (o : Order) → Alike k (withOrder k o) → Ordered (withOrder k o) → Sound k → Sound (withOrder k o)
 sound-other k o a d s =
     record {
-      task-slots = s .task-slots;
-      object-slots = s .object-slots;
-      order-places = d .places;
-      listing = d .listing;
-      idle-ready = s .idle-ready;
-      idle-own = s .idle-own;
-      idle-effective = s .idle-effective;
-      lines = λ p t. rw (← a .lines p) (s .lines p t);
-      runs = s .runs;
-      heads = rw (← a .lines (taskAt (k .tasks) (k .running) .effective)) (s .heads);
-      no-higher = λ h p l. rw (← a .lines p) (s .no-higher h p l);
-      waits = s .waits;
-      lists = λ b t. rw (← a .lists b) (s .lists b t);
-      idle-holds = s .idle-holds;
-      at-least = s .at-least;
-      equal = s .equal;
-      holders = s .holders;
-      delay-ahead = s .delay-ahead;
-      wait-ahead = s .wait-ahead;
-      delay-range = s .delay-range;
-      wait-range = s .wait-range;
-      priority-range = s .priority-range;
-      queue-range = s .queue-range;
-      tick-range = s .tick-range;
-      hold-range = s .hold-range;
-      pended-range = s .pended-range;
-      outcome-range = s .outcome-range;
-      delay-outcome = s .delay-outcome;
-      wait-outcome = s .wait-outcome;
-      pends = s .pends;
-      free = s .free;
+      tables = s .tables;
+      levels = s .levels;
+      listing = d;
+      clock = s .clock;
+      running = record {
+        runs = record { ready = s .running .runs .ready; heads = rw (← a .lines (taskAt (k .tasks) (k .running) .effective)) (s .running .runs .heads) };
+        no-higher = λ h p l. rw (← a .lines p) (s .running .no-higher h p l);
+      };
     }
 
 alike-back : {k j : State} → Alike k j → Alike j k
@@ -95,9 +72,9 @@ sound-fits k e = record { once = λ n. few n (isListed (taskAt (k .tasks) (task 
 
     low : (n : ℕ) → 16 ≤ n → count n (listed (k .order)) ≡ 0
     low n h =
-        let past : length (k .tasks) ≤ n = omega (arith, s .task-slots) in
+        let past : length (k .tasks) ≤ n = omega (arith, s .tables .task-slots) in
         rw (past-tasks (k .tasks) (task n) past) at (s .listing .once (task n))
 
 pub twins : (k j : State) → sound k ≡ true → sound j ≡ true → Alike k j → Twins k j
 twins k j e f a =
-    record { alike = a; slots = omega (arith, sound-says k e .task-slots); runs = sound-steady k e .runs; here = sound-fits k e; there = sound-fits j f }
+    record { alike = a; slots = omega (arith, sound-says k e .tables .task-slots); runs = sound-steady k e .runs; here = sound-fits k e; there = sound-fits j f }

@@ -14,11 +14,12 @@ use Rattle.slots.specs.Tasks.{taskAt}
 use Rattle.slots.specs.Objects.{kindAt}
 use Rattle.rules.specs.Tables.{holds}
 use Rattle.rules.specs.Lines.{line, those}
-use Rattle.rules.specs.Sound.{noHigher, runsFine, sound}
+use Rattle.rules.specs.Sound.{tablesFine, levelsFine, listingFine, clockFine, noHigher, runsFine, sound}
 use Rattle.promises.specs.Alike.{Alike, idleFirst, idleLast}
 
 pub two-sound : (sound idleFirst ≡ true) × (sound idleLast ≡ true)
-unfolding idleFirst idleLast sound every allBelow any kept ordered count tidy taskAt kindAt holds line noHigher runsFine
+unfolding idleFirst idleLast sound every allBelow any kept ordered count tidy
+    taskAt kindAt holds line noHigher runsFine tablesFine levelsFine listingFine clockFine
 two-sound = (refl, refl)
 
 pub two-alike : Alike idleFirst idleLast

@@ -10,7 +10,7 @@ use Rattle.rules.specs.Effects.{created, mutexMade, taken, handedOn, given, eff
 use Rattle.rules.specs.Lines.{line, those, highest, leader, first, chosen, toTail, toHead, leaves}
 use Rattle.rules.specs.Loans.{moved, movedIf, prioritized, lent, ownAgain}
 use Rattle.rules.specs.Refusals.{outOfRange, namesNone, wrongSize, notForIdle, notWithHold, noSlot, inUse, notHis, hisAlready, notSuspended, mustWait, noDepth, noTick, table, laterRow, refusal}
-use Rattle.rules.specs.Sound.{noHigher, runsFine, sound}
+use Rattle.rules.specs.Sound.{tablesFine, levelsFine, listingFine, clockFine, noHigher, runsFine, sound}
 use Rattle.rules.specs.Step.{stored, answered, accepted, step}
 use Rattle.slots.specs.Tasks.{taskAt}
 use Rattle.slots.specs.Objects.{kindAt}
@@ -28,7 +28,10 @@ use Rattle.promises.specs.Typed.{bytesOf, typed, written}
 use Rattle.promises.proofs.LineForLine.{session-is-the-program}
 
 pub p1-as-bytes : answersTo typed ≡ written
-unfolding bytesOf typed written linesOf stepOfLine answering digits dec among grow callOf shapeOf nums readOf reply every allBelow foldl upTo index any kept asked ordered without count tidy created mutexMade taken handedOn given effect line those highest leader first chosen toTail toHead leaves moved movedIf prioritized lent ownAgain outOfRange namesNone wrongSize notForIdle notWithHold noSlot inUse notHis hisAlready notSuspended mustWait noDepth noTick table laterRow refusal noHigher runsFine sound stored answered accepted step fresh taskAt kindAt holds freeSlot freeObject readied blocked waitFor
+unfolding bytesOf typed written linesOf stepOfLine answering digits dec among grow callOf shapeOf nums readOf reply every allBelow foldl upTo index any kept asked ordered without
+    count tidy created mutexMade taken handedOn given effect line those highest leader first chosen toTail toHead leaves moved movedIf prioritized lent ownAgain outOfRange
+    namesNone wrongSize notForIdle notWithHold noSlot inUse notHis hisAlready notSuspended mustWait noDepth noTick table laterRow refusal noHigher runsFine tablesFine levelsFine
+    listingFine clockFine sound stored answered accepted step fresh taskAt kindAt holds freeSlot freeObject readied blocked waitFor
 p1-as-bytes = refl
 
 pub p1-in-any-blocks : (ts : List Turn) → cameIn ts ≡ typed → afterTurns atStart ts .waits ≡ [] → (n : ℕ) → 256 ≤ n → afterEnd (afterTurns atStart ts) n .answers ≡ written

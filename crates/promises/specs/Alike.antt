@@ -2,7 +2,7 @@
 use Prim.Native.Nat.{ℕ}
 use mathlib.Core.Path.{_≡_}
 use mathlib.Core.List.{List, [], _∷_}
-use lib.ListN.{length, replicate}
+use lib.ListN.{replicate}
 use Rattle.numbers.specs.declared.TaskSlot.{TaskSlot}
 use Rattle.numbers.specs.declared.ObjSlot.{ObjSlot}
 use Rattle.numbers.specs.Numbers.{task, idle}
@@ -40,9 +40,8 @@ pub record AlikeSteps (r q : Stepped) : Type 0 where
   pub kernel : Alike (r .kernel) (q .kernel)
 
 -- an order of 16 places that lists each ready, delayed and waiting task once, and no one else
-pub record Ordered (k : State) : Type 0 where
-  pub places : length (k .order .places) ≡ 16
-  pub listing : Listing k
+abbrev pub Ordered : State → Type 0
+Ordered k = Listing (k .tasks) (k .order)
 
 -- idle, and a task of priority 3 that runs, in either order
 abbrev pub twoIn : List TaskSlot → State

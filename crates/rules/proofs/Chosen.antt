@@ -1,114 +1,50 @@
 -- Choose comes last: it makes a nearly sound kernel sound.
 use Prim.Native.Nat.{ℕ, _<_}
 use mathlib.Core.Path.{_≡_, refl, sym, _∙_}
-use mathlib.Core.Bool.{Bool, true, false, not, _&&_, _||_, false≢true}
+use mathlib.Core.Bool.{Bool, true, false, _&&_, false≢true}
 use mathlib.Core.List.{List, [], _∷_}
 use native.Mathlib.Omega.{arith}
-use lib.Dec.{eqb, ltb, leb}
-use borrow.Author.Tests.{eqb-true, eqb-false, eq-eqb, ne-eqb, ltb-true, ltb-false, leb-true, le-leb}
+use lib.Dec.{eqb, ltb}
+use borrow.Author.Tests.{eqb-true, eqb-false, ne-eqb, ltb-true, ltb-false}
 use Rattle.lists.specs.Choice.{if_then_else_}
 use Rattle.lists.specs.Lists.{kept, head, isNone}
-use Rattle.lists.proofs.Bools.{and-left, and-right, and-intro, or-second, off, not-off}
+use Rattle.lists.proofs.Bools.{and-right}
 use Rattle.numbers.specs.Numbers.{idle}
 use Rattle.order.specs.Order.{listed}
 use Rattle.order.specs.Tidy.{count}
 use Rattle.order.proofs.Tests.{count-kept}
-use Rattle.slots.specs.Places.{isReady, isBlocked}
+use Rattle.slots.specs.Places.{isReady}
 use Rattle.slots.specs.Tasks.{inLine, taskAt}
-use Rattle.slots.specs.Fine.{notDue, outcomeFine}
-use Rattle.rules.specs.Types.{TaskSlot, Never, At, Place, Free, Ready, Delayed, Waiting, Suspended, Task, AllReady, State}
+use Rattle.rules.specs.Types.{TaskSlot, Task, AllReady, State}
 use Rattle.rules.specs.Tables.{withRunning}
 use Rattle.rules.specs.Lines.{line, those, level, highest, first, runsIf, chosen}
-use Rattle.rules.specs.Sentences.{Sound}
+use Rattle.rules.specs.Sentences.{Running, Sound}
 use Rattle.rules.proofs.Leads.{leader-none, first-heads-highest}
 use Rattle.rules.proofs.Within.{first-meant, kept-head, first-single}
-use Rattle.rules.proofs.Says.{is-ready}
-use Rattle.rules.proofs.Listings.{line-once, list-once}
-use Rattle.rules.proofs.Nearly.{Owing, settled, Nearly, Runs}
+use Rattle.rules.proofs.Slots.{is-ready}
+use Rattle.rules.proofs.SaysClock.{wake-says, says-wake}
+use Rattle.rules.proofs.Nearly.{Owing, settled, Nearly, RunsIn}
 
--- ── from nearly sound to sound
-blocked-outcome : (x : Task) → outcomeFine x ≡ true → isBlocked (x .place) ≡ true → x .outcome ≡ 0
-blocked-outcome x e b = eqb-true _ _ (or-second (not (isBlocked (x .place))) (eqb (x .outcome) 0) (and-right (leb (x .outcome) 3) _ e) (rw b))
-
-pub nearly-sound : (k : State) → Nearly (settled (k .tick)) k → Runs k → (k .hold ≡ 0 → (p : ℕ) → level (k .tasks) (k .running) < p → line (k .tasks) p (listed (k .order)) ≡ []) → Sound k
-nearly-sound k N R H =
+-- ── from nearly sound to sound, and back
+pub nearly-sound : (k : State) → Nearly (settled (k .tick)) k → Running (k .tasks) (listed (k .order)) (k .running) (k .hold) → Sound k
+nearly-sound k N R =
     record {
-      task-slots = N .task-slots;
-      object-slots = N .object-slots;
-      order-places = N .order-places;
+      tables = N .tables;
+      levels = λ t. record { at-least = N .levels t .at-least; equal = N .levels t .equal refl; range = N .levels t .range };
       listing = N .listing;
-      idle-ready = N .idle-ready;
-      idle-own = N .idle-own;
-      idle-effective = N .idle-effective;
-      lines = line-once k (N .listing);
-      runs = R .runs;
-      heads = R .heads;
-      no-higher = H;
-      waits = λ t o w q. N .tasks t .waits o w q;
-      lists = list-once k (N .listing);
-      idle-holds = N .idle-holds;
-      at-least = λ t. N .tasks t .at-least;
-      equal = λ t n. N .tasks t .equal refl n;
-      holders = N .holders;
-      delay-ahead = λ t w q z. eqb-false w (k .tick) (off (eqb w (k .tick)) (and-right (leb w 4294967295) _ (rw q at (N .tasks t .due)))) z;
-      wait-ahead = λ t o w q z. eqb-false w (k .tick) (off (eqb w (k .tick)) (and-right (leb w 4294967295) _ (rw q at (N .tasks t .due)))) z;
-      delay-range = λ t w q. leb-true w 4294967295 (and-left (leb w 4294967295) _ (rw q at (N .tasks t .due)));
-      wait-range = λ t o w q. leb-true w 4294967295 (and-left (leb w 4294967295) _ (rw q at (N .tasks t .due)));
-      priority-range = λ t. N .tasks t .range;
-      queue-range = N .queues;
-      tick-range = N .counts .tick-range;
-      hold-range = N .counts .hold-range;
-      pended-range = N .counts .pended-range;
-      outcome-range = λ t. leb-true _ _ (and-left (leb (taskAt (k .tasks) t .outcome) 3) _ (N .tasks t .outcome));
-      delay-outcome = λ t w q. blocked-outcome (taskAt (k .tasks) t) (N .tasks t .outcome) (rw q);
-      wait-outcome = λ t o w q. blocked-outcome (taskAt (k .tasks) t) (N .tasks t .outcome) (rw q);
-      pends = N .counts .pends;
-      free = λ t. N .tasks t .free;
+      clock = record { wakes = λ t. wake-says (k .tick) (taskAt (k .tasks) t .place) (N .due t); counts = N .counts };
+      running = R;
     }
-
--- ── and back
-outcome-from : (k : State) → Sound k → (t : TaskSlot) (p : Place) → taskAt (k .tasks) t .place ≡ p → not (isBlocked p) || eqb (taskAt (k .tasks) t .outcome) 0 ≡ true
-outcome-from k S t Free e = refl
-outcome-from k S t Ready e = refl
-outcome-from k S t (Delayed w) e = eq-eqb _ _ (S .delay-outcome t w e)
-outcome-from k S t (Waiting o w) e = eq-eqb _ _ (S .wait-outcome t o w e)
-outcome-from k S t Suspended e = refl
-
-due-from : (k : State) → Sound k → (t : TaskSlot) (p : Place) → taskAt (k .tasks) t .place ≡ p → notDue (k .tick) p ≡ true
-due-from k S t Free e = refl
-due-from k S t Ready e = refl
-due-from k S t (Delayed w) e = and-intro (leb w 4294967295) _ (le-leb w 4294967295 (S .delay-range t w e)) (not-off (eqb w (k .tick)) (ne-eqb w (k .tick) (S .delay-ahead t w e)))
-due-from k S t (Waiting o Never) e = refl
-due-from k S t (Waiting o (At w)) e = and-intro (leb w 4294967295) _ (le-leb w 4294967295 (S .wait-range t o w e)) (not-off (eqb w (k .tick)) (ne-eqb w (k .tick) (S .wait-ahead t o w e)))
-due-from k S t Suspended e = refl
 
 pub sound-nearly : (k : State) → Sound k → Nearly (settled (k .tick)) k
 sound-nearly k S =
     record {
-      task-slots = S .task-slots;
-      object-slots = S .object-slots;
-      order-places = S .order-places;
+      tables = S .tables;
+      levels = λ t. record { at-least = S .levels t .at-least; equal = λ e. S .levels t .equal; range = S .levels t .range };
       listing = S .listing;
-      idle-ready = S .idle-ready;
-      idle-own = S .idle-own;
-      idle-effective = S .idle-effective;
-      tasks = λ t. record {
-        waits = λ o w q. S .waits t o w q;
-        at-least = S .at-least t;
-        range = S .priority-range t;
-        equal = λ e n. S .equal t n;
-        due = due-from k S t (taskAt (k .tasks) t .place) refl;
-        outcome = and-intro (leb (taskAt (k .tasks) t .outcome) 3) _ (le-leb _ 3 (S .outcome-range t)) (outcome-from k S t (taskAt (k .tasks) t .place) refl);
-        free = S .free t;
-      };
-      idle-holds = S .idle-holds;
-      holders = S .holders;
-      queues = S .queue-range;
-      counts = record { tick-range = S .tick-range; hold-range = S .hold-range; pended-range = S .pended-range; pends = S .pends };
+      due = λ t. says-wake (k .tick) (taskAt (k .tasks) t .place) (S .clock .wakes t);
+      counts = S .clock .counts;
     }
-
-pub sound-runs : (k : State) → Sound k → Runs k
-sound-runs k S = record { runs = S .runs; heads = S .heads }
 
 -- ── choose
 -- no line stands above the highest priority of the ready
@@ -144,7 +80,8 @@ unfolding first those
 some-ready k N = leader-none (k .tasks) (those (k .tasks) AllReady (listed (k .order))) ∙ go (those (k .tasks) AllReady (listed (k .order))) once
   where
     once : count 0 (those (k .tasks) AllReady (listed (k .order))) ≡ 1
-    once = count-kept (λ u. isReady (taskAt (k .tasks) u .place)) 0 (listed (k .order)) ∙ rw (N .idle-ready) (N .listing .once idle ∙ rw (N .idle-ready))
+    once = count-kept (λ u. isReady (taskAt (k .tasks) u .place)) 0 (listed (k .order))
+        ∙ rw (N .tables .as-idle .ready) (N .listing .once idle ∙ rw (N .tables .as-idle .ready))
 
     go : (l : List TaskSlot) → count 0 l ≡ 1 → isNone l ≡ false
     go [] e = absurd (none-counts e)
@@ -157,22 +94,11 @@ module _ (k : State) (N : Nearly (settled (k .tick)) k) where
   runs-first : (t : TaskSlot) → first k AllReady ≡ t ∷ [] → Sound (withRunning k t)
   unfolding line
   runs-first t e =
-      nearly-sound (withRunning k t) (record {
-        task-slots = N .task-slots;
-        object-slots = N .object-slots;
-        order-places = N .order-places;
-        listing = record { once = N .listing .once; room = N .listing .room; zeros = N .listing .zeros };
-        idle-ready = N .idle-ready;
-        idle-own = N .idle-own;
-        idle-effective = N .idle-effective;
-        tasks = N .tasks;
-        idle-holds = N .idle-holds;
-        holders = N .holders;
-        queues = N .queues;
-        counts = record { tick-range = N .counts .tick-range; hold-range = N .counts .hold-range; pended-range = N .counts .pended-range; pends = N .counts .pends };
+      nearly-sound (withRunning k t) (record { tables = N .tables; levels = N .levels; listing = N .listing; due = N .due; counts = N .counts })
+      (record {
+        runs = record { ready = is-ready _ (first-meant k AllReady t e); heads = rw top heads };
+        no-higher = λ h p m. above-highest (k .tasks) p (listed (k .order)) (rw top at m);
       })
-      (record { runs = is-ready _ (first-meant k AllReady t e); heads = rw top heads })
-      (λ h p m. above-highest (k .tasks) p (listed (k .order)) (rw top at m))
     where
       heads : head (line (k .tasks) high (listed (k .order))) ≡ t ∷ []
       heads = sym (first-heads-highest k) ∙ e
@@ -180,7 +106,7 @@ module _ (k : State) (N : Nearly (settled (k .tick)) k) where
       top : level (k .tasks) t ≡ high
       top = eqb-true (level (k .tasks) t) high (and-right (isReady (taskAt (k .tasks) t .place)) _ (kept-head (λ u. inLine high (taskAt (k .tasks) u)) (listed (k .order)) t heads))
 
-  pub chosen-sound : (0 < k .hold → Runs k) → Sound (chosen k)
+  pub chosen-sound : (0 < k .hold → RunsIn k) → Sound (chosen k)
   unfolding chosen
   chosen-sound R = go (eqb (k .hold) 0) refl
     where
@@ -192,7 +118,7 @@ module _ (k : State) (N : Nearly (settled (k .tick)) k) where
       go true e = choose (first k AllReady) refl (some-ready k N)
       go false e =
           let busy : 0 < k .hold = omega (arith, eqb-false (k .hold) 0 e) in
-          nearly-sound k N (R busy) (λ h. absurd (omega arith))
+          nearly-sound k N (record { runs = R busy; no-higher = λ h. absurd (omega arith) })
 
 -- choose changes no task
 pub chosen-tasks : (k : State) → chosen k .tasks ≡ k .tasks

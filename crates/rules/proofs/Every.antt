@@ -14,7 +14,7 @@ use Rattle.slots.specs.Tasks.{taskAt}
 use Rattle.slots.specs.Objects.{kindAt}
 use Rattle.rules.specs.Tables.{fresh, holds}
 use Rattle.rules.specs.Lines.{line}
-use Rattle.rules.specs.Sound.{noHigher, runsFine, sound}
+use Rattle.rules.specs.Sound.{tablesFine, levelsFine, listingFine, clockFine, noHigher, runsFine, sound}
 use Rattle.rules.specs.Sentences.{Sound}
 use Rattle.rules.specs.Effects.{effect}
 use Rattle.rules.specs.Step.{step}
@@ -27,7 +27,7 @@ use Rattle.rules.proofs.KeepQueues.{send-keeps, receive-keeps}
 use Rattle.rules.proofs.KeepMutexes.{take-keeps, give-keeps}
 
 pub fresh-sound : sound fresh ≡ true
-unfolding sound fresh every allBelow kept any ordered count tidy taskAt kindAt holds line noHigher runsFine
+unfolding sound fresh every allBelow kept any ordered count tidy taskAt kindAt holds line noHigher runsFine tablesFine levelsFine listingFine clockFine
 fresh-sound = refl
 
 effect-keeps : (k : State) → Sound k → (n : ℕ) (c : Call) → Passed k (asked c) n → Keeps (effect k (asked c))

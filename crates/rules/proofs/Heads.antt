@@ -15,7 +15,7 @@ use Rattle.slots.specs.Tasks.{inLine, taskAt}
 use Rattle.rules.specs.Types.{TaskSlot, Place, Ready, Task, State}
 use Rattle.rules.specs.Lines.{line, level}
 use Rattle.rules.proofs.Moves.{passing-tail, passing-head, passing-leaves}
-use Rattle.rules.proofs.Nearly.{Runs}
+use Rattle.rules.proofs.Nearly.{RunsIn}
 use Rattle.rules.proofs.Slotted.{at-same, at-other}
 
 -- who heads a list heads it still without another, and with more behind
@@ -32,7 +32,7 @@ unfolding kept
 kept-same p q f [] = refl
 kept-same p q f (u ∷ l) = rw (f u, kept-same p q f l)
 
-module _ (k : State) (R : Runs k) (t : TaskSlot) (x : Task) (j : State) (ts : j .tasks ≡ set (k .tasks) (t .0) x) (r : j .running ≡ k .running) where
+module _ (k : State) (R : RunsIn k) (t : TaskSlot) (x : Task) (j : State) (ts : j .tasks ≡ set (k .tasks) (t .0) x) (r : j .running ≡ k .running) where
   abbrev u : TaskSlot
   u = k .running
 
@@ -41,22 +41,23 @@ module _ (k : State) (R : Runs k) (t : TaskSlot) (x : Task) (j : State) (ts : j 
 
   -- another task was changed and moved
   module _ (n : u .0 ≡ t .0 → ⊥) where
-    heads-from : (s : List TaskSlot) → ((p : ℕ) → line (j .tasks) p (listed (j .order)) ≡ without t (line (k .tasks) p (listed (k .order))) ++ (if inLine p (taskAt (j .tasks) t) then s else [])) → Runs j
+    heads-from : (s : List TaskSlot) → ((p : ℕ) → line (j .tasks) p (listed (j .order)) ≡ without t (line (k .tasks) p (listed (k .order))) ++ (if inLine p (taskAt (j .tasks) t) then s else []))
+        → RunsIn j
     heads-from s f =
         let same : level (j .tasks) (j .running) ≡ level (k .tasks) u = ap (λ v. level (j .tasks) v) r ∙ ap (λ (y : Task). y .effective) (others u n) in
         record {
-          runs = ap (λ v. taskAt (j .tasks) v .place) r ∙ ap (λ (y : Task). y .place) (others u n) ∙ R .runs;
+          ready = ap (λ v. taskAt (j .tasks) v .place) r ∙ ap (λ (y : Task). y .place) (others u n) ∙ R .ready;
           heads = ap (λ p. head (line (j .tasks) p (listed (j .order)))) same
               ∙ ap head (f (level (k .tasks) u))
               ∙ without-head (line (k .tasks) (level (k .tasks) u) (listed (k .order))) u t _ (R .heads) n
               ∙ ap (λ v. v ∷ []) (sym r);
         }
 
-    pub runs-tail : listed (j .order) ≡ without t (listed (k .order)) ++ (t ∷ []) → Runs j
+    pub runs-tail : listed (j .order) ≡ without t (listed (k .order)) ++ (t ∷ []) → RunsIn j
     unfolding line
     runs-tail e = heads-from (t ∷ []) (λ p. rw e (passing-tail (inLine p) (k .tasks) (j .tasks) t others (listed (k .order))))
 
-    pub runs-leave : listed (j .order) ≡ without t (listed (k .order)) → Runs j
+    pub runs-leave : listed (j .order) ≡ without t (listed (k .order)) → RunsIn j
     unfolding line
     runs-leave e = heads-from [] (λ p. rw e (passing-leaves (inLine p) (k .tasks) (j .tasks) t others (listed (k .order)) ∙ none (inLine p (taskAt (j .tasks) t)) p))
       where
@@ -65,20 +66,23 @@ module _ (k : State) (R : Runs k) (t : TaskSlot) (x : Task) (j : State) (ts : j 
         none false p = sym (append-nil (without t (line (k .tasks) p (listed (k .order)))))
 
   -- the order stays, and so does every line
-  pub runs-stay : listed (j .order) ≡ listed (k .order) → ((p : ℕ) (v : TaskSlot) → inLine p (taskAt (j .tasks) v) ≡ inLine p (taskAt (k .tasks) v)) → taskAt (j .tasks) u .place ≡ Ready → level (j .tasks) u ≡ level (k .tasks) u → Runs j
+  pub runs-stay : listed (j .order) ≡ listed (k .order) → ((p : ℕ) (v : TaskSlot) → inLine p (taskAt (j .tasks) v) ≡ inLine p (taskAt (k .tasks) v))
+      → taskAt (j .tasks) u .place ≡ Ready → level (j .tasks) u ≡ level (k .tasks) u → RunsIn j
   unfolding line
   runs-stay e f a b =
+      let p = level (k .tasks) u in
       record {
-        runs = rw r a;
-        heads = rw (r, b, e, kept-same (λ v. inLine (level (k .tasks) u) (taskAt (j .tasks) v)) (λ v. inLine (level (k .tasks) u) (taskAt (k .tasks) v)) (f (level (k .tasks) u)) (listed (k .order))) (R .heads);
+        ready = rw r a;
+        heads = rw (r, b, e, kept-same (λ v. inLine p (taskAt (j .tasks) v)) (λ v. inLine p (taskAt (k .tasks) v)) (f p) (listed (k .order))) (R .heads);
       }
 
 -- the running task was changed and moved to the head
-pub runs-head : (k : State) (x : Task) (j : State) → j .tasks ≡ set (k .tasks) (k .running .0) x → j .running ≡ k .running → k .running .0 < length (k .tasks) → x .place ≡ Ready → listed (j .order) ≡ k .running ∷ without (k .running) (listed (k .order)) → Runs j
+pub runs-head : (k : State) (x : Task) (j : State) → j .tasks ≡ set (k .tasks) (k .running .0) x → j .running ≡ k .running → k .running .0 < length (k .tasks)
+    → x .place ≡ Ready → listed (j .order) ≡ k .running ∷ without (k .running) (listed (k .order)) → RunsIn j
 unfolding line
 runs-head k x j ts r low a e =
     record {
-      runs = ap (λ v. taskAt (j .tasks) v .place) r ∙ ap (λ (y : Task). y .place) mine ∙ a;
+      ready = ap (λ v. taskAt (j .tasks) v .place) r ∙ ap (λ (y : Task). y .place) mine ∙ a;
       heads = ap (λ v. head (line (j .tasks) (level (j .tasks) v) (listed (j .order)))) r
           ∙ ap (λ (m : List TaskSlot). head (line (j .tasks) (level (j .tasks) (k .running)) m)) e
           ∙ ap head (passing-head (inLine (level (j .tasks) (k .running))) (k .tasks) (j .tasks) (k .running) (λ v n. rw ts (at-other (k .tasks) (k .running) x v n)) (listed (k .order)))

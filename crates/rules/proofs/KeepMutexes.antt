@@ -26,17 +26,17 @@ use Rattle.rules.specs.Waits.{wakeOf, readied, blocked, waitFor}
 use Rattle.rules.specs.Loans.{prioritized, lent, ownAgain}
 use Rattle.rules.specs.Effects.{takenFrom, taken, handedTo, handedOn, given, effect}
 use Rattle.rules.proofs.Slots.{past-tasks}
-use Rattle.rules.proofs.Says.{held-one, none-holds}
+use Rattle.rules.proofs.Held.{held-one, none-holds}
 use Rattle.rules.proofs.Passes.{Passed}
 use Rattle.rules.proofs.Within.{first-meant, first-within, first-single}
-use Rattle.rules.proofs.Nearly.{Owing, settled, Nearly, Runs}
+use Rattle.rules.proofs.Nearly.{Owing, settled, Nearly, RunsIn}
 use Rattle.rules.proofs.Slotted.{at-same}
 use Rattle.rules.proofs.Objected.{object-nearly}
-use Rattle.rules.proofs.Chosen.{sound-nearly, sound-runs}
+use Rattle.rules.proofs.Chosen.{sound-nearly}
 use Rattle.rules.proofs.Blocks.{Same, prioritized-same, prioritized-tasks, prioritized-nearly, prioritized-runs, readied-nearly, readied-runs, blocked-nearly}
 use Rattle.rules.proofs.Keeps.{Keeps, wait-free, must-wait, some-wait, ready-low, apart}
 use Rattle.rules.proofs.KeepTicks.{at-tick, readied-at, reopen}
-use Rattle.rules.proofs.KeepObjects.{no-wait-free, object-low, object-runs, first-none, wake-ahead}
+use Rattle.rules.proofs.KeepObjects.{no-wait-free, object-low, first-none, wake-ahead}
 
 mutex-used : (x : Kind) → isMutex x ≡ true → isUnused x ≡ false
 mutex-used Unused e = absurd (false≢true e)
@@ -65,11 +65,11 @@ module _ (k : State) (S : Sound k) (store : ℕ) where
   N : Nearly (settled (k .tick)) k
   N = sound-nearly k S
 
-  R : Runs k
-  R = sound-runs k S
+  R : RunsIn k
+  R = S .running .runs
 
   caller-low : k .running .0 < 16
-  caller-low = ready-low (k .tasks) (k .running) (S .task-slots) (S .runs)
+  caller-low = ready-low (k .tasks) (k .running) (S .tables .task-slots) (R .ready)
 
   -- 15: take
   module _ (o : ObjSlot) (w : ℕ) (P : Passed k (onObject 15 AMutex o w) store) where
@@ -78,7 +78,7 @@ module _ (k : State) (S : Sound k) (store : ℕ) where
     is-mutex = on (isMutex (kindAt (k .objects) o)) (P .named)
 
     low : o .0 < 16
-    low = object-low (k .objects) o (S .object-slots) (mutex-used (kindAt (k .objects) o) is-mutex)
+    low = object-low (k .objects) o (S .tables .object-slots) (mutex-used (kindAt (k .objects) o) is-mutex)
 
     not-idle : k .running .0 ≡ 0 → ⊥
     unfolding notForIdle
@@ -98,10 +98,10 @@ module _ (k : State) (S : Sound k) (store : ℕ) where
     free-taken : kindAt (k .objects) o ≡ Mutex Nobody → Keeps (withObject k o (Mutex (By (k .running))))
     free-taken e =
         record {
-          nearly = object-nearly k N o (Mutex (By (k .running))) low (λ t v p. absurd (no-wait-free (S .waits t o v p) e)) (λ q z. absurd (let y : _≡_ {A = ℕ} 0 1 = cc in omega arith))
+          nearly = object-nearly k N o (Mutex (By (k .running))) low (λ t v p. absurd (no-wait-free (S .tables .tasks t .waits o v p) e)) (λ q z. absurd (let y : _≡_ {A = ℕ} 0 1 = cc in omega arith))
               (λ t q. let u : k .running ≡ t = cc in (subst (λ v. Exists (k .tasks) v) u (λ z. let y : _≡_ {A = ℕ} 0 1 = cc in omega arith), subst (λ (v : TaskSlot). v .0 ≡ 0 → ⊥) u not-idle))
               (λ t h a n. absurd (let y : _≡_ {A = ℕ} 0 1 = cc in omega arith));
-          runs = λ h. object-runs k o (Mutex (By (k .running))) R;
+          runs = λ h. R;
         }
 
     held-waited : (h : TaskSlot) → kindAt (k .objects) o ≡ Mutex (By h) → Keeps (waitFor (lent k h) o w)
@@ -133,14 +133,14 @@ module _ (k : State) (S : Sound k) (store : ℕ) where
             go : (b : Bool) → ltb (h .0) 16 ≡ b → h .0 < 16
             go true q = ltb-true (h .0) 16 q
             go false q =
-                let past : length (k .tasks) ≤ h .0 = omega (arith, ltb-false (h .0) 16 q, S .task-slots) in
-                absurd (S .holders h o e (ap (λ (x : Task). x .place) (past-tasks (k .tasks) h past)))
+                let past : length (k .tasks) ≤ h .0 = omega (arith, ltb-false (h .0) 16 q, S .tables .task-slots) in
+                absurd (S .tables .holders h o e (ap (λ (x : Task). x .place) (past-tasks (k .tasks) h past)))
 
         lent-nearly : Nearly (settled (k .tick)) j
         lent-nearly =
-            prioritized-nearly k N h holder-low (taskAt (k .tasks) h .own) eff (omega (arith, S .at-least h, larger-both (level (k .tasks) h) (level (k .tasks) (k .running)) .0))
-            (larger-within (level (k .tasks) h) (level (k .tasks) (k .running)) 31 (S .priority-range h) (S .priority-range (k .running)))
-            (λ a n. absurd (n o e)) (S .holders h o e) (λ z. absurd (S .idle-holds o (e ∙ ap (λ v. Mutex (By v)) (one-number h idle z))))
+            prioritized-nearly k N h holder-low (taskAt (k .tasks) h .own) eff (omega (arith, S .levels h .at-least, larger-both (level (k .tasks) h) (level (k .tasks) (k .running)) .0))
+            (larger-within (level (k .tasks) h) (level (k .tasks) (k .running)) 31 (S .levels h .range) (S .levels (k .running) .range))
+            (λ a n. absurd (n o e)) (S .tables .holders h o e) (λ z. absurd (S .tables .idle-holds o (e ∙ ap (λ v. Mutex (By v)) (one-number h idle z))))
 
         may-wait : (p : ObjSlot) (v : Wake) → place ≡ Waiting p v → MayWait (j .running) (kindAt (j .objects) p)
         may-wait p v q =
@@ -150,7 +150,7 @@ module _ (k : State) (S : Sound k) (store : ℕ) where
             (taker (λ z. false≢true (sym not-his ∙ (ap (heldBy (k .running)) e ∙ eq-eqb (h .0) (k .running .0) (z ∙ ap (λ (v : TaskSlot). v .0) (s .running)))))))
 
         ahead : settled (k .tick) .due (j .running) place ≡ true
-        ahead = ap (λ n. notDue (k .tick) (Waiting o (wakeOf n w))) (s .tick) ∙ wake-ahead (k .tick) w o (S .tick-range) wait
+        ahead = ap (λ n. notDue (k .tick) (Waiting o (wakeOf n w))) (s .tick) ∙ wake-ahead (k .tick) w o (S .clock .counts .tick-range) wait
 
     pub take-keeps : Keeps (effect k (onObject 15 AMutex o w))
     unfolding effect taken
@@ -175,13 +175,13 @@ module _ (k : State) (S : Sound k) (store : ℕ) where
     mine = held-one u (kindAt (k .objects) o) (on (heldBy u (kindAt (k .objects) o)) (P .his))
 
     give-low : o .0 < 16
-    give-low = object-low (k .objects) o (S .object-slots) (ap isUnused mine)
+    give-low = object-low (k .objects) o (S .tables .object-slots) (ap isUnused mine)
 
     giver-not-idle : u .0 ≡ 0 → ⊥
-    giver-not-idle e = S .idle-holds o (mine ∙ ap (λ v. Mutex (By v)) (one-number u idle e))
+    giver-not-idle e = S .tables .idle-holds o (mine ∙ ap (λ v. Mutex (By v)) (one-number u idle e))
 
     owing-nearly : Nearly owing k
-    owing-nearly = reopen owing k N (λ t. N .tasks t .due) (λ t e. refl)
+    owing-nearly = reopen owing k N (N .due) (λ t e. refl)
 
     -- who held it is the giver, who may owe
     giver-owes : (t : TaskSlot) → Holds (k .objects) t o → sameTask t u ≡ false → ⊥
@@ -189,7 +189,7 @@ module _ (k : State) (S : Sound k) (store : ℕ) where
 
     pub record Handed (j : State) : Type 0 where
       nearly : Nearly owing j
-      runs : Runs j
+      runs : RunsIn j
       tick : j .tick ≡ k .tick
       hold : j .hold ≡ k .hold
       running : j .running ≡ u
@@ -199,7 +199,7 @@ module _ (k : State) (S : Sound k) (store : ℕ) where
         record {
           nearly = object-nearly k owing-nearly o (Mutex Nobody) give-low (λ t v p. absurd (first-none k N o e t v p)) (λ q z. absurd (let y : _≡_ {A = ℕ} 0 1 = cc in omega arith))
               (λ t z. absurd (let y : _≡_ {A = ℕ} 0 1 = cc in omega arith)) (λ t h a n. absurd (giver-owes t h a));
-          runs = object-runs k o (Mutex Nobody) R;
+          runs = R;
           tick = refl;
           hold = refl;
           running = refl;
@@ -210,37 +210,43 @@ module _ (k : State) (S : Sound k) (store : ℕ) where
     passed-on t e =
         record {
           nearly = object-nearly (readied k t 1) woken o (Mutex (By t)) give-low others (λ q z. absurd (let y : _≡_ {A = ℕ} 0 1 = cc in omega arith)) new-holder (λ v h a n. absurd (giver-owes v h a));
-          runs = object-runs (readied k t 1) o (Mutex (By t)) (readied-runs k owing-nearly t low 1 (omega arith) refl R not-caller);
+          runs = readied-runs k owing-nearly t low 1 (omega arith) refl R not-caller;
           tick = refl;
           hold = refl;
           running = refl;
         }
       where
         low : t .0 < 16
-        low = omega (arith, first-within k (WaitersOf o) t e, S .task-slots)
+        low = omega (arith, first-within k (WaitersOf o) t e, S .tables .task-slots)
 
         waits-here : waitsOn o (taskAt (k .tasks) t .place) ≡ true
         waits-here = first-meant k (WaitersOf o) t e
 
         not-caller : k .running .0 ≡ t .0 → ⊥
-        not-caller z = apart (k .tasks) t (k .running) (waitsOn o) waits-here (ap (waitsOn o) (S .runs)) (sym z)
+        not-caller z = apart (k .tasks) t (k .running) (waitsOn o) waits-here (ap (waitsOn o) (R .ready)) (sym z)
 
         not-idle-one : t .0 ≡ 0 → ⊥
-        not-idle-one z = apart (k .tasks) t idle (waitsOn o) waits-here (ap (waitsOn o) (S .idle-ready)) z
+        not-idle-one z = apart (k .tasks) t idle (waitsOn o) waits-here (ap (waitsOn o) (S .tables .as-idle .ready)) z
 
         woken : Nearly owing (readied k t 1)
         woken = readied-nearly k owing-nearly t low 1 (omega arith) refl
 
         now-ready : taskAt (readied k t 1 .tasks) t .place ≡ Ready
-        now-ready = ap (λ (x : Task). x .place) (readied-at k t 1 (omega (arith, S .task-slots, low)))
+        now-ready = ap (λ (x : Task). x .place) (readied-at k t 1 (omega (arith, S .tables .task-slots, low)))
 
         others : (v : TaskSlot) (w : Wake) → taskAt (readied k t 1 .tasks) v .place ≡ Waiting o w → MayWait v (Mutex (By t))
-        others v w q = taker (λ z. let p : Ready ≡ Waiting o w = sym now-ready ∙ ap (λ (y : TaskSlot). taskAt (readied k t 1 .tasks) y .place) (one-number t v z) ∙ q in let y : _≡_ {A = ℕ} 0 1 = cc in omega arith)
+        others v w q =
+            taker (λ z.
+            let p : Ready ≡ Waiting o w = sym now-ready ∙ ap (λ (y : TaskSlot). taskAt (readied k t 1 .tasks) y .place) (one-number t v z) ∙ q in
+            let y : _≡_ {A = ℕ} 0 1 = cc in
+            omega arith)
 
         new-holder : (v : TaskSlot) → Mutex (By t) ≡ Mutex (By v) → Exists (readied k t 1 .tasks) v × (v .0 ≡ 0 → ⊥)
         new-holder v q =
-            let p : t ≡ v = cc in
-            (subst (λ x. Exists (readied k t 1 .tasks) x) p (λ z. let r : Ready ≡ Free = sym now-ready ∙ z in let y : _≡_ {A = ℕ} 0 1 = cc in omega arith), subst (λ (x : TaskSlot). x .0 ≡ 0 → ⊥) p not-idle-one)
+            let p : t ≡ v = cc in (
+              subst (λ x. Exists (readied k t 1 .tasks) x) p (λ z. let r : Ready ≡ Free = sym now-ready ∙ z in let y : _≡_ {A = ℕ} 0 1 = cc in omega arith),
+              subst (λ (x : TaskSlot). x .0 ≡ 0 → ⊥) p not-idle-one,
+            )
 
     handed : Handed (handedOn k o)
     unfolding handedOn
@@ -251,34 +257,20 @@ module _ (k : State) (S : Sound k) (store : ℕ) where
         go (t ∷ r) e = passed-on t (first-single k (WaitersOf o) t r e)
 
     -- paid back: everyone without a mutex has its own priority
-    settle : (j : State) → Nearly owing j → ((t : TaskSlot) → sameTask t u ≡ true → ((p : ObjSlot) → Holds (j .objects) t p → ⊥) → taskAt (j .tasks) t .own ≡ taskAt (j .tasks) t .effective) → Nearly (settled (k .tick)) j
+    settle : (j : State) → Nearly owing j → ((t : TaskSlot) → sameTask t u ≡ true → ((p : ObjSlot) → Holds (j .objects) t p → ⊥) → taskAt (j .tasks) t .own ≡ taskAt (j .tasks) t .effective)
+        → Nearly (settled (k .tick)) j
     settle j M E =
         record {
-          task-slots = M .task-slots;
-          object-slots = M .object-slots;
-          order-places = M .order-places;
+          tables = M .tables;
+          levels = λ t. record { at-least = M .levels t .at-least; equal = λ e n. both t (sameTask t u) refl n; range = M .levels t .range };
           listing = M .listing;
-          idle-ready = M .idle-ready;
-          idle-own = M .idle-own;
-          idle-effective = M .idle-effective;
-          tasks = λ t. record {
-            waits = M .tasks t .waits;
-            at-least = M .tasks t .at-least;
-            range = M .tasks t .range;
-            equal = λ e n. both t (sameTask t u) refl n;
-            due = M .tasks t .due;
-            outcome = M .tasks t .outcome;
-            free = M .tasks t .free;
-          };
-          idle-holds = M .idle-holds;
-          holders = M .holders;
-          queues = M .queues;
+          due = M .due;
           counts = M .counts;
         }
       where
         both : (t : TaskSlot) (b : Bool) → sameTask t u ≡ b → ((p : ObjSlot) → Holds (j .objects) t p → ⊥) → taskAt (j .tasks) t .own ≡ taskAt (j .tasks) t .effective
         both t true e n = E t e n
-        both t false e n = M .tasks t .equal e n
+        both t false e n = M .levels t .equal e n
 
     repaid : (j : State) → Handed j → Keeps (ownAgain j u)
     unfolding ownAgain
@@ -288,13 +280,13 @@ module _ (k : State) (S : Sound k) (store : ℕ) where
         own = taskAt (j .tasks) u .own
 
         giver-ready : taskAt (j .tasks) u .place ≡ Ready
-        giver-ready = ap (λ v. taskAt (j .tasks) v .place) (sym (H .running)) ∙ H .runs .runs
+        giver-ready = ap (λ v. taskAt (j .tasks) v .place) (sym (H .running)) ∙ H .runs .ready
 
         exists : Exists (j .tasks) u
         exists z = let r : Ready ≡ Free = sym giver-ready ∙ z in let y : _≡_ {A = ℕ} 0 1 = cc in omega arith
 
         own-least : own ≤ 31
-        own-least = omega (arith, H .nearly .tasks u .at-least, H .nearly .tasks u .range)
+        own-least = omega (arith, H .nearly .levels u .at-least, H .nearly .levels u .range)
 
         paid : Nearly owing (prioritized j u own own)
         paid = prioritized-nearly j (H .nearly) u caller-low own own (omega arith) own-least (λ a n. refl) exists (λ z. absurd (giver-not-idle z))
@@ -303,17 +295,20 @@ module _ (k : State) (S : Sound k) (store : ℕ) where
         same = prioritized-same j u own own
 
         now-own : taskAt (prioritized j u own own .tasks) u ≡ ranked (taskAt (j .tasks) u) own own
-        now-own = ap (λ ts. taskAt ts u) (prioritized-tasks j u own own) ∙ at-same (j .tasks) u (ranked (taskAt (j .tasks) u) own own) (omega (arith, caller-low, H .nearly .task-slots))
+        now-own = ap (λ ts. taskAt ts u) (prioritized-tasks j u own own) ∙ at-same (j .tasks) u (ranked (taskAt (j .tasks) u) own own) (omega (arith, caller-low, H .nearly .tables .task-slots))
 
         is-own : (t : TaskSlot) → sameTask t u ≡ true → taskAt (prioritized j u own own .tasks) t .own ≡ taskAt (prioritized j u own own .tasks) t .effective
         is-own t e =
             let p : t ≡ u = one-number t u (eqb-true (t .0) (u .0) e) in
-            ap (λ v. taskAt (prioritized j u own own .tasks) v .own) p ∙ ap (λ (x : Task). x .own) now-own ∙ sym (ap (λ v. taskAt (prioritized j u own own .tasks) v .effective) p ∙ ap (λ (x : Task). x .effective) now-own)
+            ap (λ v. taskAt (prioritized j u own own .tasks) v .own) p ∙ ap (λ (x : Task). x .own) now-own
+            ∙ sym (ap (λ v. taskAt (prioritized j u own own .tasks) v .effective) p ∙ ap (λ (x : Task). x .effective) now-own)
 
         go : (b : Bool) → holds (j .objects) u ≡ b → Keeps (if b then j else prioritized j u own own)
         go true e =
             record {
-              nearly = at-tick j (H .tick) (settle j (H .nearly) (λ t q n. absurd (false≢true (sym (none-holds (j .objects) u (λ p h. n p (h ∙ ap (λ v. Mutex (By v)) (sym (one-number t u (eqb-true (t .0) (u .0) q)))))) ∙ e))));
+              nearly = at-tick j (H .tick)
+                  (settle j (H .nearly)
+                  (λ t q n. absurd (false≢true (sym (none-holds (j .objects) u (λ p h. n p (h ∙ ap (λ v. Mutex (By v)) (sym (one-number t u (eqb-true (t .0) (u .0) q)))))) ∙ e))));
               runs = λ h. H .runs;
             }
         go false e =

@@ -27,10 +27,9 @@ use Rattle.rules.specs.Effects.{queueMade, mutexMade, removed, effect}
 use Rattle.rules.proofs.Slots.{past-objects}
 use Rattle.rules.proofs.Leads.{leader-none}
 use Rattle.rules.proofs.Passes.{Passed}
-use Rattle.rules.proofs.Listings.{list-once}
-use Rattle.rules.proofs.Nearly.{Owing, settled, Nearly, Runs}
+use Rattle.rules.proofs.Nearly.{Owing, settled, Nearly, RunsIn}
 use Rattle.rules.proofs.Objected.{object-nearly}
-use Rattle.rules.proofs.Chosen.{sound-nearly, sound-runs}
+use Rattle.rules.proofs.Chosen.{sound-nearly}
 use Rattle.rules.proofs.Keeps.{Keeps, index-most, index-passes}
 use Rattle.rules.proofs.KeepTasks.{later-ahead}
 
@@ -60,17 +59,15 @@ object-low os o l e = go (ltb (o .0) 16) refl
     go true q = ltb-true (o .0) 16 q
     go false q = let past : length os ≤ o .0 = omega (arith, ltb-false (o .0) 16 q) in absurd (false≢true (sym e ∙ ap isUnused (past-objects os o past)))
 
-pub object-runs : (k : State) (o : ObjSlot) (y : Kind) → Runs k → Runs (withObject k o y)
-object-runs k o y R = record { runs = R .runs; heads = R .heads }
-
 -- nobody waits on an object that lists nobody
 none-there : (l : List TaskSlot) (n : ℕ) → isNone l ≡ true → count n l ≡ 1 → ⊥
 unfolding count
 none-there [] n e c = omega arith
 none-there (t ∷ l) n e c = false≢true e
 
-pub nobody-waits : {w : Owing} (k : State) → Nearly w k → (o : ObjSlot) → isNone (those (k .tasks) (WaitersOf o) (listed (k .order))) ≡ true → (t : TaskSlot) (v : Wake) → taskAt (k .tasks) t .place ≡ Waiting o v → ⊥
-nobody-waits k N o e t v q = none-there (those (k .tasks) (WaitersOf o) (listed (k .order))) (t .0) e (list-once k (N .listing) o t ∙ rw (q, eq-eqb (o .0) (o .0) refl))
+pub nobody-waits : {w : Owing} (k : State) → Nearly w k → (o : ObjSlot) → isNone (those (k .tasks) (WaitersOf o) (listed (k .order))) ≡ true
+    → (t : TaskSlot) (v : Wake) → taskAt (k .tasks) t .place ≡ Waiting o v → ⊥
+nobody-waits k N o e t v q = none-there (those (k .tasks) (WaitersOf o) (listed (k .order))) (t .0) e (N .listing .lists o t ∙ rw (q, eq-eqb (o .0) (o .0) refl))
 
 pub first-none : {w : Owing} (k : State) → Nearly w k → (o : ObjSlot) → first k (WaitersOf o) ≡ [] → (t : TaskSlot) (v : Wake) → taskAt (k .tasks) t .place ≡ Waiting o v → ⊥
 unfolding first
@@ -88,24 +85,24 @@ module _ (k : State) (S : Sound k) (store : ℕ) where
   N : Nearly (settled (k .tick)) k
   N = sound-nearly k S
 
-  R : Runs k
-  R = sound-runs k S
+  R : RunsIn k
+  R = S .running .runs
 
   -- an object that was free becomes one that nobody holds
   new-object : (o : ObjSlot) (y : Kind) → o .0 < 16 → kindAt (k .objects) o ≡ Unused → ((q : Ring) → y ≡ Queue q → RingFits q) → ((t : TaskSlot) → y ≡ Mutex (By t) → ⊥) → Keeps (withObject k o y)
   new-object o y low e Q H =
       record {
-        nearly = object-nearly k N o y low (λ t v p. absurd (no-wait (S .waits t o v p) e)) Q (λ t q. absurd (H t q)) (λ t h a n. absurd (let z : _≡_ {A = ℕ} 0 1 = cc in omega arith));
-        runs = λ h. object-runs k o y R;
+        nearly = object-nearly k N o y low (λ t v p. absurd (no-wait (S .tables .tasks t .waits o v p) e)) Q (λ t q. absurd (H t q)) (λ t h a n. absurd (let z : _≡_ {A = ℕ} 0 1 = cc in omega arith));
+        runs = λ h. R;
       }
 
   free-low : eqb (freeObject (k .objects)) 16 ≡ false → freeObject (k .objects) < 16
   unfolding freeObject
-  free-low e = omega (arith, index-most (λ (x : Object). isUnused (x .kind)) unused (k .objects), eqb-false (freeObject (k .objects)) 16 e, S .object-slots)
+  free-low e = omega (arith, index-most (λ (x : Object). isUnused (x .kind)) unused (k .objects), eqb-false (freeObject (k .objects)) 16 e, S .tables .object-slots)
 
   free-kind : freeObject (k .objects) < 16 → kindAt (k .objects) (object (freeObject (k .objects))) ≡ Unused
   unfolding freeObject kindAt
-  free-kind h = is-unused _ (index-passes (λ (x : Object). isUnused (x .kind)) unused (k .objects) (omega (arith, S .object-slots)))
+  free-kind h = is-unused _ (index-passes (λ (x : Object). isUnused (x .kind)) unused (k .objects) (omega (arith, S .tables .object-slots)))
 
   -- 10: make queue
   module _ (c z : ℕ) (P : Passed k (nothing 10 0 0 c z) store) where
@@ -143,7 +140,9 @@ module _ (k : State) (S : Sound k) (store : ℕ) where
 
     pub mutex-keeps : Keeps (effect k (nothing 11 0 0 1 0))
     unfolding effect mutexMade
-    mutex-keeps = new-object (object (freeObject (k .objects))) (Mutex Nobody) room-for-mutex (free-kind room-for-mutex) (λ q e. absurd (let z : _≡_ {A = ℕ} 0 1 = cc in omega arith)) (λ t e. let z : _≡_ {A = ℕ} 0 1 = cc in omega arith)
+    mutex-keeps =
+        new-object (object (freeObject (k .objects))) (Mutex Nobody) room-for-mutex (free-kind room-for-mutex) (λ q e. absurd (let z : _≡_ {A = ℕ} 0 1 = cc in omega arith))
+        (λ t e. let z : _≡_ {A = ℕ} 0 1 = cc in omega arith)
 
   -- 12: remove
   module _ (o : ObjSlot) (P : Passed k (onObject 12 AnObject o 0) store) where
@@ -163,7 +162,9 @@ module _ (k : State) (S : Sound k) (store : ℕ) where
     unfolding effect removed
     remove-keeps =
         record {
-          nearly = object-nearly k N o Unused (object-low (k .objects) o (S .object-slots) named) (λ t v p. absurd (nobody-waits k N o unwaited t v p)) (λ q e. absurd (let z : _≡_ {A = ℕ} 0 1 = cc in omega arith))
+          nearly =
+              object-nearly k N o Unused (object-low (k .objects) o (S .tables .object-slots) named) (λ t v p. absurd (nobody-waits k N o unwaited t v p))
+              (λ q e. absurd (let z : _≡_ {A = ℕ} 0 1 = cc in omega arith))
               (λ t e. absurd (let z : _≡_ {A = ℕ} 0 1 = cc in omega arith)) (λ t h a n. absurd (false≢true (sym unheld ∙ ap isHeld h)));
-          runs = λ h. object-runs k o Unused R;
+          runs = λ h. R;
         }

@@ -22,12 +22,12 @@ use Rattle.rules.specs.Items.{oneMore, oneLess, roomOr, outletFor, outle
 use Rattle.rules.specs.Effects.{effect}
 use Rattle.rules.proofs.Passes.{Passed}
 use Rattle.rules.proofs.Within.{less-fits, first-meant, first-within, first-single}
-use Rattle.rules.proofs.Nearly.{settled, Nearly, Runs}
+use Rattle.rules.proofs.Nearly.{settled, Nearly, RunsIn}
 use Rattle.rules.proofs.Objected.{object-nearly}
-use Rattle.rules.proofs.Chosen.{sound-nearly, sound-runs}
+use Rattle.rules.proofs.Chosen.{sound-nearly}
 use Rattle.rules.proofs.Blocks.{readied-nearly, readied-runs, blocked-nearly}
 use Rattle.rules.proofs.Keeps.{Keeps, wait-busy, wait-free, must-wait, some-wait, ready-low, apart}
-use Rattle.rules.proofs.KeepObjects.{not-by, object-low, object-runs, first-none, wake-ahead}
+use Rattle.rules.proofs.KeepObjects.{not-by, object-low, first-none, wake-ahead}
 
 -- who waits on a queue finds it empty or full
 empty-or-full : {t : TaskSlot} {x : Kind} → MayWait t x → (q : Ring) → x ≡ Queue q → (0 < q .count) → q .count ≡ q .capacity
@@ -46,17 +46,17 @@ module _ (k : State) (S : Sound k) (o : ObjSlot) (q : Ring) (kind : kindAt (k .o
   N : Nearly (settled (k .tick)) k
   N = sound-nearly k S
 
-  R : Runs k
-  R = sound-runs k S
+  R : RunsIn k
+  R = S .running .runs
 
   low : o .0 < 16
-  low = object-low (k .objects) o (S .object-slots) (ap isUnused kind)
+  low = object-low (k .objects) o (S .tables .object-slots) (ap isUnused kind)
 
   caller-low : k .running .0 < 16
-  caller-low = ready-low (k .tasks) (k .running) (S .task-slots) (S .runs)
+  caller-low = ready-low (k .tasks) (k .running) (S .tables .task-slots) (R .ready)
 
   ring : RingFits q
-  ring = S .queue-range o q kind
+  ring = S .tables .queue-range o q kind
 
   -- the ring changes, and no one's waiting is upset
   ring-keeps : (r : Ring) → RingFits r → ((t : TaskSlot) (v : Wake) → taskAt (k .tasks) t .place ≡ Waiting o v → MayWait t (Queue r)) → Nearly (settled (k .tick)) (withObject k o (Queue r))
@@ -70,37 +70,39 @@ module _ (k : State) (S : Sound k) (o : ObjSlot) (q : Ring) (kind : kindAt (k .o
   caller-waits w s busy no-hold m =
       record {
         nearly = blocked-nearly k N caller-low busy (Waiting o (wakeOf (k .tick) w)) refl
-            (λ p v e. let z : o ≡ p = cc in subst (λ x. MayWait (k .running) (kindAt (k .objects) x)) z (subst (λ (x : Kind). MayWait (k .running) x) (sym kind) m)) (wake-ahead (k .tick) w o (S .tick-range) s);
+            (λ p v e. let z : o ≡ p = cc in subst (λ x. MayWait (k .running) (kindAt (k .objects) x)) z (subst (λ (x : Kind). MayWait (k .running) x) (sym kind) m))
+            (wake-ahead (k .tick) w o (S .clock .counts .tick-range) s);
         runs = λ h. absurd (no-hold h);
       }
 
   -- a waiter is made ready
   module _ (t : TaskSlot) (e : first k (WaitersOf o) ≡ t ∷ []) where
     waiter-low : t .0 < 16
-    waiter-low = omega (arith, first-within k (WaitersOf o) t e, S .task-slots)
+    waiter-low = omega (arith, first-within k (WaitersOf o) t e, S .tables .task-slots)
 
     waits-here : waitsOn o (taskAt (k .tasks) t .place) ≡ true
     waits-here = first-meant k (WaitersOf o) t e
 
     not-caller : k .running .0 ≡ t .0 → ⊥
-    not-caller z = apart (k .tasks) t (k .running) (waitsOn o) waits-here (ap (waitsOn o) (S .runs)) (sym z)
+    not-caller z = apart (k .tasks) t (k .running) (waitsOn o) waits-here (ap (waitsOn o) (R .ready)) (sym z)
 
     waiter-keeps : Keeps (readied k t 1)
     unfolding readied toTail
     waiter-keeps = record { nearly = readied-nearly k N t waiter-low 1 (omega arith) refl; runs = λ h. readied-runs k N t waiter-low 1 (omega arith) refl R not-caller }
 
     full-then : 0 < q .count → q .count ≡ q .capacity
-    full-then h = waiting-as o (taskAt (k .tasks) t .place) waits-here _ (λ v p. empty-or-full (S .waits t o v p) q kind h)
+    full-then h = waiting-as o (taskAt (k .tasks) t .place) waits-here _ (λ v p. empty-or-full (S .tables .tasks t .waits o v p) q kind h)
 
     refilled-keeps : 0 < q .count → Keeps (readied (withObject k o (Queue (oneMore (oneLess q)))) t 1)
     unfolding readied toTail
     refilled-keeps h =
         let full = full-then h in
         let less = less-fits q ring in
-        let M = ring-keeps (oneMore (oneLess q)) (record { some = ring .some; few = ring .few; small = ring .small; whole = ring .whole; starts = less .starts; counts = omega arith }) (λ u v p. sender (omega arith)) in
+        let M = ring-keeps (oneMore (oneLess q)) (record { some = ring .some; few = ring .few; small = ring .small; whole = ring .whole; starts = less .starts; counts = omega arith })
+        (λ u v p. sender (omega arith)) in
         record {
           nearly = readied-nearly (withObject k o (Queue (oneMore (oneLess q)))) M t waiter-low 1 (omega arith) refl;
-          runs = λ z. readied-runs (withObject k o (Queue (oneMore (oneLess q)))) M t waiter-low 1 (omega arith) refl (object-runs k o (Queue (oneMore (oneLess q))) R) not-caller;
+          runs = λ z. readied-runs (withObject k o (Queue (oneMore (oneLess q)))) M t waiter-low 1 (omega arith) refl R not-caller;
         }
 
   -- 13: send
@@ -113,8 +115,9 @@ module _ (k : State) (S : Sound k) (o : ObjSlot) (q : Ring) (kind : kindAt (k .o
         go true e =
             let l : q .count < q .capacity = ltb-true (q .count) (q .capacity) e in
             record {
-              nearly = ring-keeps (oneMore q) (record { some = ring .some; few = ring .few; small = ring .small; whole = ring .whole; starts = ring .starts; counts = omega arith }) (λ t v p. absurd (none l t v p));
-              runs = λ h. object-runs k o (Queue (oneMore q)) R;
+              nearly = ring-keeps (oneMore q) (record { some = ring .some; few = ring .few; small = ring .small; whole = ring .whole; starts = ring .starts; counts = omega arith })
+                  (λ t v p. absurd (none l t v p));
+              runs = λ h. R;
             }
         go false e =
             let full : q .count ≡ q .capacity = omega (arith, ltb-false (q .count) (q .capacity) e, ring .counts) in
@@ -142,7 +145,7 @@ module _ (k : State) (S : Sound k) (o : ObjSlot) (q : Ring) (kind : kindAt (k .o
         refill h [] e =
             record {
               nearly = ring-keeps (oneLess q) (less-fits q ring) (λ t v p. absurd (first-none k N o e t v p));
-              runs = λ z. object-runs k o (Queue (oneLess q)) R;
+              runs = λ z. R;
             }
         refill h (t ∷ r) e = refilled-keeps t (first-single k (WaitersOf o) t r e) h
 
@@ -187,5 +190,6 @@ module _ (k : State) (S : Sound k) (store : ℕ) (o : ObjSlot) (w : ℕ) where
       where
         go : (x : Kind) → kindAt (k .objects) o ≡ x → isQueue x ≡ true → Keeps (receivedFrom k o x w)
         go Unused e m = absurd (false≢true m)
-        go (Queue q) e m = received-keeps k S o q e w (receive-waits q e) (λ s. wait-busy k (onObject 14 AQueue o w) (P .idle) (waiting s)) (λ s. wait-free k (onObject 14 AQueue o w) (P .held) (waiting s))
+        go (Queue q) e m =
+            received-keeps k S o q e w (receive-waits q e) (λ s. wait-busy k (onObject 14 AQueue o w) (P .idle) (waiting s)) (λ s. wait-free k (onObject 14 AQueue o w) (P .held) (waiting s))
         go (Mutex h) e m = absurd (false≢true m)

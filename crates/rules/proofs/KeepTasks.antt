@@ -16,16 +16,16 @@ use Rattle.slots.specs.Tasks.{freeTask, readyAt, brokenOff, taskAt}
 use Rattle.rules.specs.Types.{TaskSlot, ObjSlot, Free, Ready, Delayed, Suspended, Task, State}
 use Rattle.rules.specs.Tables.{holds, freeSlot, withTask}
 use Rattle.rules.specs.Lines.{level, toTail, leaves}
-use Rattle.rules.specs.Sentences.{Holds, Sound}
+use Rattle.rules.specs.Sentences.{Holds, AsIdle, Sound}
 use Rattle.rules.specs.Refusals.{outOfRange, namesNone, notForIdle, notWithHold, noSlot, inUse, notSuspended}
 use Rattle.rules.specs.Waits.{later, readied, blocked}
 use Rattle.rules.specs.Loans.{prioritized, movedIf, newPriority}
 use Rattle.rules.specs.Effects.{created, deleted, suspended, resumed, yielded, delayed, effect}
-use Rattle.rules.proofs.Says.{none-holds, not-held}
+use Rattle.rules.proofs.Held.{none-holds, not-held}
 use Rattle.rules.proofs.Passes.{Passed, range}
-use Rattle.rules.proofs.Nearly.{settled, TaskFine, Nearly, Runs}
+use Rattle.rules.proofs.Nearly.{settled, TaskFine, Nearly, unblocked-fits, RunsIn}
 use Rattle.rules.proofs.Slotted.{tail-nearly, tail-listed, leave-nearly, leave-listed, moved-nearly}
-use Rattle.rules.proofs.Chosen.{sound-nearly, sound-runs}
+use Rattle.rules.proofs.Chosen.{sound-nearly}
 use Rattle.rules.proofs.Heads.{runs-tail, runs-leave}
 use Rattle.rules.proofs.Blocks.{prioritized-same, readied-nearly, readied-runs, blocked-nearly, prioritized-nearly, prioritized-runs}
 use Rattle.rules.proofs.Keeps.{Keeps, exists-low, not-free, ready-low, apart, index-most, index-passes}
@@ -39,8 +39,8 @@ module _ (k : State) (S : Sound k) (store : ℕ) where
   N : Nearly (settled (k .tick)) k
   N = sound-nearly k S
 
-  R : Runs k
-  R = sound-runs k S
+  R : RunsIn k
+  R = S .running .runs
 
   -- 1: create
   module _ (p : ℕ) (P : Passed k (nothing 1 p 0 1 0) store) where
@@ -55,11 +55,11 @@ module _ (k : State) (S : Sound k) (store : ℕ) where
     has-slot =
         let most = index-most (λ (x : Task). isFree (x .place)) freeTask (k .tasks) in
         let d = eqb-false (freeSlot (k .tasks)) 16 (P .slot) in
-        omega (arith, d, S .task-slots)
+        omega (arith, d, S .tables .task-slots)
 
     is-free : isFree (taskAt (k .tasks) t .place) ≡ true
     unfolding t freeSlot taskAt has-slot
-    is-free = index-passes (λ (x : Task). isFree (x .place)) freeTask (k .tasks) (omega (arith, has-slot, S .task-slots))
+    is-free = index-passes (λ (x : Task). isFree (x .place)) freeTask (k .tasks) (omega (arith, has-slot, S .tables .task-slots))
 
     not-ready : (u : TaskSlot) → taskAt (k .tasks) u .place ≡ Ready → u .0 ≡ t .0 → ⊥
     not-ready u e q = apart (k .tasks) t u isFree is-free (ap isFree e) (sym q)
@@ -67,17 +67,13 @@ module _ (k : State) (S : Sound k) (store : ℕ) where
     fine : TaskFine (settled (k .tick)) (k .objects) t (readyAt p)
     fine =
         record {
-          waits = λ o v e. absurd (let z : _≡_ {A = ℕ} 0 1 = cc in omega arith);
-          at-least = omega arith;
-          range = small;
-          equal = λ e n. refl;
+          fits = unblocked-fits (k .objects) t (readyAt p) refl refl (omega arith);
+          levels = record { at-least = omega arith; equal = λ e n. refl; range = small };
           due = refl;
-          outcome = refl;
-          free = λ e. absurd (let z : _≡_ {A = ℕ} 0 1 = cc in omega arith);
         }
 
-    not-idle : t .0 ≡ 0 → (Ready ≡ Ready) × (p ≡ 0) × (p ≡ 0)
-    not-idle e = absurd (not-ready idle (S .idle-ready) (sym e))
+    not-idle : t .0 ≡ 0 → AsIdle (readyAt p)
+    not-idle e = absurd (not-ready idle (S .tables .as-idle .ready) (sym e))
 
     no-hold : (o : ObjSlot) → Holds (k .objects) t o → Ready ≡ Free → ⊥
     no-hold o h e = let z : _≡_ {A = ℕ} 0 1 = cc in omega arith
@@ -87,7 +83,7 @@ module _ (k : State) (S : Sound k) (store : ℕ) where
     create-keeps =
         record {
           nearly = tail-nearly k N t (readyAt p) has-slot fine no-hold not-idle refl;
-          runs = λ h. runs-tail k R t (readyAt p) (created k p) refl refl (not-ready (k .running) (S .runs)) (tail-listed k N t (readyAt p) has-slot fine no-hold not-idle refl);
+          runs = λ h. runs-tail k R t (readyAt p) (created k p) refl refl (not-ready (k .running) (R .ready)) (tail-listed k N t (readyAt p) has-slot fine no-hold not-idle refl);
         }
 
   -- 2: delete
@@ -111,19 +107,21 @@ module _ (k : State) (S : Sound k) (store : ℕ) where
     gone : TaskFine (settled (k .tick)) (k .objects) t freeTask
     gone =
         record {
-          waits = λ o v e. absurd (let z : _≡_ {A = ℕ} 0 1 = cc in omega arith);
-          at-least = omega arith;
-          range = omega arith;
-          equal = λ e n. refl;
+          fits = record {
+            waits = λ o v e. absurd (let z : _≡_ {A = ℕ} 0 1 = cc in omega arith);
+            outcome-range = omega arith;
+            delay-outcome = λ v e. refl;
+            wait-outcome = λ o v e. refl;
+            free = λ e. refl;
+          };
+          levels = record { at-least = omega arith; equal = λ e n. refl; range = omega arith };
           due = refl;
-          outcome = refl;
-          free = λ e. refl;
         }
 
     pub delete-keeps : Keeps (effect k (onTask 2 t 0))
     unfolding effect deleted leaves
     delete-keeps =
-        let low = exists-low (k .tasks) t (S .task-slots) there in
+        let low = exists-low (k .tasks) t (S .tables .task-slots) there in
         record {
           nearly = leave-nearly k N t freeTask low gone (λ o h e. free-hands o h) (λ e. absurd (busy e)) refl;
           runs = λ h. runs-leave k R t freeTask (deleted k t) refl refl (other h) (leave-listed k N t freeTask low gone (λ o q e. free-hands o q) (λ e. absurd (busy e)) refl);
@@ -148,18 +146,14 @@ module _ (k : State) (S : Sound k) (store : ℕ) where
 
     outcome-few : (b : Bool) → (if b then 3 else taskAt (k .tasks) t .outcome) ≤ 3
     outcome-few true = omega arith
-    outcome-few false = S .outcome-range t
+    outcome-few false = S .tables .tasks t .outcome-range
 
     stopped-fine : TaskFine (settled (k .tick)) (k .objects) t stopped
     stopped-fine =
         record {
-          waits = λ o v e. absurd (let z : _≡_ {A = ℕ} 0 1 = cc in omega arith);
-          at-least = N .tasks t .at-least;
-          range = N .tasks t .range;
-          equal = N .tasks t .equal;
+          fits = unblocked-fits (k .objects) t stopped refl refl (outcome-few (isBlocked (taskAt (k .tasks) t .place)));
+          levels = N .levels t;
           due = refl;
-          outcome = and-intro (leb (stopped .outcome) 3) true (le-leb (stopped .outcome) 3 (outcome-few (isBlocked (taskAt (k .tasks) t .place)))) refl;
-          free = λ e. absurd (let z : _≡_ {A = ℕ} 0 1 = cc in omega arith);
         }
 
     suspended-not-free : Suspended ≡ Free → ⊥
@@ -171,10 +165,11 @@ module _ (k : State) (S : Sound k) (store : ℕ) where
       where
         go : (b : Bool) → Keeps (if b then leaves (withTask k t stopped) t else k)
         go true =
-            let low = exists-low (k .tasks) t (S .task-slots) found in
+            let low = exists-low (k .tasks) t (S .tables .task-slots) found in
             record {
               nearly = leave-nearly k N t stopped low stopped-fine (λ o h e. suspended-not-free e) (λ e. absurd (not-idle-one e)) refl;
-              runs = λ h. runs-leave k R t stopped (leaves (withTask k t stopped) t) refl refl (not-caller h) (leave-listed k N t stopped low stopped-fine (λ o q e. suspended-not-free e) (λ e. absurd (not-idle-one e)) refl);
+              runs = λ h. runs-leave k R t stopped (leaves (withTask k t stopped) t) refl refl (not-caller h)
+                  (leave-listed k N t stopped low stopped-fine (λ o q e. suspended-not-free e) (λ e. absurd (not-idle-one e)) refl);
             }
         go false = record { nearly = N; runs = λ h. R }
 
@@ -191,10 +186,11 @@ module _ (k : State) (S : Sound k) (store : ℕ) where
     pub resume-keeps : Keeps (effect k (onTask 4 t 0))
     unfolding effect resumed readied toTail
     resume-keeps =
-        let low = exists-low (k .tasks) t (S .task-slots) known in
+        let low = exists-low (k .tasks) t (S .tables .task-slots) known in
         record {
-          nearly = readied-nearly k N t low (taskAt (k .tasks) t .outcome) (S .outcome-range t) refl;
-          runs = λ h. readied-runs k N t low (taskAt (k .tasks) t .outcome) (S .outcome-range t) refl R (λ e. apart (k .tasks) t (k .running) isSuspended was-suspended (ap isSuspended (S .runs)) (sym e));
+          nearly = readied-nearly k N t low (taskAt (k .tasks) t .outcome) (S .tables .tasks t .outcome-range) refl;
+          runs = λ h. readied-runs k N t low (taskAt (k .tasks) t .outcome) (S .tables .tasks t .outcome-range) refl R
+              (λ e. apart (k .tasks) t (k .running) isSuspended was-suspended (ap isSuspended (R .ready)) (sym e));
         }
 
   -- 5: set priority
@@ -230,9 +226,9 @@ module _ (k : State) (S : Sound k) (store : ℕ) where
     given : (b : Bool) → holds (k .objects) t ≡ b → (p ≤ eff b) × (eff b ≤ 31) × (((o : ObjSlot) → Holds (k .objects) t o → ⊥) → p ≡ eff b) × (t .0 ≡ 0 → eff b ≡ 0)
     given true e = (
       larger-least (level (k .tasks) t) p .0,
-      larger-most (level (k .tasks) t) p 31 (S .priority-range t) in-range,
+      larger-most (level (k .tasks) t) p 31 (S .levels t .range) in-range,
       (λ n. absurd (false≢true (sym (none-holds (k .objects) t n) ∙ e))),
-      (λ z. absurd (false≢true (sym (none-holds (k .objects) t (λ o. rw (one-number t idle z) (S .idle-holds o))) ∙ e))),
+      (λ z. absurd (false≢true (sym (none-holds (k .objects) t (λ o. rw (one-number t idle z) (S .tables .idle-holds o))) ∙ e))),
     )
     given false e = (omega arith, in-range, (λ n. refl), idle-to-0)
 
@@ -240,9 +236,10 @@ module _ (k : State) (S : Sound k) (store : ℕ) where
     unfolding effect newPriority prioritized movedIf
     priority-keeps =
         let g = given (holds (k .objects) t) refl in
-        let low = exists-low (k .tasks) t (S .task-slots) exists in
+        let low = exists-low (k .tasks) t (S .tables .task-slots) exists in
         record {
-          nearly = rw (prioritized-same k t p (eff (holds (k .objects) t)) .tick) (prioritized-nearly k N t low p (eff (holds (k .objects) t)) (g .0) (g .1) (λ e n. g .2 n) (not-free (k .tasks) t exists) (λ z. (idle-to-0 z, g .3 z)));
+          nearly = rw (prioritized-same k t p (eff (holds (k .objects) t)) .tick)
+              (prioritized-nearly k N t low p (eff (holds (k .objects) t)) (g .0) (g .1) (λ e n. g .2 n) (not-free (k .tasks) t exists) (λ z. (idle-to-0 z, g .3 z)));
           runs = λ h. prioritized-runs k N t low p (eff (holds (k .objects) t)) (g .0) (g .1) (λ e n. g .2 n) (not-free (k .tasks) t exists) (λ z. (idle-to-0 z, g .3 z)) R;
         }
 
@@ -252,11 +249,11 @@ module _ (k : State) (S : Sound k) (store : ℕ) where
   hold-free P h = false≢true (sym (rw (lt-ltb 0 (k .hold) h) at (P .held)))
 
   caller-low : k .running .0 < 16
-  caller-low = ready-low (k .tasks) (k .running) (S .task-slots) (S .runs)
+  caller-low = ready-low (k .tasks) (k .running) (S .tables .task-slots) (R .ready)
 
   yields : (0 < k .hold → ⊥) → Keeps (yielded k)
   unfolding yielded toTail
-  yields h = record { nearly = moved-nearly k N (k .running) caller-low (rw (S .runs)); runs = λ q. absurd (h q) }
+  yields h = record { nearly = moved-nearly k N (k .running) caller-low (rw (R .ready)); runs = λ q. absurd (h q) }
 
   pub yield-keeps : Passed k (nothing 7 0 0 1 0) store → Keeps (effect k (nothing 7 0 0 1 0))
   unfolding effect
@@ -284,7 +281,7 @@ module _ (k : State) (S : Sound k) (store : ℕ) where
         go true e = yields no-hold-now
         go false e =
             let some : 0 < n = omega (arith, eqb-false n 0 e) in
-            let a = later-ahead (k .tick) n (S .tick-range) some few in
+            let a = later-ahead (k .tick) n (S .clock .counts .tick-range) some few in
             record {
               nearly = blocked-nearly k N caller-low not-idle-now (Delayed (later (k .tick) n)) refl (λ o v q. absurd (let z : _≡_ {A = ℕ} 0 1 = cc in omega arith)) a;
               runs = λ h. absurd (no-hold-now h);

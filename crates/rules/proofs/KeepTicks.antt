@@ -21,62 +21,30 @@ use Rattle.rules.specs.Types.{TaskSlot, Place, Free, Ready, Delayed, Wai
 use Rattle.rules.specs.Tables.{withTick, withHold}
 use Rattle.rules.specs.Lines.{level, toTail}
 use Rattle.rules.specs.Sound.{noHigher}
-use Rattle.rules.specs.Sentences.{Sound}
+use Rattle.rules.specs.Sentences.{Counts, Sound}
 use Rattle.rules.specs.Refusals.{noDepth, noTick}
 use Rattle.rules.specs.Waits.{later, readied}
 use Rattle.rules.specs.Ticks.{wokenIfDue, wakes, oneTick, turned, ticked, ticks, released, held}
 use Rattle.rules.specs.Effects.{effect}
 use Rattle.rules.proofs.Slots.{past-tasks}
 use Rattle.rules.proofs.Passes.{Passed}
-use Rattle.rules.proofs.Nearly.{Owing, settled, Counted, Nearly, Runs}
+use Rattle.rules.proofs.Nearly.{Owing, settled, Nearly, RunsIn}
 use Rattle.rules.proofs.Slotted.{at-same, at-other, moved-nearly}
-use Rattle.rules.proofs.Chosen.{sound-nearly, sound-runs}
+use Rattle.rules.proofs.Chosen.{sound-nearly}
 use Rattle.rules.proofs.Blocks.{Same, readied-nearly}
 use Rattle.rules.proofs.Keeps.{Keeps, exists-low, ready-low}
 
 -- ── the counts changed, and what is open told anew
-recount : {w : Owing} (k : State) (h p : ℕ) → Nearly w k → Counted (withHold k h p) → Nearly w (withHold k h p)
-recount k h p N C =
-    record {
-      task-slots = N .task-slots;
-      object-slots = N .object-slots;
-      order-places = N .order-places;
-      listing = record { once = N .listing .once; room = N .listing .room; zeros = N .listing .zeros };
-      idle-ready = N .idle-ready;
-      idle-own = N .idle-own;
-      idle-effective = N .idle-effective;
-      tasks = N .tasks;
-      idle-holds = N .idle-holds;
-      holders = N .holders;
-      queues = N .queues;
-      counts = C;
-    }
-
-same-runs : (k : State) (h p : ℕ) → Runs k → Runs (withHold k h p)
-same-runs k h p R = record { runs = R .runs; heads = R .heads }
+recount : {w : Owing} (k : State) (h p : ℕ) → Nearly w k → Counts (k .tick) h p → Nearly w (withHold k h p)
+recount k h p N C = record { tables = N .tables; levels = N .levels; listing = N .listing; due = N .due; counts = C }
 
 pub reopen : {w : Owing} (v : Owing) (k : State) → Nearly w k → ((t : TaskSlot) → v .due t (taskAt (k .tasks) t .place) ≡ true) → ((t : TaskSlot) → v .owes t ≡ false → w .owes t ≡ false) → Nearly v k
 reopen v k N D O =
     record {
-      task-slots = N .task-slots;
-      object-slots = N .object-slots;
-      order-places = N .order-places;
+      tables = N .tables;
+      levels = λ t. record { at-least = N .levels t .at-least; equal = λ e n. N .levels t .equal (O t e) n; range = N .levels t .range };
       listing = N .listing;
-      idle-ready = N .idle-ready;
-      idle-own = N .idle-own;
-      idle-effective = N .idle-effective;
-      tasks = λ t. record {
-        waits = N .tasks t .waits;
-        at-least = N .tasks t .at-least;
-        range = N .tasks t .range;
-        equal = λ e n. N .tasks t .equal (O t e) n;
-        due = D t;
-        outcome = N .tasks t .outcome;
-        free = N .tasks t .free;
-      };
-      idle-holds = N .idle-holds;
-      holders = N .holders;
-      queues = N .queues;
+      due = D;
       counts = N .counts;
     }
 
@@ -142,20 +110,20 @@ module _ (tick : ℕ) (asked : TaskSlot → Bool) (x : TaskSlot) (j : State) (W 
   woken-next = go (wakesAt (j .tick) (taskAt (j .tasks) x .place)) refl
     where
       low : wakesAt (j .tick) (taskAt (j .tasks) x .place) ≡ true → x .0 < 16
-      low e = exists-low (j .tasks) x (W .nearly .task-slots) (due-there (j .tick) (taskAt (j .tasks) x .place) e)
+      low e = exists-low (j .tasks) x (W .nearly .tables .task-slots) (due-there (j .tick) (taskAt (j .tasks) x .place) e)
 
       ready-now : (m : ℕ) → x .0 < 16 → notDue tick (taskAt (readied j x m .tasks) x .place) ≡ true
-      ready-now m l = ap (λ (y : Task). notDue tick (y .place)) (readied-at j x m (omega (arith, W .nearly .task-slots)))
+      ready-now m l = ap (λ (y : Task). notDue tick (y .place)) (readied-at j x m (omega (arith, W .nearly .tables .task-slots)))
 
       go : (b : Bool) → wakesAt (j .tick) (taskAt (j .tasks) x .place) ≡ b → Woken tick askedToo (if b then readied j x (outcomeDue (taskAt (j .tasks) x .place)) else j)
       go true e =
           let m = outcomeDue (taskAt (j .tasks) x .place) in
           let M = readied-nearly j (W .nearly) x (low e) m (due-outcome (taskAt (j .tasks) x .place)) (ready-due (asked x)) in
-          record { nearly = reopen (waking tick askedToo) (readied j x m) M (next-due _ (λ t. M .tasks t .due) (ready-now m (low e))) (λ t q. refl); ticks = readied-ticks j x m .tick ∙ W .ticks }
+          record { nearly = reopen (waking tick askedToo) (readied j x m) M (next-due _ (M .due) (ready-now m (low e))) (λ t q. refl); ticks = readied-ticks j x m .tick ∙ W .ticks }
       go false e =
           let p = taskAt (j .tasks) x .place in
-          let h = and-intro (wakesInRange p) _ (in-range (asked x) p (W .nearly .tasks x .due)) (not-off _ (rw (W .ticks) at e)) in
-          record { nearly = reopen (waking tick askedToo) j (W .nearly) (next-due (j .tasks) (λ t. W .nearly .tasks t .due) h) (λ t q. refl); ticks = W .ticks }
+          let h = and-intro (wakesInRange p) _ (in-range (asked x) p (W .nearly .due x)) (not-off _ (rw (W .ticks) at e)) in
+          record { nearly = reopen (waking tick askedToo) j (W .nearly) (next-due (j .tasks) (W .nearly .due) h) (λ t q. refl); ticks = W .ticks }
 
 -- those asked after the wakes of l
 askedAll : (TaskSlot → Bool) → List TaskSlot → TaskSlot → Bool
@@ -228,25 +196,10 @@ one-tick k N =
     start =
         record {
           nearly = record {
-            task-slots = N .task-slots;
-            object-slots = N .object-slots;
-            order-places = N .order-places;
-            listing = record { once = N .listing .once; room = N .listing .room; zeros = N .listing .zeros };
-            idle-ready = N .idle-ready;
-            idle-own = N .idle-own;
-            idle-effective = N .idle-effective;
-            tasks = λ t. record {
-              waits = N .tasks t .waits;
-              at-least = N .tasks t .at-least;
-              range = N .tasks t .range;
-              equal = N .tasks t .equal;
-              due = (and-left (wakesInRange (taskAt (k .tasks) t .place)) _ (N .tasks t .due));
-              outcome = N .tasks t .outcome;
-              free = N .tasks t .free;
-            };
-            idle-holds = N .idle-holds;
-            holders = N .holders;
-            queues = N .queues;
+            tables = N .tables;
+            levels = N .levels;
+            listing = N .listing;
+            due = λ t. and-left (wakesInRange (taskAt (k .tasks) t .place)) _ (N .due t);
             counts = record { tick-range = omega arith; hold-range = N .counts .hold-range; pended-range = N .counts .pended-range; pends = N .counts .pends };
           };
           ticks = refl;
@@ -256,16 +209,19 @@ one-tick k N =
     all-woken j M t = go (ltb (t .0) 16) refl
       where
         go : (b : Bool) → ltb (t .0) 16 ≡ b → notDue (later (k .tick) 1) (taskAt (j .tasks) t .place) ≡ true
-        go true e = rw (all-asked (λ u. false) 16 t (ltb-true (t .0) 16 e)) at (M .tasks t .due)
-        go false e = let past : length (j .tasks) ≤ t .0 = omega (arith, ltb-false (t .0) 16 e, M .task-slots) in rw (past-tasks (j .tasks) t past)
+        go true e = rw (all-asked (λ u. false) 16 t (ltb-true (t .0) 16 e)) at (M .due t)
+        go false e = let past : length (j .tasks) ≤ t .0 = omega (arith, ltb-false (t .0) 16 e, M .tables .task-slots) in rw (past-tasks (j .tasks) t past)
 
 -- ── the calls
 module _ (k : State) (S : Sound k) (store : ℕ) where
   N : Nearly (settled (k .tick)) k
   N = sound-nearly k S
 
-  R : Runs k
-  R = sound-runs k S
+  R : RunsIn k
+  R = S .running .runs
+
+  C : Counts (k .tick) (k .hold) (k .pended)
+  C = S .clock .counts
 
   -- 8: hold
   pub hold-keeps : Passed k (nothing 8 0 0 1 0) store → Keeps (effect k (nothing 8 0 0 1 0))
@@ -273,8 +229,9 @@ module _ (k : State) (S : Sound k) (store : ℕ) where
   hold-keeps P =
       let d = eqb-false (k .hold) 255 (or-off (eqb (k .hold) 255) false (P .deep) .0) in
       record {
-        nearly = recount k (k .hold + 1) (k .pended) N (record { tick-range = S .tick-range; hold-range = omega (arith, S .hold-range, d); pended-range = S .pended-range; pends = λ e. absurd (omega arith) });
-        runs = λ h. same-runs k (k .hold + 1) (k .pended) R;
+        nearly = recount k (k .hold + 1) (k .pended) N
+            (record { tick-range = C .tick-range; hold-range = omega (arith, C .hold-range, d); pended-range = C .pended-range; pends = λ e. absurd (omega arith) });
+        runs = λ h. R;
       }
 
   -- 17: tick
@@ -282,20 +239,21 @@ module _ (k : State) (S : Sound k) (store : ℕ) where
   unfolding noTick
   tick-pends P h =
       let f : eqb (k .pended) 65535 ≡ false = rw (lt-ltb 0 (k .hold) h) at (P .ticks) in
-      omega (arith, eqb-false (k .pended) 65535 f, S .pended-range)
+      omega (arith, eqb-false (k .pended) 65535 f, C .pended-range)
 
   turns : (j : State) → Ticked k j → k .hold ≡ 0 → Keeps (turned j)
   unfolding turned toTail
   turns j T z = go (noHigher (j .tasks) (level (j .tasks) (j .running)) (listed (j .order)))
     where
       runs-ready : taskAt (j .tasks) (j .running) .place ≡ Ready
-      runs-ready = ap (λ v. taskAt (j .tasks) v .place) (T .after .running) ∙ T .after .ready (k .running) (S .runs)
+      runs-ready = ap (λ v. taskAt (j .tasks) v .place) (T .after .running) ∙ T .after .ready (k .running) (R .ready)
 
       no-hold : 0 < j .hold → ⊥
       no-hold h = omega (arith, T .after .hold)
 
       go : (b : Bool) → Keeps (if b then toTail j (j .running) else j)
-      go true = record { nearly = moved-nearly j (T .nearly) (j .running) (ready-low (j .tasks) (j .running) (T .nearly .task-slots) runs-ready) (rw runs-ready); runs = λ h. absurd (no-hold h) }
+      go true =
+          record { nearly = moved-nearly j (T .nearly) (j .running) (ready-low (j .tasks) (j .running) (T .nearly .tables .task-slots) runs-ready) (rw runs-ready); runs = λ h. absurd (no-hold h) }
       go false = record { nearly = T .nearly; runs = λ h. absurd (no-hold h) }
 
   pub tick-keeps : Passed k (nothing 17 0 0 1 0) store → Keeps (effect k (nothing 17 0 0 1 0))
@@ -306,8 +264,9 @@ module _ (k : State) (S : Sound k) (store : ℕ) where
       go true e =
           let h : 0 < k .hold = ltb-true 0 (k .hold) e in
           record {
-            nearly = recount k (k .hold) (k .pended + 1) N (record { tick-range = S .tick-range; hold-range = S .hold-range; pended-range = tick-pends P h; pends = λ z. absurd (omega arith) });
-            runs = λ q. same-runs k (k .hold) (k .pended + 1) R;
+            nearly = recount k (k .hold) (k .pended + 1) N
+                (record { tick-range = C .tick-range; hold-range = C .hold-range; pended-range = tick-pends P h; pends = λ z. absurd (omega arith) });
+            runs = λ q. R;
           }
       go false e = turns (oneTick k) (one-tick k N) (omega (arith, ltb-false 0 (k .hold) e))
 
@@ -329,10 +288,13 @@ module _ (k : State) (S : Sound k) (store : ℕ) where
       some = eqb-false (k .hold) 0 (P .deep)
 
       go : (b : Bool) → eqb (k .hold) 1 ≡ b → Keeps (if b then upTo (λ x i. oneTick x) (k .pended) (withHold k 0 0) else withHold k (k .hold - 1) (k .pended))
-      go true e = all-ticks (k .pended) (withHold k 0 0) (recount k 0 0 N (record { tick-range = S .tick-range; hold-range = omega arith; pended-range = omega arith; pends = λ z. refl })) refl .0
+      go true e =
+          all-ticks (k .pended) (withHold k 0 0)
+          (recount k 0 0 N (record { tick-range = C .tick-range; hold-range = omega arith; pended-range = omega arith; pends = λ z. refl })) refl .0
       go false e =
           let d = eqb-false (k .hold) 1 e in
           record {
-            nearly = recount k (k .hold - 1) (k .pended) N (record { tick-range = S .tick-range; hold-range = omega (arith, S .hold-range); pended-range = S .pended-range; pends = λ z. absurd (omega (arith, some, d)) });
-            runs = λ h. same-runs k (k .hold - 1) (k .pended) R;
+            nearly = recount k (k .hold - 1) (k .pended) N
+                (record { tick-range = C .tick-range; hold-range = omega (arith, C .hold-range); pended-range = C .pended-range; pends = λ z. absurd (omega (arith, some, d)) });
+            runs = λ h. R;
           }

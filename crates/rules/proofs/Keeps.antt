@@ -26,13 +26,13 @@ use Rattle.rules.specs.Step.{accepted, turnedAway, step}
 use Rattle.rules.proofs.Slots.{past-tasks}
 use Rattle.rules.proofs.Says.{sound-says, says-sound}
 use Rattle.rules.proofs.Passes.{Passed, passed}
-use Rattle.rules.proofs.Nearly.{settled, Nearly, Runs}
+use Rattle.rules.proofs.Nearly.{settled, Nearly, RunsIn}
 use Rattle.rules.proofs.Chosen.{chosen-sound}
 
 -- after its effect the kernel is nearly sound, and with a hold the running task still heads its line
 pub record Keeps (j : State) : Type 0 where
   pub nearly : Nearly (settled (j .tick)) j
-  pub runs : 0 < j .hold → Runs j
+  pub runs : 0 < j .hold → RunsIn j
 
 -- so the step keeps soundness, whether the call is accepted or not
 pub kept : (k : State) (c : Call) (item s : List ℕ) → sound k ≡ true → (Sound k → Passed k (asked c) (length s) → Keeps (effect k (asked c))) → sound (step k c item s .kernel) ≡ true
@@ -114,6 +114,7 @@ module _ {ℓ} {A : Type ℓ} (p : A → Bool) (d : A) where
   index-passes [] h = absurd (omega arith)
   index-passes (x ∷ xs) h = go (p x) refl (index-passes xs) h
     where
-      go : (b : Bool) → p x ≡ b → (index p xs < length xs → p (getD xs (index p xs) d) ≡ true) → (if b then 0 else suc (index p xs)) < suc (length xs) → p (getD (x ∷ xs) (if b then 0 else suc (index p xs)) d) ≡ true
+      go : (b : Bool) → p x ≡ b → (index p xs < length xs → p (getD xs (index p xs) d) ≡ true) → (if b then 0 else suc (index p xs)) < suc (length xs)
+          → p (getD (x ∷ xs) (if b then 0 else suc (index p xs)) d) ≡ true
       go true e ih m = e
       go false e ih m = ih (omega arith)

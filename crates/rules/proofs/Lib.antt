@@ -1,8 +1,14 @@
 pub mod Asks
 pub mod Slots
+pub mod Held
 pub mod Leads
 pub mod Moves
 pub mod Listings
+pub mod SaysTables
+pub mod SaysLevels
+pub mod SaysListing
+pub mod SaysClock
+pub mod SaysRuns
 pub mod Says
 pub mod Within
 pub mod Passes

@@ -12,8 +12,8 @@ use Rattle.slots.specs.Objects.{unused, heldBy, kindAt}
 use Rattle.rules.specs.Types.{TaskSlot, ObjSlot, Wake, Waiting, Ring, Kind, Queue, Mutex, By, Object, State}
 use Rattle.slots.specs.Tasks.{taskAt}
 use Rattle.rules.specs.Tables.{withObject}
-use Rattle.rules.specs.Sentences.{Holds, Exists, MayWait, RingFits}
-use Rattle.rules.proofs.Says.{held-one}
+use Rattle.rules.specs.Sentences.{Holds, Exists, MayWait, RingFits, Tables}
+use Rattle.rules.proofs.Held.{held-one}
 use Rattle.rules.proofs.Nearly.{Owing, Nearly}
 
 module _ (os : List Object) (o : ObjSlot) (y : Kind) where
@@ -35,7 +35,8 @@ module _ {w : Owing} (k : State) (N : Nearly w k) (o : ObjSlot) (y : Kind) (low 
     (W : (t : TaskSlot) (v : Wake) → taskAt (k .tasks) t .place ≡ Waiting o v → MayWait t y)
     (Q : (q : Ring) → y ≡ Queue q → RingFits q)
     (H : (t : TaskSlot) → y ≡ Mutex (By t) → Exists (k .tasks) t × (t .0 ≡ 0 → ⊥))
-    (G : (t : TaskSlot) → Holds (k .objects) t o → w .owes t ≡ false → ((p : ObjSlot) → Holds (kinds (k .objects) o y) t p → ⊥) → taskAt (k .tasks) t .own ≡ taskAt (k .tasks) t .effective) where
+    (G : (t : TaskSlot) → Holds (k .objects) t o → w .owes t ≡ false → ((p : ObjSlot) → Holds (kinds (k .objects) o y) t p → ⊥)
+    → taskAt (k .tasks) t .own ≡ taskAt (k .tasks) t .effective) where
   abbrev qs : List Object
   qs = kinds (k .objects) o y
 
@@ -44,7 +45,7 @@ module _ {w : Owing} (k : State) (N : Nearly w k) (o : ObjSlot) (y : Kind) (low 
   each P h f p = go (sameObject p o) refl
     where
       go : (b : Bool) → sameObject p o ≡ b → P p (kindAt qs p)
-      go true e = rw (one-object p o (eqb-true (p .0) (o .0) e), kind-same (k .objects) o y (omega (arith, N .object-slots))) h
+      go true e = rw (one-object p o (eqb-true (p .0) (o .0) e), kind-same (k .objects) o y (omega (arith, N .tables .object-slots))) h
       go false e = rw (kind-other (k .objects) o y p (eqb-false (p .0) (o .0) e)) (f p (eqb-false (p .0) (o .0) e))
 
   -- who held it has its own priority; of everyone else nothing changed
@@ -63,29 +64,32 @@ module _ {w : Owing} (k : State) (N : Nearly w k) (o : ObjSlot) (y : Kind) (low 
 
       go : (b : Bool) → heldBy t (kindAt (k .objects) o) ≡ b → taskAt (k .tasks) t .own ≡ taskAt (k .tasks) t .effective
       go true f = G t (held-one t (kindAt (k .objects) o) f) e n
-      go false f = N .tasks t .equal e (none f)
+      go false f = N .levels t .equal e (none f)
+
+  tables-now : Tables (k .tasks) qs
+  tables-now =
+      record {
+        task-slots = N .tables .task-slots;
+        object-slots = length-set (k .objects) (o .0) (record { kind = y }) ∙ N .tables .object-slots;
+        as-idle = N .tables .as-idle;
+        tasks = λ t. let F = N .tables .tasks t in record {
+          waits = λ p v e. each (λ r z. taskAt (k .tasks) t .place ≡ Waiting r v → MayWait t z) (W t v) (λ r n f. F .waits r v f) p e;
+          outcome-range = F .outcome-range;
+          delay-outcome = F .delay-outcome;
+          wait-outcome = F .wait-outcome;
+          free = F .free;
+        };
+        idle-holds = each (λ p z. z ≡ Mutex (By idle) → ⊥) (λ e. H idle e .1 refl) (λ p n e. N .tables .idle-holds p e);
+        holders = λ t. each (λ p z. z ≡ Mutex (By t) → Exists (k .tasks) t) (λ e. H t e .0) (λ p n e. N .tables .holders t p e);
+        queue-range = λ p. each (λ r z. (q : Ring) → z ≡ Queue q → RingFits q) Q (λ r n q e. N .tables .queue-range r q e) p;
+      }
 
   pub object-nearly : Nearly w (withObject k o y)
   object-nearly =
       record {
-        task-slots = N .task-slots;
-        object-slots = length-set (k .objects) (o .0) (record { kind = y }) ∙ N .object-slots;
-        order-places = N .order-places;
-        listing = record { once = N .listing .once; room = N .listing .room; zeros = N .listing .zeros };
-        idle-ready = N .idle-ready;
-        idle-own = N .idle-own;
-        idle-effective = N .idle-effective;
-        tasks = λ t. record {
-          waits = λ p v e. each (λ r z. taskAt (k .tasks) t .place ≡ Waiting r v → MayWait t z) (W t v) (λ r n f. N .tasks t .waits r v f) p e;
-          at-least = N .tasks t .at-least;
-          range = N .tasks t .range;
-          equal = equal-now t;
-          due = N .tasks t .due;
-          outcome = N .tasks t .outcome;
-          free = N .tasks t .free;
-        };
-        idle-holds = each (λ p z. z ≡ Mutex (By idle) → ⊥) (λ e. H idle e .1 refl) (λ p n e. N .idle-holds p e);
-        holders = λ t. each (λ p z. z ≡ Mutex (By t) → Exists (k .tasks) t) (λ e. H t e .0) (λ p n e. N .holders t p e);
-        queues = λ p. each (λ r z. (q : Ring) → z ≡ Queue q → RingFits q) Q (λ r n q e. N .queues r q e) p;
-        counts = record { tick-range = N .counts .tick-range; hold-range = N .counts .hold-range; pended-range = N .counts .pended-range; pends = N .counts .pends };
+        tables = tables-now;
+        levels = λ t. record { at-least = N .levels t .at-least; equal = equal-now t; range = N .levels t .range };
+        listing = N .listing;
+        due = N .due;
+        counts = N .counts;
       }

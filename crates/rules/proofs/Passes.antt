@@ -12,9 +12,9 @@ use Rattle.slots.specs.Places.{isReady}
 use Rattle.rules.specs.Types.{Task, Ring, Kind, Queue, Asked, State}
 use Rattle.slots.specs.Objects.{kindAt}
 use Rattle.rules.specs.Sound.{sound}
-use Rattle.rules.specs.Refusals.{seen, outOfRange, namesNone, sizeDiffers, wrongSize, notForIdle, notWithHold, noSlot, inUse, notHis, hisAlready, notSuspended, mustWait, noDepth, noTick, table, laterRow}
-use Rattle.rules.specs.Sentences.{Steady}
-use Rattle.rules.specs.Sentences.{Sound}
+use Rattle.rules.specs.Refusals.{seen, outOfRange, namesNone, sizeDiffers, wrongSize, notForIdle, notWithHold, noSlot, inUse}
+use Rattle.rules.specs.Refusals.{notHis, hisAlready, notSuspended, mustWait, noDepth, noTick, table, laterRow}
+use Rattle.rules.specs.Sentences.{Sound, Steady}
 use Rattle.rules.proofs.Slots.{past-tasks}
 use Rattle.rules.proofs.Says.{sound-says}
 
@@ -128,7 +128,13 @@ tick-room h p l m e =
 
 -- what a step leans on
 pub sound-steady : (k : State) → sound k ≡ true → Steady k
-sound-steady k e = record { task-slots = s .task-slots; object-slots = s .object-slots; runs = go (ltb (k .running .0) 16) refl; fit = s .queue-range }
+sound-steady k e =
+    record {
+      task-slots = s .tables .task-slots;
+      object-slots = s .tables .object-slots;
+      runs = go (ltb (k .running .0) 16) refl;
+      fit = s .tables .queue-range;
+    }
   where
     s : Sound k
     s = sound-says k e
@@ -136,6 +142,6 @@ sound-steady k e = record { task-slots = s .task-slots; object-slots = s .object
     go : (b : Bool) → ltb (k .running .0) 16 ≡ b → k .running .0 < 16
     go true h = ltb-true (k .running .0) 16 h
     go false h =
-        let past : length (k .tasks) ≤ k .running .0 = omega (arith, ltb-false (k .running .0) 16 h, s .task-slots) in
-        let z : _≡_ {A = Bool} false true = ap isReady (sym (ap (λ (x : Task). x .place) (past-tasks (k .tasks) (k .running) past)) ∙ s .runs) in
+        let past : length (k .tasks) ≤ k .running .0 = omega (arith, ltb-false (k .running .0) 16 h, s .tables .task-slots) in
+        let z : _≡_ {A = Bool} false true = ap isReady (sym (ap (λ (x : Task). x .place) (past-tasks (k .tasks) (k .running) past)) ∙ s .running .runs .ready) in
         absurd (false≢true z)

@@ -1,4 +1,4 @@
--- "A kernel value is sound when", as propositions: for each task, each object, each line and each list what the sentence says, in document 01's order.
+-- "A kernel value is sound when", as propositions, in the five parts of Sound.antt: for each task, each object, each line and each list what the sentence says.
 use Prim.Native.Nat.{ℕ, _*_, _<_, _≤_}
 use mathlib.Core.Path.{_≡_}
 use mathlib.Core.List.{List, [], _∷_}
@@ -10,7 +10,7 @@ use Rattle.order.specs.Order.{listed}
 use Rattle.order.specs.Tidy.{count}
 use Rattle.slots.specs.Places.{isListed, waitsOn}
 use Rattle.slots.specs.Tasks.{freeTask, inLine, taskAt}
-use Rattle.rules.specs.Types.{TaskSlot, ObjSlot, Wake, At, Free, Ready, Delayed, Waiting, Task, Ring, By, Kind, Queue, Mutex, Object, WaitersOf, State}
+use Rattle.rules.specs.Types.{TaskSlot, ObjSlot, Wake, At, Place, Free, Ready, Delayed, Waiting, Order, Task, Ring, By, Kind, Queue, Mutex, Object, WaitersOf, State}
 use Rattle.slots.specs.Objects.{kindAt}
 use Rattle.rules.specs.Lines.{line, those, level}
 
@@ -37,60 +37,102 @@ pub record RingFits (q : Ring) : Type 0 where
   pub starts : q .first < q .capacity
   pub counts : q .count ≤ q .capacity
 
--- the one order, our kernel value's own, which carries the lines and the lists: each ready, delayed and waiting task once, and no one else; zeros behind them.
--- Of the ready and the waiting document 01 asks it too (`lines`, `lists` below); of the delayed, the suspended and the free slots it does not
-pub record Listing (k : State) : Type 0 where
-  pub once : (t : TaskSlot) → count (t .0) (listed (k .order)) ≡ (if isListed (taskAt (k .tasks) t .place) then 1 else 0)
-  pub room : k .order .living ≤ 16
-  pub zeros : (i : ℕ) → k .order .living ≤ i → i < 16 → getD (k .order .places) i idle .0 ≡ 0
+-- ── the tables: the tasks and the objects with each other
+-- "idle is as above": "always there, always ready, priority 0"
+pub record AsIdle (x : Task) : Type 0 where
+  pub ready : x .place ≡ Ready
+  pub own : x .own ≡ 0
+  pub effective : x .effective ≡ 0
 
-pub record Sound (k : State) : Type 0 where
-  -- "16 task slots, 0 to 15"; "16 object slots, 0 to 15"
-  pub task-slots : length (k .tasks) ≡ 16
-  pub object-slots : length (k .objects) ≡ 16
-  -- no sentence of document 01, but our kernel value's own
-  pub order-places : length (k .order .places) ≡ 16
-  pub listing : Listing k
-  -- "idle is as above": "always there, always ready, priority 0"
-  pub idle-ready : taskAt (k .tasks) idle .place ≡ Ready
-  pub idle-own : taskAt (k .tasks) idle .own ≡ 0
-  pub idle-effective : level (k .tasks) idle ≡ 0
-  -- "each ready task stands once in the line of its effective priority and nobody else stands in a line"
-  pub lines : (p : ℕ) (t : TaskSlot) → count (t .0) (line (k .tasks) p (listed (k .order))) ≡ (if inLine p (taskAt (k .tasks) t) then 1 else 0)
-  -- "the running task heads its line, and with hold 0 no higher line is occupied"
-  pub runs : taskAt (k .tasks) (k .running) .place ≡ Ready
-  pub heads : head (line (k .tasks) (level (k .tasks) (k .running)) (listed (k .order))) ≡ k .running ∷ []
-  pub no-higher : k .hold ≡ 0 → (p : ℕ) → level (k .tasks) (k .running) < p → line (k .tasks) p (listed (k .order)) ≡ []
+-- of the task t, whose slot holds x
+pub record TaskFits (os : List Object) (t : TaskSlot) (x : Task) : Type 0 where
   -- "receivers wait only on an empty queue, senders only on a full one, takers only on a mutex held by another"
-  pub waits : (t : TaskSlot) (o : ObjSlot) (w : Wake) → taskAt (k .tasks) t .place ≡ Waiting o w → MayWait t (kindAt (k .objects) o)
-  -- "each object lists its waiters once, in order of arrival, and no one else"
-  pub lists : (o : ObjSlot) (t : TaskSlot) → count (t .0) (those (k .tasks) (WaitersOf o) (listed (k .order))) ≡ (if waitsOn o (taskAt (k .tasks) t .place) then 1 else 0)
-  -- "idle never waits or holds"; it is ready, so it does not wait
-  pub idle-holds : (o : ObjSlot) → Holds (k .objects) idle o → ⊥
-  -- "effective is at least own, and equal to it for a task that holds nothing"
-  pub at-least : (t : TaskSlot) → taskAt (k .tasks) t .own ≤ level (k .tasks) t
-  pub equal : (t : TaskSlot) → ((o : ObjSlot) → Holds (k .objects) t o → ⊥) → taskAt (k .tasks) t .own ≡ level (k .tasks) t
-  -- "holders exist"
-  pub holders : (t : TaskSlot) (o : ObjSlot) → Holds (k .objects) t o → Exists (k .tasks) t
-  -- "no wake tick of a delayed or waiting task equals the tick count"
-  pub delay-ahead : (t : TaskSlot) (w : ℕ) → taskAt (k .tasks) t .place ≡ Delayed w → w ≡ k .tick → ⊥
-  pub wait-ahead : (t : TaskSlot) (o : ObjSlot) (w : ℕ) → taskAt (k .tasks) t .place ≡ Waiting o (At w) → w ≡ k .tick → ⊥
-  -- "counts and places obey the ranges"
-  pub delay-range : (t : TaskSlot) (w : ℕ) → taskAt (k .tasks) t .place ≡ Delayed w → w ≤ 4294967295
-  pub wait-range : (t : TaskSlot) (o : ObjSlot) (w : ℕ) → taskAt (k .tasks) t .place ≡ Waiting o (At w) → w ≤ 4294967295
-  pub priority-range : (t : TaskSlot) → level (k .tasks) t ≤ 31
-  pub queue-range : (o : ObjSlot) (q : Ring) → kindAt (k .objects) o ≡ Queue q → RingFits q
-  pub tick-range : k .tick ≤ 4294967295
-  pub hold-range : k .hold ≤ 255
-  pub pended-range : k .pended ≤ 65535
+  pub waits : (o : ObjSlot) (w : Wake) → x .place ≡ Waiting o w → MayWait t (kindAt os o)
   -- "an outcome is 0 to 3, and 0 if delayed or waiting"
-  pub outcome-range : (t : TaskSlot) → taskAt (k .tasks) t .outcome ≤ 3
-  pub delay-outcome : (t : TaskSlot) (w : ℕ) → taskAt (k .tasks) t .place ≡ Delayed w → taskAt (k .tasks) t .outcome ≡ 0
-  pub wait-outcome : (t : TaskSlot) (o : ObjSlot) (w : Wake) → taskAt (k .tasks) t .place ≡ Waiting o w → taskAt (k .tasks) t .outcome ≡ 0
-  -- "with hold 0 nothing is pended"
-  pub pends : k .hold ≡ 0 → k .pended ≡ 0
+  pub outcome-range : x .outcome ≤ 3
+  pub delay-outcome : (w : ℕ) → x .place ≡ Delayed w → x .outcome ≡ 0
+  pub wait-outcome : (o : ObjSlot) (w : Wake) → x .place ≡ Waiting o w → x .outcome ≡ 0
   -- "free slots carry the fresh values"
-  pub free : (t : TaskSlot) → taskAt (k .tasks) t .place ≡ Free → taskAt (k .tasks) t ≡ freeTask
+  pub free : x .place ≡ Free → x ≡ freeTask
+
+pub record Tables (ts : List Task) (os : List Object) : Type 0 where
+  -- "16 task slots, 0 to 15"; "16 object slots, 0 to 15"
+  pub task-slots : length ts ≡ 16
+  pub object-slots : length os ≡ 16
+  pub as-idle : AsIdle (taskAt ts idle)
+  pub tasks : (t : TaskSlot) → TaskFits os t (taskAt ts t)
+  -- "idle never waits or holds"; it is ready, so it does not wait
+  pub idle-holds : (o : ObjSlot) → Holds os idle o → ⊥
+  -- "holders exist"
+  pub holders : (t : TaskSlot) (o : ObjSlot) → Holds os t o → Exists ts t
+  -- "counts and places obey the ranges": those of the queues
+  pub queue-range : (o : ObjSlot) (q : Ring) → kindAt os o ≡ Queue q → RingFits q
+
+-- ── the priorities
+-- of the task t
+pub record LevelFits (os : List Object) (t : TaskSlot) (own effective : ℕ) : Type 0 where
+  -- "effective is at least own, and equal to it for a task that holds nothing"
+  pub at-least : own ≤ effective
+  pub equal : ((o : ObjSlot) → Holds os t o → ⊥) → own ≡ effective
+  -- "Priorities 0 to 31"
+  pub range : effective ≤ 31
+
+abbrev pub Levels : List Task → List Object → Type 0
+Levels ts os = (t : TaskSlot) → LevelFits os t (taskAt ts t .own) (level ts t)
+
+-- ── the listing: the order and the tasks
+pub record Listing (ts : List Task) (o : Order) : Type 0 where
+  -- "each ready task stands once in the line of its effective priority and nobody else stands in a line"
+  pub lines : (p : ℕ) (t : TaskSlot) → count (t .0) (line ts p (listed o)) ≡ (if inLine p (taskAt ts t) then 1 else 0)
+  -- "each object lists its waiters once, in order of arrival, and no one else"
+  pub lists : (b : ObjSlot) (t : TaskSlot) → count (t .0) (those ts (WaitersOf b) (listed o)) ≡ (if waitsOn b (taskAt ts t .place) then 1 else 0)
+  -- no sentence of document 01, but our kernel value's own: the one order, which carries the lines and the lists, has each ready, delayed and waiting task once and no one else,
+  -- in 16 places with zeros behind them
+  pub once : (t : TaskSlot) → count (t .0) (listed o) ≡ (if isListed (taskAt ts t .place) then 1 else 0)
+  pub places : length (o .places) ≡ 16
+  pub room : o .living ≤ 16
+  pub zeros : (i : ℕ) → o .living ≤ i → i < 16 → getD (o .places) i idle .0 ≡ 0
+
+-- ── the clock: tick, hold and pended, and the wake ticks
+-- of a task in the place p
+pub record WakeFits (tick : ℕ) (p : Place) : Type 0 where
+  -- "no wake tick of a delayed or waiting task equals the tick count"
+  pub delay-ahead : (w : ℕ) → p ≡ Delayed w → w ≡ tick → ⊥
+  pub wait-ahead : (o : ObjSlot) (w : ℕ) → p ≡ Waiting o (At w) → w ≡ tick → ⊥
+  -- "counts and places obey the ranges": those of the wake ticks
+  pub delay-range : (w : ℕ) → p ≡ Delayed w → w ≤ 4294967295
+  pub wait-range : (o : ObjSlot) (w : ℕ) → p ≡ Waiting o (At w) → w ≤ 4294967295
+
+pub record Counts (tick hold pended : ℕ) : Type 0 where
+  -- "Hold depth 0 to 255. Pended ticks 0 to 65,535. Tick count 0 to 4,294,967,295"
+  pub tick-range : tick ≤ 4294967295
+  pub hold-range : hold ≤ 255
+  pub pended-range : pended ≤ 65535
+  -- "with hold 0 nothing is pended"
+  pub pends : hold ≡ 0 → pended ≡ 0
+
+pub record Clock (ts : List Task) (tick hold pended : ℕ) : Type 0 where
+  pub wakes : (t : TaskSlot) → WakeFits tick (taskAt ts t .place)
+  pub counts : Counts tick hold pended
+
+-- ── who runs
+-- "the running task heads its line"
+pub record Runs (ts : List Task) (l : List TaskSlot) (r : TaskSlot) : Type 0 where
+  pub ready : taskAt ts r .place ≡ Ready
+  pub heads : head (line ts (level ts r) l) ≡ r ∷ []
+
+pub record Running (ts : List Task) (l : List TaskSlot) (r : TaskSlot) (hold : ℕ) : Type 0 where
+  pub runs : Runs ts l r
+  -- "and with hold 0 no higher line is occupied"
+  pub no-higher : hold ≡ 0 → (p : ℕ) → level ts r < p → line ts p l ≡ []
+
+-- ── every part
+pub record Sound (k : State) : Type 0 where
+  pub tables : Tables (k .tasks) (k .objects)
+  pub levels : Levels (k .tasks) (k .objects)
+  pub listing : Listing (k .tasks) (k .order)
+  pub clock : Clock (k .tasks) (k .tick) (k .hold) (k .pended)
+  pub running : Running (k .tasks) (listed (k .order)) (k .running) (k .hold)
 
 -- what a step leans on beside the refusals, all of which soundness gives: the tables have their slots, the caller has one, and each queue obeys the ranges
 pub record Steady (k : State) : Type 0 where

@@ -1,4 +1,5 @@
--- "A kernel value is sound when": a test for each sentence, in document 01's order. (Sentences.antt has the same as propositions.)
+-- "A kernel value is sound when": a test for each sentence, in five parts. Each part takes the fields that it speaks of, and has its sentences in document 01's order.
+-- (Sentences.antt has the same as propositions.)
 use Prim.Native.Nat.{ℕ}
 use mathlib.Core.Bool.{Bool, false, not, _&&_, _||_}
 use mathlib.Core.List.{List, [], _∷_}
@@ -12,13 +13,9 @@ use Rattle.slots.specs.Places.{isReady}
 use Rattle.slots.specs.Tasks.{inHigher, taskAt}
 use Rattle.slots.specs.Objects.{kindAt}
 use Rattle.slots.specs.Fine.{idleFine, standsFine, ordersFine, waitsFine, prioritiesFine, holderThere, notDue, ringInRange, outcomeFine, freshIfFree}
-use Rattle.rules.specs.Types.{TaskSlot, Task, Object, Kind, State}
+use Rattle.rules.specs.Types.{TaskSlot, Order, Task, Object, Kind, State}
 use Rattle.rules.specs.Tables.{holds}
 use Rattle.rules.specs.Lines.{line, level}
-
--- "16 task slots, 0 to 15"; "16 object slots, 0 to 15"; and 16 places of the order
-abbrev pub sixteen : List Task → List Object → List TaskSlot → Bool
-sixteen ts os l = eqb (length ts) 16 && (eqb (length os) 16 && eqb (length l) 16)
 
 -- the task and the object of a slot
 abbrev pub slotTask : List Task → ℕ → Task
@@ -27,6 +24,72 @@ slotTask ts n = taskAt ts (task n)
 abbrev pub slotKind : List Object → ℕ → Kind
 slotKind os n = kindAt os (object n)
 
+-- ── the tables: the tasks and the objects with each other
+-- "16 task slots, 0 to 15"; "16 object slots, 0 to 15"
+abbrev pub sixteen : List Task → List Object → Bool
+sixteen ts os = eqb (length ts) 16 && eqb (length os) 16
+
+-- "receivers wait only on an empty queue, senders only on a full one, takers only on a mutex held by another"
+abbrev pub waitersFine : List Task → List Object → Bool
+waitersFine ts os = allBelow 16 (λ n. waitsFine (task n) os (slotTask ts n .place))
+
+-- "holders exist"
+abbrev pub holdersThere : List Task → List Object → Bool
+holdersThere ts os = allBelow 16 (λ n. holderThere ts (slotKind os n))
+
+-- "counts and places obey the ranges": those of the queues
+abbrev pub ringsInRange : List Object → Bool
+ringsInRange os = allBelow 16 (λ n. ringInRange (slotKind os n))
+
+-- "an outcome is 0 to 3, and 0 if delayed or waiting"
+abbrev pub outcomesFine : List Task → Bool
+outcomesFine ts = allBelow 16 (λ n. outcomeFine (slotTask ts n))
+
+-- "free slots carry the fresh values"; that "a number that a state does not use is 0" is asked of a kernel value before it stands for a state, and of the order by tidy
+abbrev pub freshSlots : List Task → Bool
+freshSlots ts = allBelow 16 (λ n. freshIfFree (slotTask ts n))
+
+-- with "idle is as above" and "idle never waits or holds": it is ready, so it does not wait
+unfoldable pub tablesFine : List Task → List Object → Bool
+tablesFine ts os =
+    every (
+    sixteen ts os ∷ idleFine (slotTask ts 0) ∷ waitersFine ts os ∷ not (holds os idle) ∷ holdersThere ts os ∷ ringsInRange os
+    ∷ outcomesFine ts ∷ freshSlots ts ∷ [])
+
+-- ── the priorities: "effective is at least own, and equal to it for a task that holds nothing"; "Priorities 0 to 31"
+unfoldable pub levelsFine : List Task → List Object → Bool
+levelsFine ts os = allBelow 16 (λ n. prioritiesFine (holds os (task n)) (slotTask ts n))
+
+-- ── the listing: the order and the tasks
+-- "each ready task stands once in the line of its effective priority and nobody else stands in a line"; "each object lists its waiters once, in order of arrival, and no one else"
+abbrev pub eachStands : List Task → List TaskSlot → Bool
+eachStands ts l = allBelow 16 (λ n. standsFine (count n l) (slotTask ts n .place))
+
+-- no sentence of document 01, but our kernel value's own: the one order lists a delayed task once, and a suspended one or a free slot not at all
+abbrev pub noneElse : List Task → List TaskSlot → Bool
+noneElse ts l = allBelow 16 (λ n. ordersFine (count n l) (slotTask ts n .place))
+
+-- with 16 places of the order, and "counts and places obey the ranges": those of the order
+unfoldable pub listingFine : List Task → Order → Bool
+listingFine ts o = every (eqb (length (o .places)) 16 ∷ eachStands ts (listed o) ∷ tidy o ∷ noneElse ts (listed o) ∷ [])
+
+-- ── the clock: tick, hold and pended, and the wake ticks
+-- "no wake tick of a delayed or waiting task equals the tick count"
+abbrev pub nobodyDue : List Task → ℕ → Bool
+nobodyDue ts tick = allBelow 16 (λ n. notDue tick (slotTask ts n .place))
+
+-- "Hold depth 0 to 255. Pended ticks 0 to 65,535. Tick count 0 to 4,294,967,295"
+abbrev pub counted : ℕ → ℕ → ℕ → Bool
+counted tick hold pended = leb tick 4294967295 && (leb hold 255 && leb pended 65535)
+
+-- "with hold 0 nothing is pended"
+abbrev pub pendsFine : ℕ → ℕ → Bool
+pendsFine hold pended = ltb 0 hold || eqb pended 0
+
+unfoldable pub clockFine : List Task → ℕ → ℕ → ℕ → Bool
+clockFine ts tick hold pended = every (nobodyDue ts tick ∷ counted tick hold pended ∷ pendsFine hold pended ∷ [])
+
+-- ── who runs
 -- "the running task heads its line"
 abbrev pub heads : List TaskSlot → TaskSlot → Bool
 heads [] r = false
@@ -40,40 +103,13 @@ unfoldable pub runsFine : List Task → List TaskSlot → TaskSlot → ℕ → B
 runsFine ts l r hold =
     isReady (taskAt ts r .place) && (heads (line ts (level ts r) l) r && (ltb 0 hold || noHigher ts (level ts r) l))
 
--- "Hold depth 0 to 255. Pended ticks 0 to 65,535. Tick count 0 to 4,294,967,295"
-abbrev pub counted : ℕ → ℕ → ℕ → Bool
-counted tick hold pended = leb tick 4294967295 && (leb hold 255 && leb pended 65535)
-
+-- ── every part
 unfoldable pub sound : State → Bool
 sound k =
     every (
-    sixteen (k .tasks) (k .objects) (k .order .places)
-    -- "idle is as above"
-    ∷ idleFine (slotTask (k .tasks) 0)
-    -- "each ready task stands once in the line of its effective priority and nobody else stands in a line"; "each object lists its waiters once, in order of arrival, and no one else"
-    ∷ allBelow 16 (λ n. standsFine (count n (listed (k .order))) (slotTask (k .tasks) n .place))
-    -- "the running task heads its line, and with hold 0 no higher line is occupied"
+    tablesFine (k .tasks) (k .objects)
+    ∷ levelsFine (k .tasks) (k .objects)
+    ∷ listingFine (k .tasks) (k .order)
+    ∷ clockFine (k .tasks) (k .tick) (k .hold) (k .pended)
     ∷ runsFine (k .tasks) (listed (k .order)) (k .running) (k .hold)
-    -- "receivers wait only on an empty queue, senders only on a full one, takers only on a mutex held by another"
-    ∷ allBelow 16 (λ n. waitsFine (task n) (k .objects) (slotTask (k .tasks) n .place))
-    -- "idle never waits or holds": it is ready, so it does not wait
-    ∷ not (holds (k .objects) idle)
-    -- "effective is at least own, and equal to it for a task that holds nothing"
-    ∷ allBelow 16 (λ n. prioritiesFine (holds (k .objects) (task n)) (slotTask (k .tasks) n))
-    -- "holders exist"
-    ∷ allBelow 16 (λ n. holderThere (k .tasks) (slotKind (k .objects) n))
-    -- "no wake tick of a delayed or waiting task equals the tick count"
-    ∷ allBelow 16 (λ n. notDue (k .tick) (slotTask (k .tasks) n .place))
-    -- "counts and places obey the ranges"
-    ∷ tidy (k .order)
-    ∷ allBelow 16 (λ n. ringInRange (slotKind (k .objects) n))
-    ∷ counted (k .tick) (k .hold) (k .pended)
-    -- "an outcome is 0 to 3, and 0 if delayed or waiting"
-    ∷ allBelow 16 (λ n. outcomeFine (slotTask (k .tasks) n))
-    -- "with hold 0 nothing is pended"
-    ∷ (ltb 0 (k .hold) || eqb (k .pended) 0)
-    -- "free slots carry the fresh values"; that "a number that a state does not use is 0" is asked of a kernel value before it stands for a state, and of the order by tidy
-    ∷ allBelow 16 (λ n. freshIfFree (slotTask (k .tasks) n))
-    -- no sentence of document 01, but our kernel value's own: the one order lists a delayed task once, and a suspended one or a free slot not at all
-    ∷ allBelow 16 (λ n. ordersFine (count n (listed (k .order))) (slotTask (k .tasks) n .place))
     ∷ [])
