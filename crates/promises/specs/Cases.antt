@@ -1,6 +1,6 @@
 -- "Both sides of the gate": P1 to P12, each a start, some calls, and what is then answered and shown.
 use Prim.Native.Nat.{ℕ}
-use mathlib.Core.List.{List, [], _∷_, _++_}
+use mathlib.Core.List.{List, [], _∷_, _++_, map}
 use lib.ListN.{replicate}
 use Rattle.numbers.specs.Numbers.{task}
 use Rattle.calls.specs.Numbers.{taskOf, objectOf}
@@ -10,49 +10,45 @@ use Rattle.promises.specs.Types.{State, Call, Create, Delete, SetPriorit
 use Rattle.rules.specs.Tables.{fresh, withTick}
 use Rattle.rules.specs.Lines.{level}
 use Rattle.rules.specs.Step.{Stepped, step}
+use Rattle.rules.specs.Trace.{trace, lending}
 
--- what a call is answered, who runs afterwards, and what a case looks at in the kernel
-pub record Seen : Type 0 where
+-- what is seen after a call: what it is answered, who runs then, and what a case looks at
+pub record View : Type 0 where
   pub answer : Saying
   pub running : ℕ
   pub looked : List ℕ
 
-abbrev pub seen : Word → ℕ → ℕ → List ℕ → Seen
-seen w n r l = record { answer = says w n; running = r; looked = l }
+abbrev pub view : Word → ℕ → ℕ → List ℕ → View
+view w n r l = record { answer = says w n; running = r; looked = l }
 
-abbrev pub seenIn : (State → List ℕ) → Stepped → Seen
-seenIn look r = record { answer = r .answer; running = taskNo (r .kernel .running) .0; looked = look (r .kernel) }
+abbrev pub viewOf : (Stepped → List ℕ) → Stepped → View
+viewOf look d = record { answer = d .answer; running = taskNo (d .kernel .running) .0; looked = look d }
 
 pub record Case : Type 0 where
   pub start : State
-  pub look : State → List ℕ
+  pub look : Stepped → List ℕ
   pub calls : List Call
-  pub expected : List Seen
+  pub expected : List View
 
--- the calls one after the other, each with an empty item
-unfoldable pub run : State → (State → List ℕ) → List ℕ → List Call → List Seen
-run k look s [] = []
-run k look s (c ∷ cs) = let r = step k c [] s in seenIn look r ∷ run (r .kernel) look (r .store) cs
-
--- from a store of zeros
-abbrev pub ran : Case → List Seen
-ran c = run (c .start) (c .look) (replicate 9216 0) (c .calls)
+-- the calls one after the other, each with an empty item, from a store of zeros
+abbrev pub ran : Case → List View
+ran c = map (λ m. viewOf (c .look) (m .gave)) (trace (lending step []) (c .start) (replicate 9216 0) (c .calls))
 
 -- from the fresh kernel, with nothing looked at but the answers and who runs
-abbrev pub plain : List Call → List Seen → Case
-plain cs xs = record { start = fresh; look = λ k. []; calls = cs; expected = xs }
+abbrev pub plain : List Call → List View → Case
+plain cs xs = record { start = fresh; look = λ d. []; calls = cs; expected = xs }
 
-abbrev pub ok : ℕ → Seen
-ok r = seen done 0 r []
+abbrev pub ok : ℕ → View
+ok r = view done 0 r []
 
-abbrev pub ok-new : ℕ → ℕ → Seen
-ok-new n r = seen made n r []
+abbrev pub ok-new : ℕ → ℕ → View
+ok-new n r = view made n r []
 
-abbrev pub wait : ℕ → Seen
-wait r = seen waiting 0 r []
+abbrev pub wait : ℕ → View
+wait r = view waiting 0 r []
 
-abbrev pub refuses : ℕ → ℕ → Seen
-refuses n r = seen refused n r []
+abbrev pub refuses : ℕ → ℕ → View
+refuses n r = view refused n r []
 
 -- P1: the session of the section "The journal line"
 unfoldable pub p1 : Case
@@ -73,7 +69,7 @@ unfoldable pub p4 : Case
 p4 = plain (MakeQueue 64 9 ∷ []) (refuses 4 0 ∷ [])
 
 -- P5: "fifteen creates accepted, the next refused 9"
-abbrev pub fifteen : List Seen
+abbrev pub fifteen : List View
 fifteen =
     ok-new 1 1
     ∷ ok-new 2 1
@@ -99,9 +95,9 @@ p5 = plain (replicate 16 (Create 1)) (fifteen ++ (refuses 9 1 ∷ []))
 unfoldable pub p6 : Case
 p6 = record {
   start = withTick fresh 4294967295;
-  look = λ k. k .tick ∷ [];
+  look = λ d. d .kernel .tick ∷ [];
   calls = Create 3 ∷ Delay 1 ∷ Tick ∷ [];
-  expected = seen made 1 1 (4294967295 ∷ []) ∷ seen waiting 0 0 (4294967295 ∷ []) ∷ seen done 0 1 (0 ∷ []) ∷ [];
+  expected = view made 1 1 (4294967295 ∷ []) ∷ view waiting 0 0 (4294967295 ∷ []) ∷ view done 0 1 (0 ∷ []) ∷ [];
 }
 
 -- P7: "create 40 with no free slot: 4, not 9"
@@ -122,15 +118,15 @@ p9 = plain (replicate 256 Hold) (replicate 255 (ok 0) ++ (refuses 15 0 ∷ []))
 unfoldable pub p10 : Case
 p10 = record {
   start = fresh;
-  look = λ k. level (k .tasks) (task 1) ∷ [];
+  look = λ d. level (d .kernel .tasks) (task 1) ∷ [];
   calls = Create 5 ∷ MakeMutex ∷ Take (objectOf 0) 0 ∷ Create 4 ∷ SetPriority (taskOf 1) 2 ∷ Give (objectOf 0) ∷ [];
   expected =
-      seen made 1 1 (5 ∷ [])
-      ∷ seen made 0 1 (5 ∷ [])
-      ∷ seen done 0 1 (5 ∷ [])
-      ∷ seen made 2 1 (5 ∷ [])
-      ∷ seen done 0 1 (5 ∷ [])
-      ∷ seen done 0 2 (2 ∷ [])
+      view made 1 1 (5 ∷ [])
+      ∷ view made 0 1 (5 ∷ [])
+      ∷ view done 0 1 (5 ∷ [])
+      ∷ view made 2 1 (5 ∷ [])
+      ∷ view done 0 1 (5 ∷ [])
+      ∷ view done 0 2 (2 ∷ [])
       ∷ [];
 }
 
