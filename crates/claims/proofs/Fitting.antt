@@ -27,9 +27,9 @@ use Rattle.rules.specs.Refusals.{refusal}
 use Rattle.rules.specs.Effects.{effect}
 use Rattle.rules.specs.Step.{answered, accepted, turnedAway, step}
 use Rattle.rules.specs.Session.{Run, closed}
+use Rattle.rules.specs.Trace.{CallMade}
 use Rattle.kernel.specs.Stands.{kernelOf, shown, standing}
 use Rattle.kernel.specs.Promises.{Ran, Steps, ranOf, Answers, Closes, newSession}
-use Rattle.promises.specs.History.{Made as ACall}
 use Rattle.promises.specs.Turns.{Turn}
 use Rattle.promises.proofs.LineForLine.{closed-stays}
 use Rattle.claims.specs.Types.{TaskNo, Call, Answer, Asked, Read, Written, Count, NotWritten, State, Kernel, Step, Session, Served}
@@ -144,14 +144,14 @@ closes n s lent =
     closing = record { kernel = refl; cut = refl; taken = refl; written = refl; store = sym (closed-stays (length lent) (shown (n .kernel)) s (n .cut) .1); output = refl }
 
 -- ── calls one after the other, and turns
-called-there : (k : Kernel) (ms : List ACall) → Called k ms (foldl stepOf k ms)
+called-there : (k : Kernel) (ms : List CallMade) → Called k ms (foldl stepOf k ms)
 unfolding foldl
 called-there k [] = noCall
 called-there k (m ∷ ms) =
     let a = steps k (m .call) (m .item) (m .store) in
     call (a .fits) (subst (λ (x : Kernel). Called x ms (foldl stepOf (stepOf k m) ms)) (sym (a .fits .kernel)) (called-there (stepOf k m) ms))
 
-calls : (k : Kernel) (ms : List ACall) → OneFits (λ (j : Kernel). Called k ms j)
+calls : (k : Kernel) (ms : List CallMade) → OneFits (λ (j : Kernel). Called k ms j)
 calls k ms = record { it = foldl stepOf k ms; fits = called-there k ms; no-second = λ x f. called-is f }
 
 turned-there : (p : Port) (ts : List Turn) → Turned p ts (foldl turnOf p ts)

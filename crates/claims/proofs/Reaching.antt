@@ -12,14 +12,14 @@ use Rattle.cuts.specs.declared.Cut.{Cut}
 use Rattle.cuts.specs.Keeping.{kept}
 use Rattle.rules.specs.Tables.{fresh}
 use Rattle.rules.specs.Sound.{sound}
-use Rattle.rules.specs.Step.{step}
 use Rattle.rules.specs.Session.{readCut, lineStep, Run, answeredBy, fed, noRoom, run, begun, closed}
+use Rattle.rules.specs.Trace.{trace, stateAfter, CallMade, stepMade}
 use Rattle.rules.proofs.Every.{fresh-sound, step-kept}
 use Rattle.kernel.specs.Stands.{kernelOf, shown}
 use Rattle.kernel.specs.Promises.{Closes, newSession}
 use Rattle.kernel.proofs.Shown.{shown-of}
 use Rattle.kernel.proofs.Sessions.{line-keeps}
-use Rattle.promises.specs.History.{Made, after, reached, Placed}
+use Rattle.promises.specs.History.{reached, Placed}
 use Rattle.promises.specs.Program.{linesOf, Answered, program}
 use Rattle.promises.specs.ByLines.{ProgramAnswers}
 use Rattle.promises.specs.Turns.{Turn, Pause, afterTurn, afterTurns, cameIn, afterEnd, atStart, outcome as rulesOutcome}
@@ -41,17 +41,18 @@ sound-value : (s : State) → sound s ≡ true → (k : Kernel) → k ≡ kernel
 sound-value s e k h = test-says k (ap (λ (x : Kernel). sound (shown x)) h ∙ ap sound (shown-of s) ∙ e)
 
 -- ── calls
-step-reaches : (s : State) (m : Made) → sound s ≡ true → stepOf (kernelOf s) m ≡ kernelOf (step s (m .call) (m .item) (m .store) .kernel)
-step-reaches s m e = rw (shown-of s, e)
+step-reaches : (k : State) (s : List ℕ) (m : CallMade) → sound k ≡ true → stepOf (kernelOf k) m ≡ kernelOf (stepMade k s m .kernel)
+step-reaches k s m e = rw (shown-of k, e)
 
-steps-reach : (s : State) (ms : List Made) → sound s ≡ true → foldl stepOf (kernelOf s) ms ≡ kernelOf (after s ms)
-unfolding foldl after
-steps-reach s [] e = refl
-steps-reach s (m ∷ ms) e = ap (λ (x : Kernel). foldl stepOf x ms) (step-reaches s m e) ∙ steps-reach _ ms (step-kept s (m .call) (m .item) (m .store) e)
+steps-reach : (k : State) (s : List ℕ) (ms : List CallMade) → sound k ≡ true → foldl stepOf (kernelOf k) ms ≡ kernelOf (stateAfter k (trace stepMade k s ms))
+unfolding foldl trace
+steps-reach k s [] e = refl
+steps-reach k s (m ∷ ms) e =
+    ap (λ (x : Kernel). foldl stepOf x ms) (step-reaches k s m e) ∙ steps-reach _ _ ms (step-kept k (m .call) (m .item) (m .store) e)
 
-module _ (ms : List Made) (k : Kernel) (f : Called (kernelOf fresh) ms k) where
+module _ (ms : List CallMade) (k : Kernel) (f : Called (kernelOf fresh) ms k) where
   pub calls-reach : k ≡ kernelOf (reached ms)
-  calls-reach = called-is f ∙ steps-reach fresh ms fresh-sound
+  calls-reach = called-is f ∙ steps-reach fresh [] ms fresh-sound
 
   shows-reached : shown k ≡ reached ms
   shows-reached = ap shown calls-reach ∙ shown-of (reached ms)

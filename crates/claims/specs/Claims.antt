@@ -10,6 +10,7 @@ use Rattle.journal.specs.Told.{aCall, refusal}
 use Rattle.journal.specs.Promise.{Tells, ReadsAs, WritesCall, WritesAnswer}
 use Rattle.rules.specs.Tables.{fresh}
 use Rattle.rules.specs.Sound.{sound}
+use Rattle.rules.specs.Trace.{CallMade}
 use Rattle.kernel.specs.Stands.{kernelOf, shown}
 use Rattle.kernel.specs.Promises.{Steps, Answers, Closes, newSession}
 use Rattle.kernel.proofs.Kernel.fresh.Statement as fresh-code
@@ -22,7 +23,7 @@ use Rattle.journal.proofs.read_call.Statement as reader-code
 use Rattle.journal.proofs.write_call.Statement as writer-code
 use Rattle.journal.proofs.write_answer.Statement as teller-code
 use Rattle.promises.specs.TurnedAway.{rows, None, Decided}
-use Rattle.promises.specs.History.{Made, reached, Placed}
+use Rattle.promises.specs.History.{reached, Placed}
 use Rattle.promises.specs.Cases.{Case, ran, cases}
 use Rattle.promises.specs.Program.{linesOf, answering}
 use Rattle.promises.specs.ByLines.{ProgramAnswers}
@@ -74,7 +75,7 @@ pub record Total : Type 0 where
   pub serves : (n : Session) (block store lent : List ℕ) → OneFits (λ (x : Served × List ℕ × List ℕ). Answers n block store lent (x .0) (x .1) (x .2))
   pub closes : (n : Session) (store lent : List ℕ) → OneFits (λ (x : Served × List ℕ). Closes n store lent (x .0) (x .1))
   -- so too calls one after the other, and turns
-  pub calls : (k : Kernel) (ms : List Made) → OneFits (λ (j : Kernel). Called k ms j)
+  pub calls : (k : Kernel) (ms : List CallMade) → OneFits (λ (j : Kernel). Called k ms j)
   pub turns : (p : Port) (ts : List Turn) → OneFits (λ (q : Port). Turned p ts q)
 
 -- "A refusal carries its number, is given exactly where document 01 says, and leaves the kernel and every lent byte as they were."
@@ -107,10 +108,10 @@ pub record Journalled : Type 0 where
 -- outranks the running one; borrowed priority is what the rule says." So it is after any calls, after every line of every journal, and at any time of a session, however its input is cut.
 pub record Kept : Type 0 where
   -- the code is where the rules are, and sound
-  pub calls-reach : (ms : List Made) (k : Kernel) → Called (kernelOf fresh) ms k → k ≡ kernelOf (reached ms)
-  pub sound : (ms : List Made) (k : Kernel) → Called (kernelOf fresh) ms k → SoundValue k
-  pub placed : (ms : List Made) (k : Kernel) → Called (kernelOf fresh) ms k → Placed (shown k)
-  pub borrowed : (ms : List Made) (k : Kernel) → Called (kernelOf fresh) ms k → (t : TaskSlot) → PaysBack ms (shown k) t
+  pub calls-reach : (ms : List CallMade) (k : Kernel) → Called (kernelOf fresh) ms k → k ≡ kernelOf (reached ms)
+  pub sound : (ms : List CallMade) (k : Kernel) → Called (kernelOf fresh) ms k → SoundValue k
+  pub placed : (ms : List CallMade) (k : Kernel) → Called (kernelOf fresh) ms k → Placed (shown k)
+  pub borrowed : (ms : List CallMade) (k : Kernel) → Called (kernelOf fresh) ms k → (t : TaskSlot) → PaysBack ms (shown k) t
   pub lines-placed : (ls : List (List ℕ)) → Placed (answering fresh (replicate 9216 0) ls .kernel)
   pub lines-borrowed : (ls : List (List ℕ)) (t : TaskSlot) → PaysBack (programCalls ls) (answering fresh (replicate 9216 0) ls .kernel) t
   pub session-so-far : (ts : List Turn) (p : Port) → Turned opened ts p → CameTo ts p

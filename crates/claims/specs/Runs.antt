@@ -3,17 +3,17 @@ use Prim.Native.Nat.{ℕ}
 use mathlib.Core.Path.{_≡_}
 use mathlib.Core.List.{List, [], _∷_, _++_}
 use lib.ListN.{length, take, drop, replicate}
+use Rattle.rules.specs.Trace.{CallMade}
 use Rattle.kernel.specs.Stands.{kernelOf, shown}
 use Rattle.kernel.specs.Promises.{Steps, Answers, newSession}
-use Rattle.promises.specs.History.{Made}
 use Rattle.promises.specs.Program.{Answered, program}
 use Rattle.promises.specs.Turns.{Turn, cameIn}
 use Rattle.claims.specs.Types.{Kernel, Step, Session, Served}
 
 -- `Kernel::step`, from k on, of each call in turn: from the kernel value that the last one left, with any item and any store; the last one left j
-pub data Called : Kernel → List Made → Kernel → Type 0 where
+pub data Called : Kernel → List CallMade → Kernel → Type 0 where
   noCall : {k : Kernel} → Called k [] k
-  call : {k j : Kernel} {m : Made} {ms : List Made} {r : Step} {after : List ℕ}
+  call : {k j : Kernel} {m : CallMade} {ms : List CallMade} {r : Step} {after : List ℕ}
       → Steps k (m .call) (m .item) (m .store) r after → Called (r .kernel) ms j → Called k (m ∷ ms) j
 
 -- what a port has in hand between two turns: the session, the store, what came and was not taken yet, and all that was answered so far

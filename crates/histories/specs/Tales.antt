@@ -1,37 +1,38 @@
 -- Histories of a task's effective priority: calls, and what the task has after each of them.
 use Prim.Native.Nat.{ℕ}
-use mathlib.Core.List.{List, [], _∷_}
+use mathlib.Core.List.{List, [], _∷_, map}
 use lib.ListN.{replicate}
 use Rattle.lists.specs.Choice.{if_then_else_}
 use Rattle.numbers.specs.Numbers.{task}
 use Rattle.calls.specs.Numbers.{taskOf, objectOf}
 use Rattle.rules.specs.Tables.{fresh}
 use Rattle.rules.specs.Lines.{level}
-use Rattle.promises.specs.History.{Made}
+use Rattle.rules.specs.Trace.{Moment, trace, CallMade, stepMade}
 use Rattle.histories.specs.Types.{TaskSlot, State, Call, Create, Delete, SetPriority, Delay, MakeMutex, Take, Give, Tick}
-use Rattle.histories.specs.Moments.{Moment, momentOf, exists}
+use Rattle.histories.specs.Moments.{exists}
 use Rattle.histories.specs.Borrowed.{due}
 
 -- what the kernel says and what its history says, after a call; nothing where the task does not exist
-abbrev pub shownIn : TaskSlot → State → List Moment → List ℕ
+abbrev pub shownIn : TaskSlot → State → List (Moment CallMade) → List ℕ
 shownIn t k past = if exists k t then level (k .tasks) t ∷ due k past t ∷ [] else []
 
--- every call with an empty item and a store of zeros
-abbrev pub plain : Call → Made
-plain c = record { call = c; item = []; store = replicate 9216 0 }
+-- moment after moment, each with its past
+unfoldable pub shownAfter : TaskSlot → List (Moment CallMade) → List (Moment CallMade) → List (List ℕ)
+shownAfter t past [] = []
+shownAfter t past (m ∷ ms) = shownIn t (m .gave .kernel) (m ∷ past) ∷ shownAfter t (m ∷ past) ms
 
-unfoldable pub shownFrom : TaskSlot → State → List Moment → List Call → List (List ℕ)
-shownFrom t k past [] = []
-shownFrom t k past (c ∷ cs) =
-    let n = momentOf k (plain c) in shownIn t (n .after) (n ∷ past) ∷ shownFrom t (n .after) (n ∷ past) cs
+-- a call with an empty item and a store of zeros
+abbrev pub bare : Call → CallMade
+bare c = record { call = c; item = []; store = replicate 9216 0 }
 
 pub record Tale : Type 0 where
   pub task : TaskSlot
   pub calls : List Call
   pub expected : List (List ℕ)
 
-abbrev pub shown : Tale → List (List ℕ)
-shown w = shownFrom (w .task) fresh [] (w .calls)
+-- from the fresh kernel
+abbrev pub shownBy : Tale → List (List ℕ)
+shownBy w = shownAfter (w .task) [] (trace stepMade fresh [] (map bare (w .calls)))
 
 -- kernel and history agree; there is no such task
 abbrev pub both : ℕ → List ℕ
@@ -64,7 +65,7 @@ timeRunsOut = record {
   expected = both 3 ∷ both 3 ∷ both 3 ∷ both 3 ∷ both 5 ∷ both 5 ∷ both 5 ∷ both 3 ∷ [];
 }
 
--- task 2 is handed the mutex, and with it the waiter 3, which is then set to 9; task 4 begins to wait later
+-- task 2 is handed the mutex, and with it the waiter 3, which is then set to 9; task 4 beginsToWait to wait later
 unfoldable pub handedWithWaiter : Tale
 handedWithWaiter = record {
   task = task 2;
@@ -86,7 +87,7 @@ handedWithWaiter = record {
   expected = gone ∷ gone ∷ gone ∷ both 6 ∷ both 6 ∷ both 6 ∷ both 6 ∷ both 6 ∷ both 6 ∷ both 6 ∷ both 6 ∷ both 8 ∷ both 6 ∷ [];
 }
 
--- task 2, of priority 4, has a loan of 7 when it begins to wait for task 1
+-- task 2, of priority 4, has a loan of 7 when it beginsToWait to wait for task 1
 unfoldable pub lendsBorrowed : Tale
 lendsBorrowed = record {
   task = task 1;

@@ -20,16 +20,16 @@ use Rattle.rules.specs.Lines.{level}
 use Rattle.rules.specs.Sound.{sound}
 use Rattle.rules.specs.Sentences.{Sound}
 use Rattle.rules.proofs.Says.{sound-says}
+use Rattle.rules.specs.Trace.{CallMade, stepMade}
+use Rattle.rules.proofs.Traces.{run-keeps}
 use Rattle.rules.proofs.Every.{fresh-sound, step-kept}
-use Rattle.promises.specs.History.{Made, after, reached, states, Placed, overlisted}
+use Rattle.promises.specs.History.{after, reached, states, Placed, overlisted}
 
 -- soundness all the way
-pub after-sound : (k : State) (ms : List Made) → sound k ≡ true → sound (after k ms) ≡ true
-unfolding after
-after-sound k [] e = e
-after-sound k (m ∷ ms) e = after-sound _ ms (step-kept k (m .call) (m .item) (m .store) e)
+pub after-sound : (k : State) (ms : List CallMade) → sound k ≡ true → sound (after k ms) ≡ true
+after-sound k ms = run-keeps stepMade (λ j. sound j ≡ true) (λ j s m. step-kept j (m .call) (m .item) (m .store)) k [] ms
 
-pub reached-sound : (ms : List Made) → sound (reached ms) ≡ true
+pub reached-sound : (ms : List CallMade) → sound (reached ms) ≡ true
 reached-sound ms = after-sound fresh ms fresh-sound
 
 -- a task that exists has a place
@@ -73,5 +73,5 @@ unfolding overlisted ordered count taskAt
 overlisted-not-placed P = omega (arith, P .order (task 1))
 
 -- the first two sentences of the demand, after each history
-pub after-any-calls : (ms : List Made) → Placed (reached ms)
+pub after-any-calls : (ms : List CallMade) → Placed (reached ms)
 after-any-calls ms = placed (reached ms) (sound-says (reached ms) (reached-sound ms))
