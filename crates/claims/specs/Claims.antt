@@ -10,12 +10,14 @@ use Rattle.journal.specs.Told.{aCall, refusal}
 use Rattle.journal.specs.Promise.{Tells, ReadsAs, WritesCall, WritesAnswer}
 use Rattle.rules.specs.Tables.{fresh}
 use Rattle.rules.specs.Sound.{sound}
+use Rattle.rules.specs.Step.{Stepped}
 use Rattle.rules.specs.Trace.{CallMade}
 use Rattle.kernel.specs.Stands.{kernelOf, shown}
-use Rattle.kernel.specs.Promises.{Steps, Answers, Closes, newSession}
+use Rattle.kernel.specs.Promises.{Is, Steps, ReadsAndSteps, Answers, Closes, newSession}
 use Rattle.kernel.proofs.Kernel.fresh.Statement as fresh-code
 use Rattle.kernel.proofs.Kernel.sound.Statement as sound-code
 use Rattle.kernel.proofs.Kernel.step.Statement as step-code
+use Rattle.kernel.proofs.Kernel.step_line.Statement as line-code
 use Rattle.kernel.proofs.Session.fresh.Statement as session-code
 use Rattle.kernel.proofs.Session.answer.Statement as answer-code
 use Rattle.kernel.proofs.Session.end.Statement as end-code
@@ -26,7 +28,7 @@ use Rattle.promises.specs.TurnedAway.{rows, None, Decided}
 use Rattle.promises.specs.History.{reached, Placed}
 use Rattle.promises.specs.Cases.{Case, ran, cases}
 use Rattle.promises.specs.Program.{linesOf, answering}
-use Rattle.promises.specs.ByLines.{ProgramAnswers}
+use Rattle.promises.specs.ByLines.{LineSteps, ProgramAnswers}
 use Rattle.promises.specs.Turns.{Turn, cameIn}
 use Rattle.promises.specs.Reached.{programCalls}
 use Rattle.histories.specs.Borrowed.{PaysBack}
@@ -46,6 +48,7 @@ pub record Code : Type 2 where
   pub fresh-kernel : {M : Type 1} → fresh-code.statement M
   pub sound : {M : Type 1} → sound-code.statement M
   pub step : {M : Type 1} → step-code.statement M
+  pub step-line : {M : Type 1} → line-code.statement M
   pub fresh-session : {M : Type 1} → session-code.statement M
   pub answer : {M : Type 1} → answer-code.statement M
   pub end : {M : Type 1} → end-code.statement M
@@ -67,6 +70,7 @@ pub record Total : Type 0 where
   -- of each value that code holds: the promise itself says that it stands
   pub tests : (k : Kernel) → Stands k → OneFits (λ (x : Bool). (x ≡ sound (shown k)) × (x ≡ true → k ≡ kernelOf (shown k)))
   pub steps : (k : Kernel) (c : Call) (item store : List ℕ) → OneFits (λ (x : Step × List ℕ). Steps k c item store (x .0) (x .1))
+  pub steps-line : (k : Kernel) (line store : List ℕ) → OneFits (λ (x : Step × List ℕ). ReadsAndSteps k line store (x .0) (x .1))
   pub reads : (line : List ℕ) → OneFits (λ (x : Read). ReadsAs line x)
   -- of each call that code holds: `has-line` below
   pub writes : (c : Call) (item line : List ℕ) → (length item ≤ 64 → HasLine c item) → OneFits (λ (x : Written × List ℕ). WritesCall c item line (x .0) (x .1))
@@ -86,9 +90,11 @@ pub record Refused : Type 0 where
   -- of any value that is not sound, a number that is not used and not 0 among its faults
   pub unsound : (k : Kernel) → (SoundValue k → ⊥) → (c : Call) (item store : List ℕ) (r : Step) (after : List ℕ) → Steps k c item store r after → Refusal k store 1 r after
 
--- 2. "Each call does what the rules say": one that no row turns away; a journal's lines, one after the other, in any blocks; and P1 to P12.
+-- 2. "Each call does what the rules say": one that no row turns away; a line, whatever its bytes; a journal's lines, one after the other, in any blocks; and P1 to P12.
 pub record Ruled : Type 0 where
   pub calls : (k : Kernel) (c : Call) (item store : List ℕ) (r : Step) (after : List ℕ) → Steps k c item store r after → None (rowsOf k c item store) → Accepted k c item store r after
+  pub line : (k : Kernel) (line store : List ℕ) (r : Step) (after : List ℕ) → ReadsAndSteps k line store r after
+      → (d : Stepped) → LineSteps (shown k) store line d → Is k d r after
   pub journal : (ts : List Turn) (p : Port) → Turned opened ts p → p .waits ≡ [] → (lent : List ℕ) → 256 ≤ length lent
       → (r : Served) (o : List ℕ) → Closes (p .session) (p .store) lent r o → ProgramAnswers (cameIn ts) (outcome (servedTo p [] r (p .store) o))
   pub gate : map ran cases ≡ map (λ (c : Case). c .expected) cases

@@ -65,7 +65,7 @@ timeRunsOut = record {
   expected = both 3 ∷ both 3 ∷ both 3 ∷ both 3 ∷ both 5 ∷ both 5 ∷ both 5 ∷ both 3 ∷ [];
 }
 
--- task 2 is handed the mutex, and with it the waiter 3, which is then set to 9; task 4 beginsToWait to wait later
+-- task 2 is handed the mutex, and with it the waiter 3, which is then set to 9; task 4 begins to wait later
 unfoldable pub handedWithWaiter : Tale
 handedWithWaiter = record {
   task = task 2;
@@ -87,7 +87,7 @@ handedWithWaiter = record {
   expected = gone ∷ gone ∷ gone ∷ both 6 ∷ both 6 ∷ both 6 ∷ both 6 ∷ both 6 ∷ both 6 ∷ both 6 ∷ both 6 ∷ both 8 ∷ both 6 ∷ [];
 }
 
--- task 2, of priority 4, has a loan of 7 when it beginsToWait to wait for task 1
+-- task 2, of priority 4, has a loan of 7 when it begins to wait for task 1
 unfoldable pub lendsBorrowed : Tale
 lendsBorrowed = record {
   task = task 1;
