@@ -39,7 +39,7 @@ use Rattle.claims.specs.Values.{Stands}
 use Rattle.claims.specs.Runs.{Called, noCall, call, Port, Turned, noTurn, turn}
 use Rattle.claims.specs.Claims.{OneFits, Total}
 use Rattle.claims.proofs.Unique.{no-second-step, no-second-line-step, no-second-block, no-second-end}
-use Rattle.claims.proofs.Runs.{stepOf, called-is, turnOf, one-turn, turned-is}
+use Rattle.claims.proofs.Runs.{valueAfter, called-is, turnOf, one-turn, turned-is}
 
 -- ── a kernel value: the fresh one, and whether one is sound
 begins : OneFits (λ (x : Kernel). x ≡ kernelOf fresh)
@@ -162,15 +162,15 @@ closes n s lent =
     closing = record { kernel = refl; cut = refl; taken = refl; written = refl; store = sym (closed-stays (length lent) (shown (n .kernel)) s (n .cut) .1); output = refl }
 
 -- ── calls one after the other, and turns
-called-there : (k : Kernel) (ms : List CallMade) → Called k ms (foldl stepOf k ms)
+called-there : (k : Kernel) (ms : List CallMade) → Called k ms (foldl valueAfter k ms)
 unfolding foldl
 called-there k [] = noCall
 called-there k (m ∷ ms) =
     let a = steps k (m .call) (m .item) (m .store) in
-    call (a .fits) (subst (λ (x : Kernel). Called x ms (foldl stepOf (stepOf k m) ms)) (sym (a .fits .kernel)) (called-there (stepOf k m) ms))
+    call (a .fits) (subst (λ (x : Kernel). Called x ms (foldl valueAfter (valueAfter k m) ms)) (sym (a .fits .kernel)) (called-there (valueAfter k m) ms))
 
 calls : (k : Kernel) (ms : List CallMade) → OneFits (λ (j : Kernel). Called k ms j)
-calls k ms = record { it = foldl stepOf k ms; fits = called-there k ms; no-second = λ x f. called-is f }
+calls k ms = record { it = foldl valueAfter k ms; fits = called-there k ms; no-second = λ x f. called-is f }
 
 turned-there : (p : Port) (ts : List Turn) → Turned p ts (foldl turnOf p ts)
 unfolding foldl

@@ -35,7 +35,7 @@ use Rattle.histories.specs.Borrowed.{PaysBack}
 use Rattle.claims.specs.Types.{TaskSlot, TaskNo, Call, Answer, Asked, Read, Says, Written, Count, State, Kernel, Step, Session, Served}
 use Rattle.claims.specs.Values.{SoundValue, Full, Stands}
 use Rattle.claims.specs.Exact.{Refusal, Accepted, rowsOf, Exactly}
-use Rattle.claims.specs.Runs.{Called, Port, servedTo, Turned, opened, outcome, CameTo}
+use Rattle.claims.specs.Runs.{Called, Port, servedTo, Turned, freshPort, portOutcome, CameTo}
 
 -- one value fits, and no second
 pub record OneFits {A : Type 0} (P : A → Type 0) : Type 0 where
@@ -95,8 +95,8 @@ pub record Ruled : Type 0 where
   pub calls : (k : Kernel) (c : Call) (item store : List ℕ) (r : Step) (after : List ℕ) → Steps k c item store r after → None (rowsOf k c item store) → Accepted k c item store r after
   pub line : (k : Kernel) (line store : List ℕ) (r : Step) (after : List ℕ) → ReadsAndSteps k line store r after
       → (d : Stepped) → LineSteps (shown k) store line d → Is k d r after
-  pub journal : (ts : List Turn) (p : Port) → Turned opened ts p → p .waits ≡ [] → (lent : List ℕ) → 256 ≤ length lent
-      → (r : Served) (o : List ℕ) → Closes (p .session) (p .store) lent r o → ProgramAnswers (cameIn ts) (outcome (servedTo p [] r (p .store) o))
+  pub journal : (ts : List Turn) (p : Port) → Turned freshPort ts p → p .waits ≡ [] → (lent : List ℕ) → 256 ≤ length lent
+      → (r : Served) (o : List ℕ) → Closes (p .session) (p .store) lent r o → ProgramAnswers (cameIn ts) (portOutcome (servedTo p [] r (p .store) o))
   pub gate : map ran cases ≡ map (λ (c : Case). c .expected) cases
 
 -- "Each call whose item is at most 64 bytes has one journal line; reading it gives back the call, and any other line is refused." Of each call that code holds: its writer
@@ -120,10 +120,10 @@ pub record Kept : Type 0 where
   pub borrowed : (ms : List CallMade) (k : Kernel) → Called (kernelOf fresh) ms k → (t : TaskSlot) → PaysBack ms (shown k) t
   pub lines-placed : (ls : List (List ℕ)) → Placed (answering fresh (replicate 9216 0) ls .kernel)
   pub lines-borrowed : (ls : List (List ℕ)) (t : TaskSlot) → PaysBack (programCalls ls) (answering fresh (replicate 9216 0) ls .kernel) t
-  pub session-so-far : (ts : List Turn) (p : Port) → Turned opened ts p → CameTo ts p
-  pub session-sound : (ts : List Turn) (p : Port) → Turned opened ts p → SoundValue (p .session .kernel)
-  pub session-placed : (ts : List Turn) (p : Port) → Turned opened ts p → Placed (shown (p .session .kernel))
-  pub session-borrowed : (ts : List Turn) (p : Port) (f : Turned opened ts p) (t : TaskSlot) → PaysBack (programCalls (linesOf (session-so-far ts p f .taken))) (shown (p .session .kernel)) t
+  pub session-so-far : (ts : List Turn) (p : Port) → Turned freshPort ts p → CameTo ts p
+  pub session-sound : (ts : List Turn) (p : Port) → Turned freshPort ts p → SoundValue (p .session .kernel)
+  pub session-placed : (ts : List Turn) (p : Port) → Turned freshPort ts p → Placed (shown (p .session .kernel))
+  pub session-borrowed : (ts : List Turn) (p : Port) (f : Turned freshPort ts p) (t : TaskSlot) → PaysBack (programCalls (linesOf (session-so-far ts p f .taken))) (shown (p .session .kernel)) t
 
 pub record Claims : Type 2 where
   pub code : Code

@@ -35,12 +35,12 @@ pub data Turned : Port → List Turn → Port → Type 0 where
       → Turned (servedTo p (drop (r .taken) (p .waits ++ t .came)) r after o) ts q → Turned p (t ∷ ts) q
 
 -- "The program starts from the fresh kernel and a store of zeros."
-abbrev pub opened : Port
-opened = record { session = newSession; store = replicate 9216 0; waits = []; answers = [] }
+abbrev pub freshPort : Port
+freshPort = record { session = newSession; store = replicate 9216 0; waits = []; answers = [] }
 
 -- what has come of a session, in the words of the rules
-abbrev pub outcome : Port → Answered
-outcome p = record { kernel = shown (p .session .kernel); store = p .store; answers = p .answers }
+abbrev pub portOutcome : Port → Answered
+portOutcome p = record { kernel = shown (p .session .kernel); store = p .store; answers = p .answers }
 
 -- how far the session has come after some turns: what was taken, with what waits, is what came, and kernel and store are the program's on what was taken
 pub record CameTo (ts : List Turn) (p : Port) : Type 0 where

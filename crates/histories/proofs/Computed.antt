@@ -9,7 +9,8 @@ use Rattle.rules.specs.Effects.{created, deleted, suspended, resumed, yielded, 
 use Rattle.rules.specs.Items.{itemAt, outlet, sent, storeSent, received, storeReceived}
 use Rattle.rules.specs.Lines.{line, those, highest, leader, first, chosen, toTail, toHead, leaves}
 use Rattle.rules.specs.Loans.{moved, movedIf, prioritized, newPriority, lent, ownAgain}
-use Rattle.rules.specs.Refusals.{outOfRange, namesNone, wrongSize, notForIdle, notWithHold, noSlot, heldOrWaited, inUse, notHis, hisAlready, notSuspended, mustWait, noDepth, noTick, table, laterRow, refusal}
+use Rattle.rules.specs.Refusals.{outOfRange, namesNone, wrongSize, notForIdle, notWithHold, noSlot, heldOrWaited, inUse, notHis, hisAlready, notSuspended, mustWait, noDepth}
+use Rattle.rules.specs.Refusals.{noTick, table, laterRow, refusal}
 use Rattle.rules.specs.Sound.{noHigher, runsFine, sound}
 use Rattle.rules.specs.Step.{stored, answered, accepted, step}
 use Rattle.rules.specs.Trace.{trace}
@@ -40,7 +41,13 @@ pub record TalesFit : Type 0 where
   pub another-task : shownBy slotUsedAgain ≡ slotUsedAgain .expected
 
 pub tales-fit : TalesFit
-unfolding trace shownAfter twoGives setWithLoan timeRunsOut handedWithWaiter lendsBorrowed refusedChange slotUsedAgain tasksBelow largest givenAt lastGiven lentAt counted due every allBelow foldl upTo index any kept asked ordered without count tidy putAt created deleted suspended resumed yielded delayed queueMade mutexMade removed taken handedOn given effect itemAt outlet sent storeSent received storeReceived line those highest leader first chosen toTail toHead leaves moved movedIf prioritized newPriority lent ownAgain outOfRange namesNone wrongSize notForIdle notWithHold noSlot heldOrWaited inUse notHis hisAlready notSuspended mustWait noDepth noTick table laterRow refusal noHigher runsFine sound stored answered accepted step fresh taskAt kindAt holds freeSlot freeObject wokenIfDue wakes byNumber oneTick turned ticked ticks released held readied blocked waitFor
+unfolding trace shownAfter twoGives setWithLoan timeRunsOut handedWithWaiter lendsBorrowed refusedChange slotUsedAgain tasksBelow largest givenAt
+    lastGiven lentAt counted due every allBelow foldl upTo index any kept asked ordered without count tidy putAt created deleted suspended
+    resumed yielded delayed queueMade mutexMade removed taken handedOn given effect itemAt outlet sent storeSent received storeReceived line
+    those highest leader first chosen toTail toHead leaves moved movedIf prioritized newPriority lent ownAgain outOfRange namesNone wrongSize
+    notForIdle notWithHold noSlot heldOrWaited inUse notHis hisAlready notSuspended mustWait noDepth noTick table laterRow refusal noHigher
+    runsFine sound stored answered accepted step fresh taskAt kindAt holds freeSlot freeObject wokenIfDue wakes byNumber oneTick turned ticked
+    ticks released held readied blocked waitFor
 tales-fit = record {
   kept-over-first-give = refl;
   set-below-loan = refl;

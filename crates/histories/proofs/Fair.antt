@@ -23,7 +23,8 @@ pub record Fair (m : Moment CallMade) (t : TaskSlot) : Type 0 where
   -- who is given none was there before
   pub there : isFree (taskAt (m .gave .kernel .tasks) t .place) ≡ false → givenAt t m ≡ [] → isFree (taskAt (m .before .tasks) t .place) ≡ false
   -- with a mutex before and after: the largest of those given, those lent and the effective one before
-  pub kept : hasMutex (m .gave .kernel) t ≡ true → hasMutex (m .before) t ≡ true → level (m .gave .kernel .tasks) t ≡ larger (largest (givenAt t m)) (larger (largest (lentAt t m)) (level (m .before .tasks) t))
+  pub kept : hasMutex (m .gave .kernel) t ≡ true → hasMutex (m .before) t ≡ true
+      → level (m .gave .kernel .tasks) t ≡ larger (largest (givenAt t m)) (larger (largest (lentAt t m)) (level (m .before .tasks) t))
   -- with none before: the effective one before
   pub first : hasMutex (m .gave .kernel) t ≡ true → hasMutex (m .before) t ≡ false → level (m .gave .kernel .tasks) t ≡ level (m .before .tasks) t
 

@@ -46,7 +46,8 @@ owns-kept k t eff v =
     ∙ each (k .tasks) t (ranked (taskAt (k .tasks) t) (taskAt (k .tasks) t .own) eff) (λ v y. y .own ≡ taskAt (k .tasks) v .own) refl (λ v. refl) v
 
 -- who waits on a mutex of t, and did not before, lends
-lends-on : (t : TaskSlot) (m : Moment CallMade) (u : TaskSlot) (o : ObjSlot) (w : Wake) → taskAt (m .gave .kernel .tasks) u .place ≡ Waiting o w → waitsIn (m .before) u o ≡ false → Holds (m .gave .kernel .objects) t o → lends t m u ≡ true
+lends-on : (t : TaskSlot) (m : Moment CallMade) (u : TaskSlot) (o : ObjSlot) (w : Wake)
+    → taskAt (m .gave .kernel .tasks) u .place ≡ Waiting o w → waitsIn (m .before) u o ≡ false → Holds (m .gave .kernel .objects) t o → lends t m u ≡ true
 lends-on t m u o w e b h = rw (e, eq-eqb (o .0) (o .0) refl, b, h, eq-eqb (t .0) (t .0) refl)
 
 module _ (k : State) (S : Sound k) (n : ℕ) (a : Saying) where
@@ -127,7 +128,8 @@ module _ (k : State) (S : Sound k) (n : ℕ) (a : Saying) where
         go : (b : Bool) → sameTask v r ≡ b → v ≡ r
         go true q = one-number v r (eqb-true (v .0) (r .0) q)
         go false q =
-            let same : taskAt (waitFor j o w .tasks) v .place ≡ taskAt (k .tasks) v .place = ap (λ (x : Task). x .place) (other-now v (eqb-false (v .0) (r .0) q)) ∙ places-kept k h (taskAt (k .tasks) h .own) eff v in
+            let same : taskAt (waitFor j o w .tasks) v .place ≡ taskAt (k .tasks) v .place =
+            ap (λ (x : Task). x .place) (other-now v (eqb-false (v .0) (r .0) q)) ∙ places-kept k h (taskAt (k .tasks) h .own) eff v in
             absurd (false≢true (sym (l .not-before) ∙ sym (ap (waitsOn (on wait v)) same) ∙ l .now))
 
     lent-one : largest (lentAt h wait) ≡ level (k .tasks) r
@@ -141,7 +143,12 @@ module _ (k : State) (S : Sound k) (n : ℕ) (a : Saying) where
         record {
           own = λ e. rw g (ap (λ (x : Task). x .own) holder-now);
           there = λ e q. holder-there;
-          kept = λ b c. rw (g, lent-one) (ap (λ (x : Task). x .effective) holder-now ∙ rw (larger-max (level (k .tasks) h) (level (k .tasks) r), larger-max 0 (larger (level (k .tasks) r) (level (k .tasks) h)), larger-max (level (k .tasks) r) (level (k .tasks) h)) (omega arith));
+          kept = λ b c. rw (g, lent-one) (ap (λ (x : Task). x .effective) holder-now
+              ∙ rw (
+                larger-max (level (k .tasks) h) (level (k .tasks) r),
+                larger-max 0 (larger (level (k .tasks) r) (level (k .tasks) h)),
+                larger-max (level (k .tasks) r) (level (k .tasks) h),
+              ) (omega arith));
           first = λ b c. absurd (false≢true (sym c ∙ some-holds (k .objects) h o kind));
         }
 

@@ -24,7 +24,8 @@ use Rattle.rules.specs.Step.{answered, accepted, turnedAway, steppedBy, step}
 use Rattle.rules.proofs.Says.{sound-says}
 use Rattle.rules.proofs.Passes.{Passed, passed}
 use Rattle.rules.specs.Trace.{Moment, momentOf, CallMade, stepMade}
-use Rattle.histories.specs.Types.{TaskSlot, Call, Create, Delete, Suspend, Resume, SetPriority, Delay, Yield, Hold, Release, MakeQueue, MakeMutex, Remove, Send, Receive, Take, Give, Tick, AllReady, State}
+use Rattle.histories.specs.Types.{TaskSlot, Call, Create, Delete, Suspend, Resume, SetPriority, Delay, Yield, Hold, Release, MakeQueue, MakeMutex, Remove, Send, Receive}
+use Rattle.histories.specs.Types.{Take, Give, Tick, AllReady, State}
 use Rattle.histories.specs.Moments.{exists, isRefusal}
 use Rattle.histories.specs.Borrowed.{givenAt, lentAt}
 use Rattle.histories.proofs.Quiet.{still}

@@ -66,7 +66,9 @@ pub ranked-at : (k : State) (t : TaskSlot) (own eff : ℕ) → t .0 < length (k 
 ranked-at k t own eff low = ap (λ ts. taskAt ts t) (prioritized-tasks k t own eff) ∙ at-same (k .tasks) t (ranked (taskAt (k .tasks) t) own eff) low
 
 pub prioritized-quiet : (k : State) (t u : TaskSlot) (own eff : ℕ) → (u .0 ≡ t .0 → ⊥) → Quietly t k (prioritized k u own eff)
-prioritized-quiet k t u own eff d = subst (λ us. Quiet t (prioritized k u own eff .objects) (k .tasks) us) (sym (prioritized-tasks k u own eff)) (ranked-quiet t (prioritized k u own eff .objects) (k .tasks) u own eff d)
+prioritized-quiet k t u own eff d =
+    subst (λ us. Quiet t (prioritized k u own eff .objects) (k .tasks) us) (sym (prioritized-tasks k u own eff))
+    (ranked-quiet t (prioritized k u own eff .objects) (k .tasks) u own eff d)
 
 some-given : {p : ℕ} {l : List ℕ} → l ≡ p ∷ [] → l ≡ [] → ⊥
 some-given e f = let z : _≡_ {A = ℕ} 0 1 = cc in omega arith

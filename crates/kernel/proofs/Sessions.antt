@@ -380,7 +380,8 @@ module _ (k : Kernel) (s : List ℕ) (c : Cut) (lent : List ℕ) where
   pub none-left : (empty b : Bool) → empty ≡ isEmpty c → b ≡ (empty || ltb (length lent) 256) → b ≡ true
       → Ran k (closed (length lent) (shown k) s c) lent record { session = record { kernel = k; cut = c }; taken = 0; written = 0 } s lent
   none-left empty b e f g =
-      subst (λ (x : Run). Ran k x lent record { session = record { kernel = k; cut = c }; taken = 0; written = 0 } s lent) (sym (closed-by empty b e f ∙ ap (λ (t : Bool). if t then begun (shown k) s c else told-end) g))
+      subst (λ (x : Run). Ran k x lent record { session = record { kernel = k; cut = c }; taken = 0; written = 0 } s lent)
+      (sym (closed-by empty b e f ∙ ap (λ (t : Bool). if t then begun (shown k) s c else told-end) g))
       record { kernel = refl; cut = refl; taken = refl; written = refl; store = refl; output = refl }
 
   -- the line without a newline is answered
@@ -394,5 +395,6 @@ module _ (k : Kernel) (s : List ℕ) (c : Cut) (lent : List ℕ) where
       let x = first-text w (omega (arith, reply-short (NotDone m) (taskNo (k .running)))) in
       subst (λ (x : Run). Ran k x lent record { session = record { kernel = k; cut = cutOf (c .bytes) 0 }; taken = 0; written = next } s out)
       (ap (λ (u : TaskSlot). record { taken = 0; kernel = shown k; store = s; cut = ended c; answers = replyOf (NotDone m) (taskNo u) }) (sym (shown-running k))
-      ∙ ap (λ (j : ℕ). record { taken = 0; kernel = shown k; store = s; cut = ended c; answers = told (turnedAway (shown k) j s) }) no ∙ sym (closed-by empty b e f ∙ ap (λ (t : Bool). if t then begun (shown k) s c else told-end) g))
+      ∙ ap (λ (j : ℕ). record { taken = 0; kernel = shown k; store = s; cut = ended c; answers = told (turnedAway (shown k) j s) }) no
+      ∙ sym (closed-by empty b e f ∙ ap (λ (t : Bool). if t then begun (shown k) s c else told-end) g))
       record { kernel = refl; cut = refl; taken = refl; written = x .0; store = refl; output = x .1 }

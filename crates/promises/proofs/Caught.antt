@@ -11,12 +11,14 @@ use Rattle.order.specs.Tidy.{count, tidy}
 use Rattle.items.specs.Bytes.{putAt}
 use Rattle.promises.specs.Types.{Call, State}
 use Rattle.promises.specs.Cases.{View}
-use Rattle.promises.specs.Wrong.{Stepping, stepOf, stepBy, Numbers, turnsAllAway, alwaysDone, changesNothing, madeUp, Wrong, showsBy, ofWord, sameNumber, sameList, sameView, Verdict, found, verdict, idlePrograms, easyMistakes, wrongs}
+use Rattle.promises.specs.Wrong.{Stepping, stepOf, stepBy, Numbers, turnsAllAway, alwaysDone, changesNothing, madeUp, Wrong, showsBy, ofWord, sameNumber, sameList, sameView}
+use Rattle.promises.specs.Wrong.{Verdict, found, verdict, idlePrograms, easyMistakes, wrongs}
 use Rattle.rules.specs.Effects.{created, deleted, suspended, resumed, yielded, delayed, queueMade, mutexMade, removed, taken, handedOn, given, effect}
 use Rattle.rules.specs.Items.{itemAt, outlet, sent, storeSent, received, storeReceived}
 use Rattle.rules.specs.Lines.{line, those, highest, leader, first, chosen, toTail, toHead, leaves}
 use Rattle.rules.specs.Loans.{moved, movedIf, prioritized, newPriority, lent, ownAgain}
-use Rattle.rules.specs.Refusals.{outOfRange, namesNone, wrongSize, notForIdle, notWithHold, noSlot, heldOrWaited, inUse, notHis, hisAlready, notSuspended, mustWait, noDepth, noTick, table, laterRow, refusal}
+use Rattle.rules.specs.Refusals.{outOfRange, namesNone, wrongSize, notForIdle, notWithHold, noSlot, heldOrWaited, inUse, notHis, hisAlready, notSuspended, mustWait, noDepth}
+use Rattle.rules.specs.Refusals.{noTick, table, laterRow, refusal}
 use Rattle.rules.specs.Sound.{noHigher, runsFine, sound}
 use Rattle.rules.specs.Step.{stored, answered, accepted, step}
 use Rattle.rules.specs.Trace.{trace}
@@ -33,7 +35,12 @@ unfolding stepOf step accepted
 frame k c i s = refl
 
 pub caught : (number : Numbers) (n : ℕ) → map found (wrongs number n) ≡ map verdict (wrongs number n)
-unfolding wrongs idlePrograms easyMistakes stepOf turnsAllAway alwaysDone changesNothing trace showsBy sameNumber sameList sameView every allBelow foldl upTo index any kept asked ordered without count tidy putAt created deleted suspended resumed yielded delayed queueMade mutexMade removed taken handedOn given effect itemAt outlet sent storeSent received storeReceived line those highest leader first chosen toTail toHead leaves moved movedIf prioritized newPriority lent ownAgain outOfRange namesNone wrongSize notForIdle notWithHold noSlot heldOrWaited inUse notHis hisAlready notSuspended mustWait noDepth noTick table laterRow refusal noHigher runsFine sound stored answered accepted step fresh taskAt kindAt holds freeSlot freeObject wokenIfDue wakes byNumber oneTick turned ticked ticks released held readied blocked waitFor
+unfolding wrongs idlePrograms easyMistakes stepOf turnsAllAway alwaysDone changesNothing trace showsBy sameNumber sameList sameView every allBelow
+    foldl upTo index any kept asked ordered without count tidy putAt created deleted suspended resumed yielded delayed queueMade mutexMade
+    removed taken handedOn given effect itemAt outlet sent storeSent received storeReceived line those highest leader first chosen toTail toHead
+    leaves moved movedIf prioritized newPriority lent ownAgain outOfRange namesNone wrongSize notForIdle notWithHold noSlot heldOrWaited inUse
+    notHis hisAlready notSuspended mustWait noDepth noTick table laterRow refusal noHigher runsFine sound stored answered accepted step fresh
+    taskAt kindAt holds freeSlot freeObject wokenIfDue wakes byNumber oneTick turned ticked ticks released held readied blocked waitFor
 caught number n = refl
 
 same-number : (n : ℕ) → sameNumber n n ≡ true

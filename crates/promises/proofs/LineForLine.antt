@@ -188,7 +188,8 @@ lines-fed n m (b ∷ input) r p h c = go (eqb b 10) refl (lines-fed n m input)
         ∙ ap (λ (ls : List (List ℕ)). before (r .answers) (answering (r .kernel) (r .store) ls)) lines
     go false e ih =
         ap (λ (z : Run). ending n (foldl fed z input)) (kept-byte r b e)
-        ∙ ih record { taken = r .taken + 1; kernel = r .kernel; store = r .store; cut = kept (r .cut) b; answers = r .answers } (p ++ (b ∷ [])) (kept-holds h b) (clear-append p (b ∷ []) c (one-clear b (eqb-false b 10 e)))
+        ∙ ih record { taken = r .taken + 1; kernel = r .kernel; store = r .store; cut = kept (r .cut) b; answers = r .answers }
+        (p ++ (b ∷ [])) (kept-holds h b) (clear-append p (b ∷ []) c (one-clear b (eqb-false b 10 e)))
         ∙ ap (λ (l : List ℕ). before (r .answers) (answering (r .kernel) (r .store) (linesOf l))) (append-snoc p b input)
 
 -- the end changes neither kernel nor store

@@ -35,8 +35,8 @@ abbrev pub ran : Case → List View
 ran c = map (λ m. viewOf (c .look) (m .gave)) (trace (lending step []) (c .start) (replicate 9216 0) (c .calls))
 
 -- from the fresh kernel, with nothing looked at but the answers and who runs
-abbrev pub plain : List Call → List View → Case
-plain cs xs = record { start = fresh; look = λ d. []; calls = cs; expected = xs }
+abbrev pub fromFresh : List Call → List View → Case
+fromFresh cs xs = record { start = fresh; look = λ d. []; calls = cs; expected = xs }
 
 abbrev pub ok : ℕ → View
 ok r = view done 0 r []
@@ -52,21 +52,21 @@ refuses n r = view refused n r []
 
 -- P1: the session of the section "The journal line"
 unfoldable pub p1 : Case
-p1 = plain
+p1 = fromFresh
     (Create 3 ∷ MakeMutex ∷ Take (objectOf 0) 0 ∷ Create 5 ∷ Take (objectOf 0) 10 ∷ Create 4 ∷ Give (objectOf 0) ∷ Give (objectOf 0) ∷ Delete (taskOf 0) ∷ [])
     (ok-new 1 1 ∷ ok-new 0 1 ∷ ok 1 ∷ ok-new 2 2 ∷ wait 1 ∷ ok-new 3 1 ∷ ok 2 ∷ ok 2 ∷ refuses 7 2 ∷ [])
 
 -- P2: "priority 31 accepted, 32 refused 4"
 unfoldable pub p2 : Case
-p2 = plain (Create 31 ∷ Create 32 ∷ []) (ok-new 1 1 ∷ refuses 4 1 ∷ [])
+p2 = fromFresh (Create 31 ∷ Create 32 ∷ []) (ok-new 1 1 ∷ refuses 4 1 ∷ [])
 
 -- P3: "capacity 64 size 8 accepted"
 unfoldable pub p3 : Case
-p3 = plain (MakeQueue 64 8 ∷ []) (ok-new 0 0 ∷ [])
+p3 = fromFresh (MakeQueue 64 8 ∷ []) (ok-new 0 0 ∷ [])
 
 -- P4: "capacity 64 size 9 refused 4"
 unfoldable pub p4 : Case
-p4 = plain (MakeQueue 64 9 ∷ []) (refuses 4 0 ∷ [])
+p4 = fromFresh (MakeQueue 64 9 ∷ []) (refuses 4 0 ∷ [])
 
 -- P5: "fifteen creates accepted, the next refused 9"
 abbrev pub fifteen : List View
@@ -89,7 +89,7 @@ fifteen =
     ∷ []
 
 unfoldable pub p5 : Case
-p5 = plain (replicate 16 (Create 1)) (fifteen ++ (refuses 9 1 ∷ []))
+p5 = fromFresh (replicate 16 (Create 1)) (fifteen ++ (refuses 9 1 ∷ []))
 
 -- P6: "delay 1 at tick 4,294,967,295 is due at tick 0"; the tick count is looked at
 unfoldable pub p6 : Case
@@ -102,17 +102,17 @@ p6 = record {
 
 -- P7: "create 40 with no free slot: 4, not 9"
 unfoldable pub p7 : Case
-p7 = plain (replicate 15 (Create 1) ++ (Create 40 ∷ [])) (fifteen ++ (refuses 4 1 ∷ []))
+p7 = fromFresh (replicate 15 (Create 1) ++ (Create 40 ∷ [])) (fifteen ++ (refuses 4 1 ∷ []))
 
 -- P8: "delete of a holder: 10, and after its give accepted"
 unfoldable pub p8 : Case
-p8 = plain
+p8 = fromFresh
     (Create 3 ∷ MakeMutex ∷ Take (objectOf 0) 0 ∷ Delete (taskOf 1) ∷ Give (objectOf 0) ∷ Delete (taskOf 1) ∷ [])
     (ok-new 1 1 ∷ ok-new 0 1 ∷ ok 1 ∷ refuses 10 1 ∷ ok 1 ∷ ok 0 ∷ [])
 
 -- P9: "the 255th nested hold accepted, the next 15"
 unfoldable pub p9 : Case
-p9 = plain (replicate 256 Hold) (replicate 255 (ok 0) ++ (refuses 15 0 ∷ []))
+p9 = fromFresh (replicate 256 Hold) (replicate 255 (ok 0) ++ (refuses 15 0 ∷ []))
 
 -- P10: "a mutex holder set lower keeps its effective priority until it gives"; task 1's effective priority is looked at
 unfoldable pub p10 : Case
@@ -132,11 +132,11 @@ p10 = record {
 
 -- P11: "size 0, capacity 1: a second send with wait 0 gets 14"
 unfoldable pub p11 : Case
-p11 = plain (MakeQueue 1 0 ∷ Send (objectOf 0) 0 ∷ Send (objectOf 0) 0 ∷ []) (ok-new 0 0 ∷ ok 0 ∷ refuses 14 0 ∷ [])
+p11 = fromFresh (MakeQueue 1 0 ∷ Send (objectOf 0) 0 ∷ Send (objectOf 0) 0 ∷ []) (ok-new 0 0 ∷ ok 0 ∷ refuses 14 0 ∷ [])
 
 -- P12: "tick with two tasks at the running priority turns the line"
 unfoldable pub p12 : Case
-p12 = plain (Create 3 ∷ Create 3 ∷ Tick ∷ Tick ∷ []) (ok-new 1 1 ∷ ok-new 2 1 ∷ ok 2 ∷ ok 1 ∷ [])
+p12 = fromFresh (Create 3 ∷ Create 3 ∷ Tick ∷ Tick ∷ []) (ok-new 1 1 ∷ ok-new 2 1 ∷ ok 2 ∷ ok 1 ∷ [])
 
 unfoldable pub cases : List Case
 cases = p1 ∷ p2 ∷ p3 ∷ p4 ∷ p5 ∷ p6 ∷ p7 ∷ p8 ∷ p9 ∷ p10 ∷ p11 ∷ p12 ∷ []

@@ -15,7 +15,8 @@ use Rattle.items.specs.Bytes.{putAt}
 use Rattle.slots.specs.Places.{isReady, isSuspended, waitsOn, wakesAt, outcomeDue}
 use Rattle.slots.specs.Tasks.{brokenOff, taskAt}
 use Rattle.slots.specs.Objects.{holderOf, kindAt}
-use Rattle.promises.specs.Types.{TaskSlot, ObjSlot, Asked, Call, Create, Delete, Suspend, Delay, Hold, Release, MakeQueue, MakeMutex, Send, Receive, Take, Give, Tick, Wake, Never, At, Place, Free, Ready, Delayed, Waiting, Suspended, Task, State}
+use Rattle.promises.specs.Types.{TaskSlot, ObjSlot, Asked, Call, Create, Delete, Suspend, Delay, Hold, Release, MakeQueue, MakeMutex, Send, Receive, Take, Give, Tick, Wake}
+use Rattle.promises.specs.Types.{Never, At, Place, Free, Ready, Delayed, Waiting, Suspended, Task, State}
 use Rattle.promises.specs.Cases.{View, view, viewOf}
 use Rattle.rules.specs.Tables.{fresh, withTask, withTick, withHold}
 use Rattle.rules.specs.Lines.{level, leader, chosen, toTail}
@@ -93,17 +94,17 @@ abbrev pub wakePast : ℕ → Wake → Bool
 wakePast n Never = false
 wakePast n (At w) = leb w n
 
-abbrev pub past : ℕ → Place → Bool
-past n Free = false
-past n Ready = false
-past n (Delayed w) = leb w n
-past n (Waiting o w) = wakePast n w
-past n Suspended = false
+abbrev pub isPast : ℕ → Place → Bool
+isPast n Free = false
+isPast n Ready = false
+isPast n (Delayed w) = leb w n
+isPast n (Waiting o w) = wakePast n w
+isPast n Suspended = false
 
 abbrev pub wokenIfPast : State → ℕ → State
 wokenIfPast k n =
     let p = taskAt (k .tasks) (task n) .place in
-    if past (k .tick) p then readied k (task n) (outcomeDue p) else k
+    if isPast (k .tick) p then readied k (task n) (outcomeDue p) else k
 
 abbrev pub wakesThePast : State → Asked → State
 wakesThePast = changed 17 (λ k a. tickedBy (upTo wokenIfPast 16) k)

@@ -7,12 +7,12 @@ use Rattle.rules.specs.Types.{State}
 use Rattle.rules.specs.Step.{Stepped}
 use Rattle.rules.specs.Trace.{trace, stateAfter, storeAfter, CallMade, stepMade}
 
--- what every step keeps, the run keeps
-pub run-keeps : {A : Type 0} (f : State → List ℕ → A → Stepped) (P : State → Type 0) → ((k : State) (s : List ℕ) (x : A) → P k → P (f k s x .kernel))
+-- what every step keeps, a run keeps
+pub trace-keeps : {A : Type 0} (f : State → List ℕ → A → Stepped) (P : State → Type 0) → ((k : State) (s : List ℕ) (x : A) → P k → P (f k s x .kernel))
     → (k : State) (s : List ℕ) (xs : List A) → P k → P (stateAfter k (trace f k s xs))
 unfolding foldl trace
-run-keeps f P keeps k s [] p = p
-run-keeps f P keeps k s (x ∷ xs) p = run-keeps f P keeps (f k s x .kernel) (f k s x .store) xs (keeps k s x p)
+trace-keeps f P keeps k s [] p = p
+trace-keeps f P keeps k s (x ∷ xs) p = trace-keeps f P keeps (f k s x .kernel) (f k s x .store) xs (keeps k s x p)
 
 -- calls that bring their own stores come to the same state whatever store is at hand
 pub own-stores : (k : State) (s u : List ℕ) (ms : List CallMade) → stateAfter k (trace stepMade k s ms) ≡ stateAfter k (trace stepMade k u ms)

@@ -5,7 +5,8 @@ use Rattle.lists.specs.Lists.{foldl}
 use Rattle.rules.specs.Types.{Call, State}
 use Rattle.rules.specs.Step.{Stepped, step}
 
--- a moment of a run: the state and the store before it, what was made (a call, a line), and what the step gave; who runs then: `gave .kernel .running`
+-- a moment of a run: the state and the store at hand before it, what was made (a call, a line), and what the step gave: the next state, in which
+-- `running` runs, the answer and the store afterwards
 pub record Moment (A : Type 0) : Type 0 where
   pub before : State
   pub store : List ℕ
