@@ -10,6 +10,7 @@ use Rattle.journal.proofs.Theorems.{one-call, written-reads-back, always-writte
 use Rattle.kernel.proofs.Kernel.fresh.Met as fresh-code
 use Rattle.kernel.proofs.Kernel.sound.Met as sound-code
 use Rattle.kernel.proofs.Kernel.step.Met as step-code
+use Rattle.kernel.proofs.Kernel.step_line.Met as line-code
 use Rattle.kernel.proofs.Session.fresh.Met as session-code
 use Rattle.kernel.proofs.Session.answer.Met as answer-code
 use Rattle.kernel.proofs.Session.end.Met as end-code
@@ -26,6 +27,7 @@ use Rattle.claims.specs.Types.{Call, Read}
 use Rattle.claims.specs.Claims.{Code, Values, Refused, Ruled, Journalled, Kept, Claims}
 use Rattle.claims.proofs.Values.{test-says, says-test, full-stands}
 use Rattle.claims.proofs.Exact.{step-exactly, accepted-so, unsound-stays}
+use Rattle.claims.proofs.Unique.{line-so}
 use Rattle.claims.proofs.Fitting.{total}
 use Rattle.claims.proofs.Reaching.{calls-reach, calls-sound, calls-placed, calls-pay-back, session-so-far, session-sound, session-placed, session-pays-back, journal}
 
@@ -35,6 +37,7 @@ code =
       fresh-kernel = fresh-code.met;
       sound = sound-code.met;
       step = step-code.met;
+      step-line = line-code.met;
       fresh-session = session-code.met;
       answer = answer-code.met;
       end = end-code.met;
@@ -55,7 +58,7 @@ refused =
     }
 
 ruled : Ruled
-ruled = record { calls = accepted-so; journal = journal; gate = both-sides-of-the-gate }
+ruled = record { calls = accepted-so; line = line-so; journal = journal; gate = both-sides-of-the-gate }
 
 journalled : Journalled
 journalled =

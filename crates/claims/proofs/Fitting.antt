@@ -4,7 +4,7 @@ use mathlib.Core.Path.{_≡_, refl, sym, subst}
 use mathlib.Core.Bool.{Bool, true, false}
 use mathlib.Core.List.{List, [], _∷_, _++_}
 use lib.Dec.{eqb}
-use lib.ListN.{length, drop, replicate, length-replicate}
+use lib.ListN.{length, take, drop, replicate, length-replicate}
 use Rattle.lists.specs.Choice.{if_then_else_}
 use Rattle.lists.specs.Lists.{foldl}
 use Rattle.calls.specs.declared.Answer.the-variants.{Done, Made, Waiting, Refused}
@@ -13,6 +13,8 @@ use Rattle.calls.specs.Door.{number}
 use Rattle.calls.specs.Said.{Saying, says, said, done, made, waiting}
 use Rattle.slots.specs.Places.{isBlocked}
 use Rattle.slots.specs.Tasks.{taskAt}
+use Rattle.journal.specs.declared.Reading.{Reading}
+use Rattle.journal.specs.declared.Reading.the-variants.{Says, Refused as NotRead}
 use Rattle.journal.specs.Steps.{readOf}
 use Rattle.journal.specs.Line.{lineOf, HasLine}
 use Rattle.journal.specs.Reply.{replyOf}
@@ -26,18 +28,18 @@ use Rattle.rules.specs.Asking.{makes, newSlot}
 use Rattle.rules.specs.Refusals.{refusal}
 use Rattle.rules.specs.Effects.{effect}
 use Rattle.rules.specs.Step.{answered, accepted, turnedAway, step}
-use Rattle.rules.specs.Session.{Run, closed}
+use Rattle.rules.specs.Session.{noLine, stepTold, readLine, stepOfLine, Run, closed}
+use Rattle.rules.specs.Trace.{CallMade}
 use Rattle.kernel.specs.Stands.{kernelOf, shown, standing}
-use Rattle.kernel.specs.Promises.{Ran, Steps, ranOf, Answers, Closes, newSession}
-use Rattle.promises.specs.History.{Made as ACall}
+use Rattle.kernel.specs.Promises.{Ran, Steps, ReadsAndSteps, ranOf, Answers, Closes, newSession}
 use Rattle.promises.specs.Turns.{Turn}
 use Rattle.promises.proofs.LineForLine.{closed-stays}
 use Rattle.claims.specs.Types.{TaskNo, Call, Answer, Asked, Read, Written, Count, NotWritten, State, Kernel, Step, Session, Served}
 use Rattle.claims.specs.Values.{Stands}
 use Rattle.claims.specs.Runs.{Called, noCall, call, Port, Turned, noTurn, turn}
 use Rattle.claims.specs.Claims.{OneFits, Total}
-use Rattle.claims.proofs.Unique.{no-second-step, no-second-block, no-second-end}
-use Rattle.claims.proofs.Runs.{stepOf, called-is, turnOf, one-turn, turned-is}
+use Rattle.claims.proofs.Unique.{no-second-step, no-second-line-step, no-second-block, no-second-end}
+use Rattle.claims.proofs.Runs.{valueAfter, called-is, turnOf, one-turn, turned-is}
 
 -- ── a kernel value: the fresh one, and whether one is sound
 begins : OneFits (λ (x : Kernel). x ≡ kernelOf fresh)
@@ -78,6 +80,22 @@ steps k c item s =
     let r : Step = record { kernel = standing k (d .kernel); answer = a .answer } in
     let m : Steps k c item s r (d .store) = record { kernel = refl; answer = a .says-it; store = refl } in
     record { it = (r, d .store); fits = m; no-second = λ x f. let e = no-second-step k c item s (x .0) r (x .1) (d .store) f m in λ i. (e .0 i, e .1 i) }
+
+line-answer : (k : State) (s l : List ℕ) → Answered (stepOfLine k s l .answer)
+unfolding stepOfLine
+line-answer k s l = go (readLine l .answer) (take (readLine l .len) (readLine l .item))
+  where
+    go : (x : Reading) (item : List ℕ) → Answered (stepTold k s x item .answer)
+    go (Says c) item = step-answer k c item s
+    go (NotRead n) item = record { answer = Refused (noLine k s); says-it = refl }
+
+steps-line : (k : Kernel) (l s : List ℕ) → OneFits (λ (x : Step × List ℕ). ReadsAndSteps k l s (x .0) (x .1))
+steps-line k l s =
+    let a = line-answer (shown k) s l in
+    let d = stepOfLine (shown k) s l in
+    let r : Step = record { kernel = standing k (d .kernel); answer = a .answer } in
+    let m : ReadsAndSteps k l s r (d .store) = record { kernel = refl; answer = a .says-it; store = refl } in
+    record { it = (r, d .store); fits = m; no-second = λ x f. let e = no-second-line-step k l s (x .0) r (x .1) (d .store) f m in λ i. (e .0 i, e .1 i) }
 
 -- ── lines
 reads : (l : List ℕ) → OneFits (λ (x : Read). ReadsAs l x)
@@ -144,15 +162,15 @@ closes n s lent =
     closing = record { kernel = refl; cut = refl; taken = refl; written = refl; store = sym (closed-stays (length lent) (shown (n .kernel)) s (n .cut) .1); output = refl }
 
 -- ── calls one after the other, and turns
-called-there : (k : Kernel) (ms : List ACall) → Called k ms (foldl stepOf k ms)
+called-there : (k : Kernel) (ms : List CallMade) → Called k ms (foldl valueAfter k ms)
 unfolding foldl
 called-there k [] = noCall
 called-there k (m ∷ ms) =
     let a = steps k (m .call) (m .item) (m .store) in
-    call (a .fits) (subst (λ (x : Kernel). Called x ms (foldl stepOf (stepOf k m) ms)) (sym (a .fits .kernel)) (called-there (stepOf k m) ms))
+    call (a .fits) (subst (λ (x : Kernel). Called x ms (foldl valueAfter (valueAfter k m) ms)) (sym (a .fits .kernel)) (called-there (valueAfter k m) ms))
 
-calls : (k : Kernel) (ms : List ACall) → OneFits (λ (j : Kernel). Called k ms j)
-calls k ms = record { it = foldl stepOf k ms; fits = called-there k ms; no-second = λ x f. called-is f }
+calls : (k : Kernel) (ms : List CallMade) → OneFits (λ (j : Kernel). Called k ms j)
+calls k ms = record { it = foldl valueAfter k ms; fits = called-there k ms; no-second = λ x f. called-is f }
 
 turned-there : (p : Port) (ts : List Turn) → Turned p ts (foldl turnOf p ts)
 unfolding foldl
@@ -173,6 +191,7 @@ total =
       begins = begins;
       tests = tests;
       steps = steps;
+      steps-line = steps-line;
       reads = reads;
       writes = writes;
       tells = tells;

@@ -12,17 +12,17 @@ use Rattle.cuts.specs.declared.Cut.{Cut}
 use Rattle.cuts.specs.Keeping.{kept}
 use Rattle.rules.specs.Tables.{fresh}
 use Rattle.rules.specs.Sound.{sound}
-use Rattle.rules.specs.Step.{step}
 use Rattle.rules.specs.Session.{readCut, lineStep, Run, answeredBy, fed, noRoom, run, begun, closed}
+use Rattle.rules.specs.Trace.{trace, stateAfter, CallMade, stepMade}
 use Rattle.rules.proofs.Every.{fresh-sound, step-kept}
 use Rattle.kernel.specs.Stands.{kernelOf, shown}
 use Rattle.kernel.specs.Promises.{Closes, newSession}
 use Rattle.kernel.proofs.Shown.{shown-of}
 use Rattle.kernel.proofs.Sessions.{line-keeps}
-use Rattle.promises.specs.History.{Made, after, reached, Placed}
+use Rattle.promises.specs.History.{reached, Placed}
 use Rattle.promises.specs.Program.{linesOf, Answered, program}
 use Rattle.promises.specs.ByLines.{ProgramAnswers}
-use Rattle.promises.specs.Turns.{Turn, Pause, afterTurn, afterTurns, cameIn, afterEnd, atStart, outcome as rulesOutcome}
+use Rattle.promises.specs.Turns.{Turn, Pause, afterTurn, afterTurns, cameIn, afterEnd, atStart, outcome}
 use Rattle.promises.specs.Reached.{programCalls}
 use Rattle.promises.proofs.Histories.{reached-sound, after-any-calls}
 use Rattle.promises.proofs.InWords.{program-answers}
@@ -32,26 +32,27 @@ use Rattle.histories.specs.Borrowed.{PaysBack}
 use Rattle.histories.proofs.PaidBack.{paid-back, program-pays-back}
 use Rattle.claims.specs.Types.{TaskSlot, State, Kernel, Served}
 use Rattle.claims.specs.Values.{SoundValue}
-use Rattle.claims.specs.Runs.{Called, Port, servedTo, Turned, opened, outcome, CameTo}
+use Rattle.claims.specs.Runs.{Called, Port, servedTo, Turned, freshPort, portOutcome, CameTo}
 use Rattle.claims.proofs.Values.{test-says}
-use Rattle.claims.proofs.Runs.{stepOf, called-is, turnOf, turned-is}
+use Rattle.claims.proofs.Runs.{valueAfter, called-is, turnOf, turned-is}
 
 -- the value of a sound state is sound
 sound-value : (s : State) → sound s ≡ true → (k : Kernel) → k ≡ kernelOf s → SoundValue k
 sound-value s e k h = test-says k (ap (λ (x : Kernel). sound (shown x)) h ∙ ap sound (shown-of s) ∙ e)
 
 -- ── calls
-step-reaches : (s : State) (m : Made) → sound s ≡ true → stepOf (kernelOf s) m ≡ kernelOf (step s (m .call) (m .item) (m .store) .kernel)
-step-reaches s m e = rw (shown-of s, e)
+step-reaches : (k : State) (s : List ℕ) (m : CallMade) → sound k ≡ true → valueAfter (kernelOf k) m ≡ kernelOf (stepMade k s m .kernel)
+step-reaches k s m e = rw (shown-of k, e)
 
-steps-reach : (s : State) (ms : List Made) → sound s ≡ true → foldl stepOf (kernelOf s) ms ≡ kernelOf (after s ms)
-unfolding foldl after
-steps-reach s [] e = refl
-steps-reach s (m ∷ ms) e = ap (λ (x : Kernel). foldl stepOf x ms) (step-reaches s m e) ∙ steps-reach _ ms (step-kept s (m .call) (m .item) (m .store) e)
+steps-reach : (k : State) (s : List ℕ) (ms : List CallMade) → sound k ≡ true → foldl valueAfter (kernelOf k) ms ≡ kernelOf (stateAfter k (trace stepMade k s ms))
+unfolding foldl trace
+steps-reach k s [] e = refl
+steps-reach k s (m ∷ ms) e =
+    ap (λ (x : Kernel). foldl valueAfter x ms) (step-reaches k s m e) ∙ steps-reach _ _ ms (step-kept k (m .call) (m .item) (m .store) e)
 
-module _ (ms : List Made) (k : Kernel) (f : Called (kernelOf fresh) ms k) where
+module _ (ms : List CallMade) (k : Kernel) (f : Called (kernelOf fresh) ms k) where
   pub calls-reach : k ≡ kernelOf (reached ms)
-  calls-reach = called-is f ∙ steps-reach fresh ms fresh-sound
+  calls-reach = called-is f ∙ steps-reach fresh [] ms fresh-sound
 
   shows-reached : shown k ≡ reached ms
   shows-reached = ap shown calls-reach ∙ shown-of (reached ms)
@@ -106,11 +107,11 @@ unfolding foldl
 turns-reach p [] e = refl
 turns-reach p (t ∷ ts) e = ap (λ (x : Port). foldl turnOf x ts) (turn-reaches p t e) ∙ turns-reach (afterTurn p t) ts (turn-keeps p t e)
 
-opens-so : opened ≡ portOf atStart
+opens-so : freshPort ≡ portOf atStart
 unfolding newSession
 opens-so = refl
 
-module _ (ts : List Turn) (p : Port) (f : Turned opened ts p) where
+module _ (ts : List Turn) (p : Port) (f : Turned freshPort ts p) where
   session-reach : p ≡ portOf (afterTurns atStart ts)
   session-reach = turned-is f ∙ ap (λ (x : Port). foldl turnOf x ts) opens-so ∙ turns-reach atStart ts fresh-sound
 
@@ -141,7 +142,7 @@ module _ (ts : List Turn) (p : Port) (f : Turned opened ts p) where
 
 -- ── the input's end
 end-reaches : (p : Pause) (lent : List ℕ) (r : Served) (o : List ℕ) → Closes (portOf p .session) (p .store) lent r o
-    → outcome (servedTo (portOf p) [] r (p .store) o) ≡ rulesOutcome (afterEnd p (length lent))
+    → portOutcome (servedTo (portOf p) [] r (p .store) o) ≡ outcome (afterEnd p (length lent))
 unfolding afterEnd
 end-reaches p lent r o R =
     let last = closed (length lent) (p .kernel) (p .store) (p .cut) in
@@ -154,14 +155,14 @@ end-reaches p lent r o R =
     let store : p .store ≡ last .store = sym (closed-stays (length lent) (p .kernel) (p .store) (p .cut) .1) in
     λ i. record { kernel = kernel i; store = store i; answers = p .answers ++ told i }
 
-pub journal : (ts : List Turn) (p : Port) → Turned opened ts p → p .waits ≡ [] → (lent : List ℕ) → 256 ≤ length lent
-    → (r : Served) (o : List ℕ) → Closes (p .session) (p .store) lent r o → ProgramAnswers (cameIn ts) (outcome (servedTo p [] r (p .store) o))
+pub journal : (ts : List Turn) (p : Port) → Turned freshPort ts p → p .waits ≡ [] → (lent : List ℕ) → 256 ≤ length lent
+    → (r : Served) (o : List ℕ) → Closes (p .session) (p .store) lent r o → ProgramAnswers (cameIn ts) (portOutcome (servedTo p [] r (p .store) o))
 journal ts p f = subst Told (sym (session-reach ts p f)) of-rules
   where
     Told : Port → Type 0
     Told x =
         x .waits ≡ [] → (lent : List ℕ) → 256 ≤ length lent
-        → (r : Served) (o : List ℕ) → Closes (x .session) (x .store) lent r o → ProgramAnswers (cameIn ts) (outcome (servedTo x [] r (x .store) o))
+        → (r : Served) (o : List ℕ) → Closes (x .session) (x .store) lent r o → ProgramAnswers (cameIn ts) (portOutcome (servedTo x [] r (x .store) o))
 
     of-rules : Told (portOf (afterTurns atStart ts))
     of-rules all lent room r o R =

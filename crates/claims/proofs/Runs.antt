@@ -6,23 +6,23 @@ use lib.ListN.{length, take, drop}
 use lib.Seq.{take-append-seam}
 use Rattle.lists.specs.Lists.{foldl}
 use Rattle.rules.specs.Step.{step}
+use Rattle.rules.specs.Trace.{CallMade}
 use Rattle.rules.specs.Session.{Run, run, begun}
 use Rattle.kernel.specs.Stands.{shown, standing}
 use Rattle.kernel.specs.Promises.{Ran, Answers}
-use Rattle.promises.specs.History.{Made}
 use Rattle.promises.specs.Turns.{Turn}
 use Rattle.claims.specs.Types.{Kernel, Served}
 use Rattle.claims.specs.Runs.{Called, noCall, call, Port, servedTo, Turned, noTurn, turn}
 
 -- ── calls
 -- the kernel value after a call
-abbrev pub stepOf : Kernel → Made → Kernel
-stepOf k m = standing k (step (shown k) (m .call) (m .item) (m .store) .kernel)
+abbrev pub valueAfter : Kernel → CallMade → Kernel
+valueAfter k m = standing k (step (shown k) (m .call) (m .item) (m .store) .kernel)
 
-pub called-is : {k j : Kernel} {ms : List Made} → Called k ms j → j ≡ foldl stepOf k ms
+pub called-is : {k j : Kernel} {ms : List CallMade} → Called k ms j → j ≡ foldl valueAfter k ms
 unfolding foldl
 called-is noCall = refl
-called-is (call {k} {j} {m} {ms} {r} S f) = called-is f ∙ ap (λ (x : Kernel). foldl stepOf x ms) (S .kernel)
+called-is (call {k} {j} {m} {ms} {r} S f) = called-is f ∙ ap (λ (x : Kernel). foldl valueAfter x ms) (S .kernel)
 
 -- ── turns
 -- the port after a turn that ran as d says, on what waited and came, and left the kernel value k

@@ -1,6 +1,6 @@
 -- No second answer fits: two results that meet a promise are equal.
 use Prim.Native.Nat.{ℕ}
-use mathlib.Core.Path.{_≡_, refl, sym, _∙_}
+use mathlib.Core.Path.{_≡_, refl, sym, subst, _∙_}
 use mathlib.Core.List.{List}
 use native.Mathlib.Omega.{arith}
 use Rattle.calls.proofs.Told.{one-answer}
@@ -9,7 +9,10 @@ use Rattle.slots.specs.declared.Found.the-variants.{NoOne, Someone}
 use Rattle.slots.specs.Leads.{whom}
 use Rattle.rules.specs.Step.{Stepped}
 use Rattle.rules.specs.Session.{Run}
-use Rattle.kernel.specs.Promises.{Is, Steps, Ran, Answers, Closes}
+use Rattle.kernel.specs.Stands.{shown}
+use Rattle.kernel.specs.Promises.{Is, Steps, ReadsAndSteps, Ran, Answers, Closes}
+use Rattle.promises.specs.ByLines.{LineSteps}
+use Rattle.promises.proofs.InWords.{one-line-step}
 use Rattle.claims.specs.Types.{Call, Kernel, Step, Session, Served}
 
 -- the general law: two results are equal if a promise gives both the same value
@@ -25,6 +28,15 @@ one-step k d r q s u a b =
 -- a step of any kernel value, call, item and store, with the store at exit
 pub no-second-step : (k : Kernel) (c : Call) (item s : List ℕ) (r q : Step) (after other : List ℕ) → Steps k c item s r after → Steps k c item s q other → (r ≡ q) × (after ≡ other)
 no-second-step k c item s r q after other a b = one-step k _ r q after other a b
+
+-- a line, whatever the kernel value, the line and the store
+pub no-second-line-step : (k : Kernel) (l s : List ℕ) (r q : Step) (after other : List ℕ)
+    → ReadsAndSteps k l s r after → ReadsAndSteps k l s q other → (r ≡ q) × (after ≡ other)
+no-second-line-step k l s r q after other a b = one-step k _ r q after other a b
+
+-- it is what document 01's words ask for of the line
+pub line-so : (k : Kernel) (l s : List ℕ) (r : Step) (after : List ℕ) → ReadsAndSteps k l s r after → (d : Stepped) → LineSteps (shown k) s l d → Is k d r after
+line-so k l s r after a d f = subst (λ (x : Stepped). Is k x r after) (sym (one-line-step (shown k) s l f)) a
 
 -- who was found
 pub one-found : (f g : Found) → whom f ≡ whom g → f ≡ g

@@ -10,11 +10,14 @@ use Rattle.journal.specs.Told.{aCall, refusal}
 use Rattle.journal.specs.Promise.{Tells, ReadsAs, WritesCall, WritesAnswer}
 use Rattle.rules.specs.Tables.{fresh}
 use Rattle.rules.specs.Sound.{sound}
+use Rattle.rules.specs.Step.{Stepped}
+use Rattle.rules.specs.Trace.{CallMade}
 use Rattle.kernel.specs.Stands.{kernelOf, shown}
-use Rattle.kernel.specs.Promises.{Steps, Answers, Closes, newSession}
+use Rattle.kernel.specs.Promises.{Is, Steps, ReadsAndSteps, Answers, Closes, newSession}
 use Rattle.kernel.proofs.Kernel.fresh.Statement as fresh-code
 use Rattle.kernel.proofs.Kernel.sound.Statement as sound-code
 use Rattle.kernel.proofs.Kernel.step.Statement as step-code
+use Rattle.kernel.proofs.Kernel.step_line.Statement as line-code
 use Rattle.kernel.proofs.Session.fresh.Statement as session-code
 use Rattle.kernel.proofs.Session.answer.Statement as answer-code
 use Rattle.kernel.proofs.Session.end.Statement as end-code
@@ -22,17 +25,17 @@ use Rattle.journal.proofs.read_call.Statement as reader-code
 use Rattle.journal.proofs.write_call.Statement as writer-code
 use Rattle.journal.proofs.write_answer.Statement as teller-code
 use Rattle.promises.specs.TurnedAway.{rows, None, Decided}
-use Rattle.promises.specs.History.{Made, reached, Placed}
+use Rattle.promises.specs.History.{reached, Placed}
 use Rattle.promises.specs.Cases.{Case, ran, cases}
 use Rattle.promises.specs.Program.{linesOf, answering}
-use Rattle.promises.specs.ByLines.{ProgramAnswers}
+use Rattle.promises.specs.ByLines.{LineSteps, ProgramAnswers}
 use Rattle.promises.specs.Turns.{Turn, cameIn}
 use Rattle.promises.specs.Reached.{programCalls}
 use Rattle.histories.specs.Borrowed.{PaysBack}
 use Rattle.claims.specs.Types.{TaskSlot, TaskNo, Call, Answer, Asked, Read, Says, Written, Count, State, Kernel, Step, Session, Served}
 use Rattle.claims.specs.Values.{SoundValue, Full, Stands}
 use Rattle.claims.specs.Exact.{Refusal, Accepted, rowsOf, Exactly}
-use Rattle.claims.specs.Runs.{Called, Port, servedTo, Turned, opened, outcome, CameTo}
+use Rattle.claims.specs.Runs.{Called, Port, servedTo, Turned, freshPort, portOutcome, CameTo}
 
 -- one value fits, and no second
 pub record OneFits {A : Type 0} (P : A → Type 0) : Type 0 where
@@ -45,6 +48,7 @@ pub record Code : Type 2 where
   pub fresh-kernel : {M : Type 1} → fresh-code.statement M
   pub sound : {M : Type 1} → sound-code.statement M
   pub step : {M : Type 1} → step-code.statement M
+  pub step-line : {M : Type 1} → line-code.statement M
   pub fresh-session : {M : Type 1} → session-code.statement M
   pub answer : {M : Type 1} → answer-code.statement M
   pub end : {M : Type 1} → end-code.statement M
@@ -66,6 +70,7 @@ pub record Total : Type 0 where
   -- of each value that code holds: the promise itself says that it stands
   pub tests : (k : Kernel) → Stands k → OneFits (λ (x : Bool). (x ≡ sound (shown k)) × (x ≡ true → k ≡ kernelOf (shown k)))
   pub steps : (k : Kernel) (c : Call) (item store : List ℕ) → OneFits (λ (x : Step × List ℕ). Steps k c item store (x .0) (x .1))
+  pub steps-line : (k : Kernel) (line store : List ℕ) → OneFits (λ (x : Step × List ℕ). ReadsAndSteps k line store (x .0) (x .1))
   pub reads : (line : List ℕ) → OneFits (λ (x : Read). ReadsAs line x)
   -- of each call that code holds: `has-line` below
   pub writes : (c : Call) (item line : List ℕ) → (length item ≤ 64 → HasLine c item) → OneFits (λ (x : Written × List ℕ). WritesCall c item line (x .0) (x .1))
@@ -74,7 +79,7 @@ pub record Total : Type 0 where
   pub serves : (n : Session) (block store lent : List ℕ) → OneFits (λ (x : Served × List ℕ × List ℕ). Answers n block store lent (x .0) (x .1) (x .2))
   pub closes : (n : Session) (store lent : List ℕ) → OneFits (λ (x : Served × List ℕ). Closes n store lent (x .0) (x .1))
   -- so too calls one after the other, and turns
-  pub calls : (k : Kernel) (ms : List Made) → OneFits (λ (j : Kernel). Called k ms j)
+  pub calls : (k : Kernel) (ms : List CallMade) → OneFits (λ (j : Kernel). Called k ms j)
   pub turns : (p : Port) (ts : List Turn) → OneFits (λ (q : Port). Turned p ts q)
 
 -- "A refusal carries its number, is given exactly where document 01 says, and leaves the kernel and every lent byte as they were."
@@ -85,11 +90,13 @@ pub record Refused : Type 0 where
   -- of any value that is not sound, a number that is not used and not 0 among its faults
   pub unsound : (k : Kernel) → (SoundValue k → ⊥) → (c : Call) (item store : List ℕ) (r : Step) (after : List ℕ) → Steps k c item store r after → Refusal k store 1 r after
 
--- 2. "Each call does what the rules say": one that no row turns away; a journal's lines, one after the other, in any blocks; and P1 to P12.
+-- 2. "Each call does what the rules say": one that no row turns away; a line, whatever its bytes; a journal's lines, one after the other, in any blocks; and P1 to P12.
 pub record Ruled : Type 0 where
   pub calls : (k : Kernel) (c : Call) (item store : List ℕ) (r : Step) (after : List ℕ) → Steps k c item store r after → None (rowsOf k c item store) → Accepted k c item store r after
-  pub journal : (ts : List Turn) (p : Port) → Turned opened ts p → p .waits ≡ [] → (lent : List ℕ) → 256 ≤ length lent
-      → (r : Served) (o : List ℕ) → Closes (p .session) (p .store) lent r o → ProgramAnswers (cameIn ts) (outcome (servedTo p [] r (p .store) o))
+  pub line : (k : Kernel) (line store : List ℕ) (r : Step) (after : List ℕ) → ReadsAndSteps k line store r after
+      → (d : Stepped) → LineSteps (shown k) store line d → Is k d r after
+  pub journal : (ts : List Turn) (p : Port) → Turned freshPort ts p → p .waits ≡ [] → (lent : List ℕ) → 256 ≤ length lent
+      → (r : Served) (o : List ℕ) → Closes (p .session) (p .store) lent r o → ProgramAnswers (cameIn ts) (portOutcome (servedTo p [] r (p .store) o))
   pub gate : map ran cases ≡ map (λ (c : Case). c .expected) cases
 
 -- "Each call whose item is at most 64 bytes has one journal line; reading it gives back the call, and any other line is refused." Of each call that code holds: its writer
@@ -107,16 +114,16 @@ pub record Journalled : Type 0 where
 -- outranks the running one; borrowed priority is what the rule says." So it is after any calls, after every line of every journal, and at any time of a session, however its input is cut.
 pub record Kept : Type 0 where
   -- the code is where the rules are, and sound
-  pub calls-reach : (ms : List Made) (k : Kernel) → Called (kernelOf fresh) ms k → k ≡ kernelOf (reached ms)
-  pub sound : (ms : List Made) (k : Kernel) → Called (kernelOf fresh) ms k → SoundValue k
-  pub placed : (ms : List Made) (k : Kernel) → Called (kernelOf fresh) ms k → Placed (shown k)
-  pub borrowed : (ms : List Made) (k : Kernel) → Called (kernelOf fresh) ms k → (t : TaskSlot) → PaysBack ms (shown k) t
+  pub calls-reach : (ms : List CallMade) (k : Kernel) → Called (kernelOf fresh) ms k → k ≡ kernelOf (reached ms)
+  pub sound : (ms : List CallMade) (k : Kernel) → Called (kernelOf fresh) ms k → SoundValue k
+  pub placed : (ms : List CallMade) (k : Kernel) → Called (kernelOf fresh) ms k → Placed (shown k)
+  pub borrowed : (ms : List CallMade) (k : Kernel) → Called (kernelOf fresh) ms k → (t : TaskSlot) → PaysBack ms (shown k) t
   pub lines-placed : (ls : List (List ℕ)) → Placed (answering fresh (replicate 9216 0) ls .kernel)
   pub lines-borrowed : (ls : List (List ℕ)) (t : TaskSlot) → PaysBack (programCalls ls) (answering fresh (replicate 9216 0) ls .kernel) t
-  pub session-so-far : (ts : List Turn) (p : Port) → Turned opened ts p → CameTo ts p
-  pub session-sound : (ts : List Turn) (p : Port) → Turned opened ts p → SoundValue (p .session .kernel)
-  pub session-placed : (ts : List Turn) (p : Port) → Turned opened ts p → Placed (shown (p .session .kernel))
-  pub session-borrowed : (ts : List Turn) (p : Port) (f : Turned opened ts p) (t : TaskSlot) → PaysBack (programCalls (linesOf (session-so-far ts p f .taken))) (shown (p .session .kernel)) t
+  pub session-so-far : (ts : List Turn) (p : Port) → Turned freshPort ts p → CameTo ts p
+  pub session-sound : (ts : List Turn) (p : Port) → Turned freshPort ts p → SoundValue (p .session .kernel)
+  pub session-placed : (ts : List Turn) (p : Port) → Turned freshPort ts p → Placed (shown (p .session .kernel))
+  pub session-borrowed : (ts : List Turn) (p : Port) (f : Turned freshPort ts p) (t : TaskSlot) → PaysBack (programCalls (linesOf (session-so-far ts p f .taken))) (shown (p .session .kernel)) t
 
 pub record Claims : Type 2 where
   pub code : Code

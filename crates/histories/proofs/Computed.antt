@@ -9,10 +9,11 @@ use Rattle.rules.specs.Effects.{created, deleted, suspended, resumed, yielded, 
 use Rattle.rules.specs.Items.{itemAt, outlet, sent, storeSent, received, storeReceived}
 use Rattle.rules.specs.Lines.{line, those, highest, leader, first, chosen, toTail, toHead, leaves}
 use Rattle.rules.specs.Loans.{moved, movedIf, prioritized, newPriority, lent, ownAgain}
-use Rattle.rules.specs.Refusals.{outOfRange, namesNone, wrongSize, notForIdle, notWithHold, noSlot, heldOrWaited, inUse, notHis}
-use Rattle.rules.specs.Refusals.{hisAlready, notSuspended, mustWait, noDepth, noTick, table, laterRow, refusal}
+use Rattle.rules.specs.Refusals.{outOfRange, namesNone, wrongSize, notForIdle, notWithHold, noSlot, heldOrWaited, inUse, notHis, hisAlready, notSuspended, mustWait, noDepth}
+use Rattle.rules.specs.Refusals.{noTick, table, laterRow, refusal}
 use Rattle.rules.specs.Sound.{tablesFine, levelsFine, listingFine, clockFine, noHigher, runsFine, sound}
 use Rattle.rules.specs.Step.{stored, answered, accepted, step}
+use Rattle.rules.specs.Trace.{trace}
 use Rattle.slots.specs.Tasks.{taskAt}
 use Rattle.slots.specs.Objects.{kindAt}
 use Rattle.rules.specs.Tables.{fresh, holds, freeSlot, freeObject}
@@ -21,32 +22,33 @@ use Rattle.rules.specs.Ticks.{wokenIfDue, wakes, oneTick, turned, ticked, ticks
 use Rattle.rules.specs.Waits.{readied, blocked, waitFor}
 use Rattle.histories.specs.Moments.{tasksBelow}
 use Rattle.histories.specs.Borrowed.{largest, givenAt, lastGiven, lentAt, counted, due}
-use Rattle.histories.specs.Tales.{shownFrom, shown, twoGives, setWithLoan, timeRunsOut, handedWithWaiter, lendsBorrowed, refusedChange, slotUsedAgain}
+use Rattle.histories.specs.Tales.{shownAfter, shownBy, twoGives, setWithLoan, timeRunsOut, handedWithWaiter, lendsBorrowed, refusedChange, slotUsedAgain}
 
-pub record Told : Type 0 where
+pub record TalesFit : Type 0 where
   -- a loan is made, kept over the first of two gives, and paid back at the last
-  pub kept-over-first-give : shown twoGives ≡ twoGives .expected
+  pub kept-over-first-give : shownBy twoGives ≡ twoGives .expected
   -- a change below a loan waits for the give, one above it counts at once
-  pub set-below-loan : shown setWithLoan ≡ setWithLoan .expected
+  pub set-below-loan : shownBy setWithLoan ≡ setWithLoan .expected
   -- the loan outlives the wait for which it was made
-  pub stays-after-wait : shown timeRunsOut ≡ timeRunsOut .expected
+  pub stays-after-wait : shownBy timeRunsOut ≡ timeRunsOut .expected
   -- who waited already when the mutex was handed on does not count
-  pub not-who-came-along : shown handedWithWaiter ≡ handedWithWaiter .expected
+  pub not-who-came-along : shownBy handedWithWaiter ≡ handedWithWaiter .expected
   -- the waiter lends its effective priority, not its own
-  pub lends-effective : shown lendsBorrowed ≡ lendsBorrowed .expected
+  pub lends-effective : shownBy lendsBorrowed ≡ lendsBorrowed .expected
   -- a refused change gives nothing
-  pub not-if-refused : shown refusedChange ≡ refusedChange .expected
+  pub not-if-refused : shownBy refusedChange ≡ refusedChange .expected
   -- a slot used again is another task
-  pub another-task : shown slotUsedAgain ≡ slotUsedAgain .expected
+  pub another-task : shownBy slotUsedAgain ≡ slotUsedAgain .expected
 
-pub told : Told
-unfolding shownFrom twoGives setWithLoan timeRunsOut handedWithWaiter lendsBorrowed refusedChange slotUsedAgain tasksBelow largest givenAt lastGiven lentAt counted due every
-    allBelow foldl upTo index any kept asked ordered without count tidy putAt created deleted suspended resumed yielded delayed queueMade mutexMade removed taken handedOn given
-    effect itemAt outlet sent storeSent received storeReceived line those highest leader first chosen toTail toHead leaves moved movedIf prioritized newPriority lent ownAgain
-    outOfRange namesNone wrongSize notForIdle notWithHold noSlot heldOrWaited inUse notHis hisAlready notSuspended mustWait noDepth noTick table laterRow refusal noHigher runsFine
-    tablesFine levelsFine listingFine clockFine sound stored answered accepted step fresh taskAt kindAt holds freeSlot freeObject wokenIfDue wakes byNumber oneTick turned ticked
+pub tales-fit : TalesFit
+unfolding trace shownAfter twoGives setWithLoan timeRunsOut handedWithWaiter lendsBorrowed refusedChange slotUsedAgain tasksBelow largest givenAt
+    lastGiven lentAt counted due every allBelow foldl upTo index any kept asked ordered without count tidy putAt created deleted suspended
+    resumed yielded delayed queueMade mutexMade removed taken handedOn given effect itemAt outlet sent storeSent received storeReceived line
+    those highest leader first chosen toTail toHead leaves moved movedIf prioritized newPriority lent ownAgain outOfRange namesNone wrongSize
+    notForIdle notWithHold noSlot heldOrWaited inUse notHis hisAlready notSuspended mustWait noDepth noTick table laterRow refusal noHigher
+    runsFine tablesFine levelsFine listingFine clockFine sound stored answered accepted step fresh taskAt kindAt holds freeSlot freeObject wokenIfDue wakes byNumber oneTick turned ticked
     ticks released held readied blocked waitFor
-told = record {
+tales-fit = record {
   kept-over-first-give = refl;
   set-below-loan = refl;
   stays-after-wait = refl;

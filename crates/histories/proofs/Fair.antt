@@ -10,52 +10,54 @@ use Rattle.slots.specs.Objects.{kindAt}
 use Rattle.rules.specs.Lines.{level}
 use Rattle.rules.specs.Sentences.{Holds}
 use Rattle.rules.proofs.Held.{held-one}
+use Rattle.rules.specs.Trace.{Moment, CallMade}
 use Rattle.histories.specs.Types.{TaskSlot, ObjSlot}
-use Rattle.histories.specs.Moments.{Moment, hasMutex, waitsIn, waited, begins, tasksBelow}
+use Rattle.histories.specs.Moments.{hasMutex, waitsIn, waited, beginsToWait, tasksBelow}
 use Rattle.histories.specs.Borrowed.{largest, isCreated, isChanged, givenAt, lastOf, lends, lentAt}
 use Rattle.histories.proofs.Largest.{larger-none, none-pass}
 use Rattle.histories.proofs.QuietCalls.{Quietly}
 
-pub record Fair (m : Moment) (t : TaskSlot) : Type 0 where
+pub record Fair (m : Moment CallMade) (t : TaskSlot) : Type 0 where
   -- its own priority is the one given then, or the one before
-  pub own : isFree (taskAt (m .after .tasks) t .place) ≡ false → taskAt (m .after .tasks) t .own ≡ lastOf (givenAt t m) (taskAt (m .before .tasks) t .own)
+  pub own : isFree (taskAt (m .gave .kernel .tasks) t .place) ≡ false → taskAt (m .gave .kernel .tasks) t .own ≡ lastOf (givenAt t m) (taskAt (m .before .tasks) t .own)
   -- who is given none was there before
-  pub there : isFree (taskAt (m .after .tasks) t .place) ≡ false → givenAt t m ≡ [] → isFree (taskAt (m .before .tasks) t .place) ≡ false
+  pub there : isFree (taskAt (m .gave .kernel .tasks) t .place) ≡ false → givenAt t m ≡ [] → isFree (taskAt (m .before .tasks) t .place) ≡ false
   -- with a mutex before and after: the largest of those given, those lent and the effective one before
-  pub kept : hasMutex (m .after) t ≡ true → hasMutex (m .before) t ≡ true → level (m .after .tasks) t ≡ larger (largest (givenAt t m)) (larger (largest (lentAt t m)) (level (m .before .tasks) t))
+  pub kept : hasMutex (m .gave .kernel) t ≡ true → hasMutex (m .before) t ≡ true
+      → level (m .gave .kernel .tasks) t ≡ larger (largest (givenAt t m)) (larger (largest (lentAt t m)) (level (m .before .tasks) t))
   -- with none before: the effective one before
-  pub first : hasMutex (m .after) t ≡ true → hasMutex (m .before) t ≡ false → level (m .after .tasks) t ≡ level (m .before .tasks) t
+  pub first : hasMutex (m .gave .kernel) t ≡ true → hasMutex (m .before) t ≡ false → level (m .gave .kernel .tasks) t ≡ level (m .before .tasks) t
 
 -- the object that u waits on after the moment
-abbrev pub on : Moment → TaskSlot → ObjSlot
-on m u = waited (taskAt (m .after .tasks) u .place)
+abbrev pub on : Moment CallMade → TaskSlot → ObjSlot
+on m u = waited (taskAt (m .gave .kernel .tasks) u .place)
 
 -- who lends waits afterwards, and not before, on a mutex of t
-pub record Lends (t : TaskSlot) (m : Moment) (u : TaskSlot) : Type 0 where
-  pub now : waitsIn (m .after) u (on m u) ≡ true
+pub record Lends (t : TaskSlot) (m : Moment CallMade) (u : TaskSlot) : Type 0 where
+  pub now : waitsIn (m .gave .kernel) u (on m u) ≡ true
   pub not-before : waitsIn (m .before) u (on m u) ≡ false
-  pub his : Holds (m .after .objects) t (on m u)
+  pub his : Holds (m .gave .kernel .objects) t (on m u)
 
-pub lending : (t : TaskSlot) (m : Moment) (u : TaskSlot) → lends t m u ≡ true → Lends t m u
-lending t m u e =
-    let b : begins m u (on m u) ≡ true = and-left (begins m u (on m u)) _ e in
+pub lends-so : (t : TaskSlot) (m : Moment CallMade) (u : TaskSlot) → lends t m u ≡ true → Lends t m u
+lends-so t m u e =
+    let b : beginsToWait m u (on m u) ≡ true = and-left (beginsToWait m u (on m u)) _ e in
     record {
-      now = and-left (waitsIn (m .after) u (on m u)) _ b;
-      not-before = off (waitsIn (m .before) u (on m u)) (and-right (waitsIn (m .after) u (on m u)) _ b);
-      his = held-one t (kindAt (m .after .objects) (on m u)) (and-right (begins m u (on m u)) _ e);
+      now = and-left (waitsIn (m .gave .kernel) u (on m u)) _ b;
+      not-before = off (waitsIn (m .before) u (on m u)) (and-right (waitsIn (m .gave .kernel) u (on m u)) _ b);
+      his = held-one t (kindAt (m .gave .kernel .objects) (on m u)) (and-right (beginsToWait m u (on m u)) _ e);
     }
 
-pub none-given : (t : TaskSlot) (m : Moment) → isCreated t m ≡ false → isChanged t m ≡ false → givenAt t m ≡ []
+pub none-given : (t : TaskSlot) (m : Moment CallMade) → isCreated t m ≡ false → isChanged t m ≡ false → givenAt t m ≡ []
 unfolding givenAt
 none-given t m a b = rw (a, b)
 
-pub none-lent : (t : TaskSlot) (m : Moment) → ((u : TaskSlot) → Lends t m u → ⊥) → lentAt t m ≡ []
+pub none-lent : (t : TaskSlot) (m : Moment CallMade) → ((u : TaskSlot) → Lends t m u → ⊥) → lentAt t m ≡ []
 unfolding lentAt
-none-lent t m n = ap (map (level (m .after .tasks))) (none-pass (level (m .after .tasks)) (lends t m) (λ u. untrue _ (λ e. n u (lending t m u e))) (tasksBelow 16))
+none-lent t m n = ap (map (level (m .gave .kernel .tasks))) (none-pass (level (m .gave .kernel .tasks)) (lends t m) (λ u. untrue _ (λ e. n u (lends-so t m u e))) (tasksBelow 16))
 
-module _ (m : Moment) (t : TaskSlot) where
+module _ (m : Moment CallMade) (t : TaskSlot) where
   -- nothing given, and quiet
-  pub quiet-fair : givenAt t m ≡ [] → Quietly t (m .before) (m .after) → Fair m t
+  pub quiet-fair : givenAt t m ≡ [] → Quietly t (m .before) (m .gave .kernel) → Fair m t
   unfolding largest
   quiet-fair g q =
       record {
@@ -69,8 +71,8 @@ module _ (m : Moment) (t : TaskSlot) where
       calm u l = false≢true (sym (l .not-before) ∙ q .calm u (on m u) (l .his) (l .now))
 
   -- without a mutex afterwards the own priority is all
-  pub bare-fair : hasMutex (m .after) t ≡ false
-      → (isFree (taskAt (m .after .tasks) t .place) ≡ false → taskAt (m .after .tasks) t .own ≡ lastOf (givenAt t m) (taskAt (m .before .tasks) t .own))
-      → (isFree (taskAt (m .after .tasks) t .place) ≡ false → givenAt t m ≡ [] → isFree (taskAt (m .before .tasks) t .place) ≡ false) → Fair m t
+  pub bare-fair : hasMutex (m .gave .kernel) t ≡ false
+      → (isFree (taskAt (m .gave .kernel .tasks) t .place) ≡ false → taskAt (m .gave .kernel .tasks) t .own ≡ lastOf (givenAt t m) (taskAt (m .before .tasks) t .own))
+      → (isFree (taskAt (m .gave .kernel .tasks) t .place) ≡ false → givenAt t m ≡ [] → isFree (taskAt (m .before .tasks) t .place) ≡ false) → Fair m t
   bare-fair n own there =
       record { own = own; there = there; kept = λ a b. absurd (false≢true (sym n ∙ a)); first = λ a b. absurd (false≢true (sym n ∙ a)) }

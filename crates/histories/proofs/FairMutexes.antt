@@ -29,13 +29,14 @@ use Rattle.rules.proofs.Slotted.{at-same, at-other}
 use Rattle.rules.proofs.Blocks.{Same, prioritized-same, prioritized-tasks}
 use Rattle.rules.proofs.Keeps.{exists-low, ready-low}
 use Rattle.promises.proofs.Histories.{exists-there}
+use Rattle.rules.specs.Trace.{Moment, CallMade}
 use Rattle.histories.specs.Types.{TaskSlot, ObjNo, ObjSlot, Wake, Place, Waiting, Task, Nobody, By, Kind, Unused, Queue, Mutex, State, Take, Give}
-use Rattle.histories.specs.Moments.{Moment, waitsIn}
+use Rattle.histories.specs.Moments.{waitsIn}
 use Rattle.histories.specs.Borrowed.{largest, givenAt, lends, lentAt}
 use Rattle.histories.proofs.Largest.{larger-max, one-passes}
 use Rattle.histories.proofs.Quiet.{Quiet, still, onward, each}
 use Rattle.histories.proofs.QuietCalls.{Quietly, wait-quiet, handed-quiet}
-use Rattle.histories.proofs.Fair.{Fair, Lends, lending, on, none-given, quiet-fair, bare-fair}
+use Rattle.histories.proofs.Fair.{Fair, Lends, lends-so, on, none-given, quiet-fair, bare-fair}
 use Rattle.histories.proofs.FairTasks.{moment, that-or-other, places-kept, ranked-at, prioritized-quiet}
 
 -- a task's effective priority changed leaves every own one
@@ -45,8 +46,8 @@ owns-kept k t eff v =
     ∙ each (k .tasks) t (ranked (taskAt (k .tasks) t) (taskAt (k .tasks) t .own) eff) (λ v y. y .own ≡ taskAt (k .tasks) v .own) refl (λ v. refl) v
 
 -- who waits on a mutex of t, and did not before, lends
-lends-on : (t : TaskSlot) (m : Moment) (u : TaskSlot) (o : ObjSlot) (w : Wake) → taskAt (m .after .tasks) u .place ≡ Waiting o w → waitsIn (m .before) u o ≡ false → Holds (m .after .objects) t o
-    → lends t m u ≡ true
+lends-on : (t : TaskSlot) (m : Moment CallMade) (u : TaskSlot) (o : ObjSlot) (w : Wake)
+    → taskAt (m .gave .kernel .tasks) u .place ≡ Waiting o w → waitsIn (m .before) u o ≡ false → Holds (m .gave .kernel .objects) t o → lends t m u ≡ true
 lends-on t m u o w e b h = rw (e, eq-eqb (o .0) (o .0) refl, b, h, eq-eqb (t .0) (t .0) refl)
 
 module _ (k : State) (S : Sound k) (n : ℕ) (a : Saying) where
@@ -67,7 +68,7 @@ module _ (k : State) (S : Sound k) (n : ℕ) (a : Saying) where
     abbrev j : State
     j = prioritized k h (taskAt (k .tasks) h .own) eff
 
-    abbrev wait : Moment
+    abbrev wait : Moment CallMade
     wait = moment k (Take num w) a (waitFor j o w)
 
     s : Same j k
@@ -122,7 +123,7 @@ module _ (k : State) (S : Sound k) (n : ℕ) (a : Saying) where
     only-caller v e = go (sameTask v r) refl
       where
         l : Lends h wait v
-        l = lending h wait v e
+        l = lends-so h wait v e
 
         go : (b : Bool) → sameTask v r ≡ b → v ≡ r
         go true q = one-number v r (eqb-true (v .0) (r .0) q)
@@ -142,10 +143,12 @@ module _ (k : State) (S : Sound k) (n : ℕ) (a : Saying) where
         record {
           own = λ e. rw g (ap (λ (x : Task). x .own) holder-now);
           there = λ e q. holder-there;
-          kept = λ b c. rw (g, lent-one)
-              (ap (λ (x : Task). x .effective) holder-now
-              ∙ rw (larger-max (level (k .tasks) h) (level (k .tasks) r), larger-max 0 (larger (level (k .tasks) r) (level (k .tasks) h)), larger-max (level (k .tasks) r) (level (k .tasks) h))
-              (omega arith));
+          kept = λ b c. rw (g, lent-one) (ap (λ (x : Task). x .effective) holder-now
+              ∙ rw (
+                larger-max (level (k .tasks) h) (level (k .tasks) r),
+                larger-max 0 (larger (level (k .tasks) r) (level (k .tasks) h)),
+                larger-max (level (k .tasks) r) (level (k .tasks) h),
+              ) (omega arith));
           first = λ b c. absurd (false≢true (sym c ∙ some-holds (k .objects) h o kind));
         }
 
@@ -185,7 +188,7 @@ module _ (k : State) (S : Sound k) (n : ℕ) (a : Saying) where
     abbrev own : ℕ
     own = taskAt (i .tasks) r .own
 
-    abbrev gift : State → Moment
+    abbrev gift : State → Moment CallMade
     gift x = moment k (Give num) a x
 
     giver-fair : holds (i .objects) r ≡ false → Fair (gift (prioritized i r own own)) r

@@ -23,9 +23,10 @@ use Rattle.rules.specs.Effects.{resumed, yielded, queueMade, mutexMade, removed
 use Rattle.rules.specs.Step.{answered, accepted, turnedAway, steppedBy, step}
 use Rattle.rules.proofs.Says.{sound-says}
 use Rattle.rules.proofs.Passes.{Passed, passed}
-use Rattle.promises.specs.History.{Made}
-use Rattle.histories.specs.Types.{TaskSlot, Call, Create, Delete, Suspend, Resume, SetPriority, Delay, Yield, Hold, Release, MakeQueue, MakeMutex, Remove, Send, Receive, Take, Give, Tick, AllReady, State}
-use Rattle.histories.specs.Moments.{Moment, exists, isRefusal, momentOf}
+use Rattle.rules.specs.Trace.{Moment, momentOf, CallMade, stepMade}
+use Rattle.histories.specs.Types.{TaskSlot, Call, Create, Delete, Suspend, Resume, SetPriority, Delay, Yield, Hold, Release, MakeQueue, MakeMutex, Remove, Send, Receive}
+use Rattle.histories.specs.Types.{Take, Give, Tick, AllReady, State}
+use Rattle.histories.specs.Moments.{exists, isRefusal}
 use Rattle.histories.specs.Borrowed.{givenAt, lentAt}
 use Rattle.histories.proofs.Quiet.{still}
 use Rattle.histories.proofs.QuietCalls.{readied-quiet, suspended-quiet, delayed-quiet, send-quiet, receive-quiet, ticked-quiet, released-quiet}
@@ -86,18 +87,26 @@ answered-accepts k c j = go (makes (asked c)) (isBlocked (taskAt (j .tasks) (k .
     go false true = refl
     go false false = refl
 
-pub step-fair : (k : State) → sound k ≡ true → (m : Made) (t : TaskSlot) → Fair (momentOf k m) t
+made-fair : (k : State) → sound k ≡ true → (m : CallMade) (t : TaskSlot)
+    → Fair (let r = step k (m .call) (m .item) (m .store) in moment k (m .call) (r .answer) (r .kernel)) t
 unfolding step refusal accepted
-step-fair k e m t = subst (λ b. Fair (by (if b then row else 1)) t) (sym e) (go (eqb row 0) refl)
+made-fair k e m t = subst (λ b. Fair (by (if b then row else 1)) t) (sym e) (go (eqb row 0) refl)
   where
     row : ℕ
     row = laterRow k (asked (m .call)) (length (m .item)) (length (m .store))
 
-    by : ℕ → Moment
+    by : ℕ → Moment CallMade
     by n = let r = steppedBy n k (asked (m .call)) (m .item) (m .store) in moment k (m .call) (r .answer) (r .kernel)
 
-    go : (b : Bool) → eqb row 0 ≡ b → Fair (let r = if b then accepted k (asked (m .call)) (m .item) (m .store) else turnedAway k row (m .store) in moment k (m .call) (r .answer) (r .kernel)) t
+    go : (b : Bool) → eqb row 0 ≡ b
+        → Fair (let r = if b then accepted k (asked (m .call)) (m .item) (m .store) else turnedAway k row (m .store) in moment k (m .call) (r .answer) (r .kernel)) t
     go true q =
         chosen-fair k (m .call) _ (effect k (asked (m .call))) t
-        (effect-fair k (sound-says k e) (length (m .store)) _ (answered-accepts k (m .call) (chosen (effect k (asked (m .call))))) t (m .call) (passed k (asked (m .call)) (length (m .item)) (length (m .store)) (eqb-true row 0 q)))
+        (effect-fair k (sound-says k e) (length (m .store)) _ (answered-accepts k (m .call) (chosen (effect k (asked (m .call))))) t (m .call)
+        (passed k (asked (m .call)) (length (m .item)) (length (m .store)) (eqb-true row 0 q)))
     go false q = refused-fair k (m .call) row t
+
+-- whatever the item and the stores
+pub step-fair : (k : State) → sound k ≡ true → (s : List ℕ) (m : CallMade) (t : TaskSlot) → Fair (momentOf stepMade k s m) t
+unfolding givenAt lentAt
+step-fair k e s m t = let F = made-fair k e m t in record { own = F .own; there = F .there; kept = F .kept; first = F .first }

@@ -27,8 +27,9 @@ use Rattle.rules.proofs.Passes.{Passed}
 use Rattle.rules.proofs.Slotted.{at-same}
 use Rattle.rules.proofs.Blocks.{prioritized-same, prioritized-tasks}
 use Rattle.rules.proofs.Keeps.{exists-low, index-most, index-passes}
+use Rattle.rules.specs.Trace.{Moment, CallMade}
 use Rattle.histories.specs.Types.{TaskNo, TaskSlot, Place, Free, Ready, Delayed, Waiting, Suspended, Task, State, Call, Create, Delete, SetPriority}
-use Rattle.histories.specs.Moments.{Moment, isRefusal}
+use Rattle.histories.specs.Moments.{isRefusal}
 use Rattle.histories.specs.Borrowed.{largest, givenAt}
 use Rattle.histories.proofs.Largest.{larger-max}
 use Rattle.histories.proofs.Quiet.{Quiet, each, slot-quiet, ranked-quiet}
@@ -36,8 +37,9 @@ use Rattle.histories.proofs.QuietCalls.{Quietly}
 use Rattle.histories.proofs.Fair.{Fair, Lends, on, none-given, none-lent, quiet-fair, bare-fair}
 
 -- the moment of an accepted call
-abbrev pub moment : State → Call → Saying → State → Moment
-moment k c a j = record { before = k; call = c; answer = a; after = j }
+abbrev pub moment : State → Call → Saying → State → Moment CallMade
+moment k c a j =
+    record { before = k; store = []; made = record { call = c; item = []; store = [] }; gave = record { kernel = j; answer = a; store = [] } }
 
 -- one task, and every other
 pub that-or-other : (u t : TaskSlot) (P : TaskSlot → Type 0) → P u → ((u .0 ≡ t .0 → ⊥) → P t) → P t
@@ -65,7 +67,8 @@ ranked-at k t own eff low = ap (λ ts. taskAt ts t) (prioritized-tasks k t own e
 
 pub prioritized-quiet : (k : State) (t u : TaskSlot) (own eff : ℕ) → (u .0 ≡ t .0 → ⊥) → Quietly t k (prioritized k u own eff)
 prioritized-quiet k t u own eff d =
-    subst (λ us. Quiet t (prioritized k u own eff .objects) (k .tasks) us) (sym (prioritized-tasks k u own eff)) (ranked-quiet t (prioritized k u own eff .objects) (k .tasks) u own eff d)
+    subst (λ us. Quiet t (prioritized k u own eff .objects) (k .tasks) us) (sym (prioritized-tasks k u own eff))
+    (ranked-quiet t (prioritized k u own eff .objects) (k .tasks) u own eff d)
 
 some-given : {p : ℕ} {l : List ℕ} → l ≡ p ∷ [] → l ≡ [] → ⊥
 some-given e f = let z : _≡_ {A = ℕ} 0 1 = cc in omega arith
@@ -76,7 +79,7 @@ module _ (k : State) (S : Sound k) (n : ℕ) (a : Saying) where
     abbrev new : TaskSlot
     new = task (freeSlot (k .tasks))
 
-    abbrev creation : Moment
+    abbrev creation : Moment CallMade
     creation = moment k (Create p) a (created k p)
 
     has-slot : new .0 < length (k .tasks)
@@ -124,7 +127,7 @@ module _ (k : State) (S : Sound k) (n : ℕ) (a : Saying) where
     abbrev old : TaskSlot
     old = taskSlot num
 
-    abbrev deletion : Moment
+    abbrev deletion : Moment CallMade
     deletion = moment k (Delete num) a (deleted k old)
 
     was-there : isFree (taskAt (k .tasks) old .place) ≡ false
@@ -151,7 +154,7 @@ module _ (k : State) (S : Sound k) (n : ℕ) (a : Saying) where
     abbrev u : TaskSlot
     u = taskSlot num
 
-    abbrev change : Moment
+    abbrev change : Moment CallMade
     change = moment k (SetPriority num p) a (newPriority k u p)
 
     abbrev eff : ℕ

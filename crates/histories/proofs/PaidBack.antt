@@ -5,7 +5,7 @@ use mathlib.Core.Bool.{Bool, true, false, false≢true}
 use mathlib.Core.List.{List, [], _∷_, _++_}
 use lib.ListN.{getD, replicate}
 use Rattle.lists.specs.Choice.{if_then_else_}
-use Rattle.lists.specs.Lists.{larger, any}
+use Rattle.lists.specs.Lists.{larger, any, foldl}
 use Rattle.slots.specs.Places.{isFree}
 use Rattle.slots.specs.Tasks.{freeTask, taskAt}
 use Rattle.rules.specs.Tables.{fresh, holds}
@@ -15,21 +15,22 @@ use Rattle.rules.specs.Sentences.{Exists}
 use Rattle.rules.proofs.Held.{not-held}
 use Rattle.rules.proofs.Says.{sound-says}
 use Rattle.rules.proofs.Every.{fresh-sound, step-kept}
-use Rattle.promises.specs.History.{Made, after, reached}
+use Rattle.promises.specs.History.{reached}
 use Rattle.promises.specs.Program.{linesOf, answering}
 use Rattle.promises.specs.Turns.{Turn, afterTurns, atStart}
 use Rattle.promises.specs.Reached.{programCalls}
 use Rattle.promises.proofs.Histories.{exists-there}
 use Rattle.promises.proofs.Reaches.{program-reached, session-so-far}
+use Rattle.rules.specs.Trace.{Moment, momentOf, trace, stateAfter, CallMade, stepMade}
 use Rattle.histories.specs.Types.{TaskSlot, State}
-use Rattle.histories.specs.Moments.{Moment, momentOf, momentsFrom, moments, hasMutex}
+use Rattle.histories.specs.Moments.{onto, moments, hasMutex}
 use Rattle.histories.specs.Borrowed.{largest, givenAt, lastOf, lastGiven, lentAt, counted, due, PaysBack}
 use Rattle.histories.proofs.Largest.{largest-append, larger-none}
 use Rattle.histories.proofs.Fair.{Fair}
 use Rattle.histories.proofs.FairSteps.{step-fair}
 
 -- what the past accounts for
-record Accounts (k : State) (past : List Moment) : Type 0 where
+record Accounts (k : State) (past : List (Moment CallMade)) : Type 0 where
   fine : sound k ≡ true
   -- every task's own priority is the last given
   own : (t : TaskSlot) → isFree (taskAt (k .tasks) t .place) ≡ false → taskAt (k .tasks) t .own ≡ lastGiven t past
@@ -52,14 +53,14 @@ unfolding fresh taskAt holds any lastGiven
 starts = record { fine = fresh-sound; own = λ t e. fresh-own (t .0); borrowed = λ t e. absurd (false≢true e) }
 
 -- one call more
-module _ (k : State) (past : List Moment) (m : Made) (A : Accounts k past) where
-  abbrev now : Moment
-  now = momentOf k m
+module _ (k : State) (past : List (Moment CallMade)) (s : List ℕ) (m : CallMade) (A : Accounts k past) where
+  abbrev now : Moment CallMade
+  now = momentOf stepMade k s m
 
   F : (t : TaskSlot) → Fair now t
-  F = step-fair k (A .fine) m
+  F = step-fair k (A .fine) s m
 
-  own-now : (t : TaskSlot) → isFree (taskAt (now .after .tasks) t .place) ≡ false → taskAt (now .after .tasks) t .own ≡ lastGiven t (now ∷ past)
+  own-now : (t : TaskSlot) → isFree (taskAt (now .gave .kernel .tasks) t .place) ≡ false → taskAt (now .gave .kernel .tasks) t .own ≡ lastGiven t (now ∷ past)
   unfolding lastGiven
   own-now t e = F t .own e ∙ go (givenAt t now) refl
     where
@@ -67,28 +68,29 @@ module _ (k : State) (past : List Moment) (m : Made) (A : Accounts k past) where
       go [] n = A .own t (F t .there e n)
       go (p ∷ ps) n = refl
 
-  borrowed-now : (t : TaskSlot) → hasMutex (now .after) t ≡ true → level (now .after .tasks) t ≡ largest (counted t (now ∷ past))
+  borrowed-now : (t : TaskSlot) → hasMutex (now .gave .kernel) t ≡ true → level (now .gave .kernel .tasks) t ≡ largest (counted t (now ∷ past))
   unfolding counted largest
   borrowed-now t e = go (hasMutex k t) refl
     where
-      go : (b : Bool) → hasMutex k t ≡ b → level (now .after .tasks) t ≡ largest (if b then givenAt t now ++ (lentAt t now ++ counted t past) else level (k .tasks) t ∷ [])
+      go : (b : Bool) → hasMutex k t ≡ b → level (now .gave .kernel .tasks) t ≡ largest (if b then givenAt t now ++ (lentAt t now ++ counted t past) else level (k .tasks) t ∷ [])
       go true h =
           F t .kept e h
           ∙ sym (largest-append (givenAt t now) (lentAt t now ++ counted t past)
           ∙ ap (larger (largest (givenAt t now))) (largest-append (lentAt t now) (counted t past) ∙ ap (larger (largest (lentAt t now))) (sym (A .borrowed t h))))
       go false h = F t .first e h ∙ sym (larger-none (level (k .tasks) t) .0)
 
-  one-more : Accounts (now .after) (now ∷ past)
+  one-more : Accounts (now .gave .kernel) (now ∷ past)
   one-more = record { fine = step-kept k (m .call) (m .item) (m .store) (A .fine); own = own-now; borrowed = borrowed-now }
 
-accounts : (k : State) (past : List Moment) (ms : List Made) → Accounts k past → Accounts (after k ms) (momentsFrom k past ms)
-unfolding after momentsFrom
-accounts k past [] A = A
-accounts k past (m ∷ ms) A = accounts _ _ ms (one-more k past m A)
+accounts : (k : State) (past : List (Moment CallMade)) (s : List ℕ) (ms : List CallMade) → Accounts k past
+    → Accounts (stateAfter k (trace stepMade k s ms)) (onto past (trace stepMade k s ms))
+unfolding foldl trace
+accounts k past s [] A = A
+accounts k past s (m ∷ ms) A = accounts _ _ _ ms (one-more k past s m A)
 
-module _ (ms : List Made) (t : TaskSlot) (there : Exists ((reached ms) .tasks) t) where
+module _ (ms : List CallMade) (t : TaskSlot) (there : Exists ((reached ms) .tasks) t) where
   A : Accounts (reached ms) (moments ms)
-  A = accounts fresh [] ms starts
+  A = accounts fresh [] [] ms starts
 
   -- "a task without a mutex has exactly the priority last given to it by its creation or an accepted change since"
   pub without-mutex : hasMutex (reached ms) t ≡ false → level ((reached ms) .tasks) t ≡ lastGiven t (moments ms)

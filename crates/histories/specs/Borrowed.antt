@@ -12,9 +12,9 @@ use Rattle.slots.specs.Tasks.{taskAt}
 use Rattle.rules.specs.Lines.{level}
 use Rattle.rules.specs.Sentences.{Exists}
 use Rattle.rules.specs.Asking.{is}
-use Rattle.promises.specs.History.{Made}
+use Rattle.rules.specs.Trace.{Moment, CallMade}
 use Rattle.histories.specs.Types.{TaskSlot, State}
-use Rattle.histories.specs.Moments.{Moment, moments, hasMutex, appears, waited, begins, accepted, tasksBelow}
+use Rattle.histories.specs.Moments.{moments, hasMutex, appears, waited, beginsToWait, notRefused, tasksBelow}
 
 -- the largest of several, 0 for none
 unfoldable pub largest : List ℕ → ℕ
@@ -22,45 +22,45 @@ largest [] = 0
 largest (n ∷ ns) = larger n (largest ns)
 
 -- "given to it by its creation": by a create at which the task appears
-abbrev pub isCreated : TaskSlot → Moment → Bool
-isCreated t m = is 1 (asked (m .call)) && appears m t
+abbrev pub isCreated : TaskSlot → Moment CallMade → Bool
+isCreated t m = is 1 (asked (m .made .call)) && appears m t
 
 -- "or an accepted change": by a set priority of this task
-abbrev pub isChanged : TaskSlot → Moment → Bool
-isChanged t m = is 5 (asked (m .call)) && (sameTask (asked (m .call) .task) t && accepted m)
+abbrev pub isChanged : TaskSlot → Moment CallMade → Bool
+isChanged t m = is 5 (asked (m .made .call)) && (sameTask (asked (m .made .call) .task) t && notRefused m)
 
 -- the priority given to t at the moment: a list of one, or of none
-unfoldable pub givenAt : TaskSlot → Moment → List ℕ
-givenAt t m = if isCreated t m || isChanged t m then asked (m .call) .priority ∷ [] else []
+unfoldable pub givenAt : TaskSlot → Moment CallMade → List ℕ
+givenAt t m = if isCreated t m || isChanged t m then asked (m .made .call) .priority ∷ [] else []
 
 -- "the priority last given to it": its creation gives one, so a slot's earlier tasks are not asked; idle counts as created with 0
 abbrev pub lastOf : List ℕ → ℕ → ℕ
 lastOf [] n = n
 lastOf (p ∷ ps) n = p
 
-unfoldable pub lastGiven : TaskSlot → List Moment → ℕ
+unfoldable pub lastGiven : TaskSlot → List (Moment CallMade) → ℕ
 lastGiven t [] = 0
 lastGiven t (m ∷ earlier) = lastOf (givenAt t m) (lastGiven t earlier)
 
 -- the task u "began to wait on a mutex this task then held"
-abbrev pub lends : TaskSlot → Moment → TaskSlot → Bool
+abbrev pub lends : TaskSlot → Moment CallMade → TaskSlot → Bool
 lends t m u =
-    let o = waited (taskAt (m .after .tasks) u .place) in begins m u o && heldBy t (kindAt (m .after .objects) o)
+    let o = waited (taskAt (m .gave .kernel .tasks) u .place) in beginsToWait m u o && heldBy t (kindAt (m .gave .kernel .objects) o)
 
 -- each such "waiter's effective priority at that moment"
-unfoldable pub lentAt : TaskSlot → Moment → List ℕ
-lentAt t m = map (level (m .after .tasks)) (kept (lends t m) (tasksBelow 16))
+unfoldable pub lentAt : TaskSlot → Moment CallMade → List ℕ
+lentAt t m = map (level (m .gave .kernel .tasks)) (kept (lends t m) (tasksBelow 16))
 
 -- "the priority it had when it went from none to one, those given to it since, and, for each later moment .., the waiter's effective priority"
-unfoldable pub counted : TaskSlot → List Moment → List ℕ
+unfoldable pub counted : TaskSlot → List (Moment CallMade) → List ℕ
 counted t [] = []
 counted t (m ∷ earlier) =
     if hasMutex (m .before) t then givenAt t m ++ (lentAt t m ++ counted t earlier) else level (m .before .tasks) t ∷ []
 
 -- "a task without a mutex has exactly the priority last given to it"; "A task with one has the largest of" those counted
-unfoldable pub due : State → List Moment → TaskSlot → ℕ
+unfoldable pub due : State → List (Moment CallMade) → TaskSlot → ℕ
 due k past t = if hasMutex k t then largest (counted t past) else lastGiven t past
 
 -- a task that exists in k, which these calls reach, has the effective priority that their history says
-abbrev pub PaysBack : List Made → State → TaskSlot → Type 0
+abbrev pub PaysBack : List CallMade → State → TaskSlot → Type 0
 PaysBack ms k t = Exists (k .tasks) t → level (k .tasks) t ≡ due k (moments ms) t

@@ -1,37 +1,38 @@
 -- Histories of a task's effective priority: calls, and what the task has after each of them.
 use Prim.Native.Nat.{ℕ}
-use mathlib.Core.List.{List, [], _∷_}
+use mathlib.Core.List.{List, [], _∷_, map}
 use lib.ListN.{replicate}
 use Rattle.lists.specs.Choice.{if_then_else_}
 use Rattle.numbers.specs.Numbers.{task}
 use Rattle.calls.specs.Numbers.{taskOf, objectOf}
 use Rattle.rules.specs.Tables.{fresh}
 use Rattle.rules.specs.Lines.{level}
-use Rattle.promises.specs.History.{Made}
+use Rattle.rules.specs.Trace.{Moment, trace, CallMade, stepMade}
 use Rattle.histories.specs.Types.{TaskSlot, State, Call, Create, Delete, SetPriority, Delay, MakeMutex, Take, Give, Tick}
-use Rattle.histories.specs.Moments.{Moment, momentOf, exists}
+use Rattle.histories.specs.Moments.{exists}
 use Rattle.histories.specs.Borrowed.{due}
 
 -- what the kernel says and what its history says, after a call; nothing where the task does not exist
-abbrev pub shownIn : TaskSlot → State → List Moment → List ℕ
+abbrev pub shownIn : TaskSlot → State → List (Moment CallMade) → List ℕ
 shownIn t k past = if exists k t then level (k .tasks) t ∷ due k past t ∷ [] else []
 
--- every call with an empty item and a store of zeros
-abbrev pub plain : Call → Made
-plain c = record { call = c; item = []; store = replicate 9216 0 }
+-- moment after moment, each with its past
+unfoldable pub shownAfter : TaskSlot → List (Moment CallMade) → List (Moment CallMade) → List (List ℕ)
+shownAfter t past [] = []
+shownAfter t past (m ∷ ms) = shownIn t (m .gave .kernel) (m ∷ past) ∷ shownAfter t (m ∷ past) ms
 
-unfoldable pub shownFrom : TaskSlot → State → List Moment → List Call → List (List ℕ)
-shownFrom t k past [] = []
-shownFrom t k past (c ∷ cs) =
-    let n = momentOf k (plain c) in shownIn t (n .after) (n ∷ past) ∷ shownFrom t (n .after) (n ∷ past) cs
+-- a call with an empty item and a store of zeros
+abbrev pub bare : Call → CallMade
+bare c = record { call = c; item = []; store = replicate 9216 0 }
 
 pub record Tale : Type 0 where
   pub task : TaskSlot
   pub calls : List Call
   pub expected : List (List ℕ)
 
-abbrev pub shown : Tale → List (List ℕ)
-shown w = shownFrom (w .task) fresh [] (w .calls)
+-- from the fresh kernel
+abbrev pub shownBy : Tale → List (List ℕ)
+shownBy w = shownAfter (w .task) [] (trace stepMade fresh [] (map bare (w .calls)))
 
 -- kernel and history agree; there is no such task
 abbrev pub both : ℕ → List ℕ

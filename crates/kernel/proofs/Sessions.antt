@@ -6,7 +6,7 @@ use mathlib.Core.List.{List, [], _∷_, _++_}
 use native.Mathlib.Omega.{arith}
 use lib.Dec.{eqb, ltb}
 use lib.ListN.{length, set, take, drop, length-append, length-set}
-use lib.Seq.{sets-eq}
+use lib.Seq.{sets-eq, take-length}
 use borrow.Author.Tests.{lt-ltb, le-ltb, ltb-true, ltb-false}
 use Rattle.lists.proofs.Bools.{or-off}
 use Rattle.lists.specs.Choice.{if_then_else_}
@@ -34,7 +34,7 @@ use Rattle.rules.specs.State.{State}
 use Rattle.rules.specs.Sound.{sound}
 use Rattle.rules.specs.Refusals.{laterRow, refusal}
 use Rattle.rules.specs.Step.{Stepped, turnedAway, steppedBy, step}
-use Rattle.rules.specs.Session.{noLine, stepTold, stepRead, readCut, lineStep, Run, told, answeredBy, fed, noRoom, run, begun, closed}
+use Rattle.rules.specs.Session.{noLine, stepTold, stepRead, readLine, readCut, lineStep, Run, told, answeredBy, fed, noRoom, run, begun, closed}
 use Rattle.rules.proofs.Every.{step-kept}
 use Rattle.kernel.specs.Types.{Kernel, Step, Served}
 use Rattle.kernel.specs.Stands.{kernelOf, shown, standing}
@@ -49,13 +49,26 @@ empty-line : noCall ≡ readOf []
 unfolding readOf shapeOf
 empty-line = refl
 
-pub whole-cut : (bytes : List ℕ) (n m : ℕ) (r : Read) → m ≡ (if ltb 256 n then 0 else n) → ReadsAs (take m bytes) r → (r ≡ readCut (cutOf bytes n)) × (r .len ≤ 64)
-unfolding readCut
-whole-cut bytes n m r e f = (read-is (take m bytes) r f ∙ go (ltb 256 n) e, len-within (take m bytes) r f)
+-- of n bytes all are read, or none, if they are too many
+read-whole : (bytes : List ℕ) (n m : ℕ) (r : Read) → m ≡ (if ltb 256 n then 0 else n) → ReadsAs (take m bytes) r
+    → (r ≡ (if ltb 256 n then noCall else readOf (take n bytes))) × (r .len ≤ 64)
+read-whole bytes n m r e f = (read-is (take m bytes) r f ∙ go (ltb 256 n) e, len-within (take m bytes) r f)
   where
     go : (b : Bool) → m ≡ (if b then 0 else n) → readOf (take m bytes) ≡ (if b then noCall else readOf (take n bytes))
     go true q = ap (λ (i : ℕ). readOf (take i bytes)) q ∙ sym empty-line
     go false q = ap (λ (i : ℕ). readOf (take i bytes)) q
+
+pub whole-cut : (bytes : List ℕ) (n m : ℕ) (r : Read) → m ≡ (if ltb 256 n then 0 else n) → ReadsAs (take m bytes) r
+    → (r ≡ readCut (cutOf bytes n)) × (r .len ≤ 64)
+unfolding readCut
+whole-cut bytes n m r e f = read-whole bytes n m r e f
+
+pub whole-line : (l : List ℕ) (m : ℕ) (r : Read) → m ≡ (if ltb 256 (length l) then 0 else length l) → ReadsAs (take m l) r
+    → (r ≡ readLine l) × (r .len ≤ 64)
+unfolding readLine
+whole-line l m r e f =
+    let h = read-whole l (length l) m r e f in
+    (h .0 ∙ ap (λ (x : List ℕ). if ltb 256 (length l) then noCall else readOf x) (take-length l), h .1)
 
 -- ---- a line's step
 
@@ -367,7 +380,8 @@ module _ (k : Kernel) (s : List ℕ) (c : Cut) (lent : List ℕ) where
   pub none-left : (empty b : Bool) → empty ≡ isEmpty c → b ≡ (empty || ltb (length lent) 256) → b ≡ true
       → Ran k (closed (length lent) (shown k) s c) lent record { session = record { kernel = k; cut = c }; taken = 0; written = 0 } s lent
   none-left empty b e f g =
-      subst (λ (x : Run). Ran k x lent record { session = record { kernel = k; cut = c }; taken = 0; written = 0 } s lent) (sym (closed-by empty b e f ∙ ap (λ (t : Bool). if t then begun (shown k) s c else told-end) g))
+      subst (λ (x : Run). Ran k x lent record { session = record { kernel = k; cut = c }; taken = 0; written = 0 } s lent)
+      (sym (closed-by empty b e f ∙ ap (λ (t : Bool). if t then begun (shown k) s c else told-end) g))
       record { kernel = refl; cut = refl; taken = refl; written = refl; store = refl; output = refl }
 
   -- the line without a newline is answered
@@ -381,5 +395,6 @@ module _ (k : Kernel) (s : List ℕ) (c : Cut) (lent : List ℕ) where
       let x = first-text w (omega (arith, reply-short (NotDone m) (taskNo (k .running)))) in
       subst (λ (x : Run). Ran k x lent record { session = record { kernel = k; cut = cutOf (c .bytes) 0 }; taken = 0; written = next } s out)
       (ap (λ (u : TaskSlot). record { taken = 0; kernel = shown k; store = s; cut = ended c; answers = replyOf (NotDone m) (taskNo u) }) (sym (shown-running k))
-      ∙ ap (λ (j : ℕ). record { taken = 0; kernel = shown k; store = s; cut = ended c; answers = told (turnedAway (shown k) j s) }) no ∙ sym (closed-by empty b e f ∙ ap (λ (t : Bool). if t then begun (shown k) s c else told-end) g))
+      ∙ ap (λ (j : ℕ). record { taken = 0; kernel = shown k; store = s; cut = ended c; answers = told (turnedAway (shown k) j s) }) no
+      ∙ sym (closed-by empty b e f ∙ ap (λ (t : Bool). if t then begun (shown k) s c else told-end) g))
       record { kernel = refl; cut = refl; taken = refl; written = x .0; store = refl; output = x .1 }

@@ -10,7 +10,7 @@ use Rattle.cuts.specs.Keeping.{noByte}
 use Rattle.rules.specs.Tables.{fresh}
 use Rattle.rules.specs.Refusals.{laterRow}
 use Rattle.rules.specs.Step.{Stepped, steppedBy, step}
-use Rattle.rules.specs.Session.{Run, run, begun, closed}
+use Rattle.rules.specs.Session.{stepOfLine, Run, run, begun, closed}
 use Rattle.kernel.specs.Types.{Kernel, Step, Session, Served}
 use Rattle.kernel.specs.Stands.{kernelOf, shown, standing}
 
@@ -27,6 +27,10 @@ SoundSteps k a item s r after = Is k (steppedBy (laterRow (shown k) a (length it
 -- the step of any kernel value
 abbrev pub Steps : Kernel → Call → List ℕ → List ℕ → Step → List ℕ → Type 0
 Steps k c item s r after = Is k (step (shown k) c item s) r after
+
+-- the step of a line, whatever its bytes and their number
+abbrev pub ReadsAndSteps : Kernel → List ℕ → List ℕ → Step → List ℕ → Type 0
+ReadsAndSteps k line s r after = Is k (stepOfLine (shown k) s line) r after
 
 -- what was served, with the kernel value k, the store s and the lent output o afterwards, is the session's run: the answers stand first in the output,
 -- and its other bytes stay

@@ -1,4 +1,5 @@
-// A session: bytes come in blocks, cut anywhere, and each line that ends among them is answered. Soundness is tested once a block; a step keeps it.
+// A line read and stepped; and a session: bytes come in blocks, cut anywhere, and each line that ends among them is answered.
+// Soundness is tested once a block; a step keeps it.
 ghost use mathlib.Core.Path.{_≡_};
 ghost use Prim.Native.Nat.{_≤_};
 ghost use lib.Dec.{ltb};
@@ -8,7 +9,7 @@ ghost use Rattle.rules.specs.Sound.{sound};
 ghost use Rattle.rules.specs.Session.{stepRead};
 ghost use Rattle.kernel.specs.Stands.{kernelOf, shown};
 ghost use Rattle.kernel.specs.Serving.{beforeCall, callIn};
-ghost use Rattle.kernel.specs.Promises.{Is, Answers, Closes, newSession};
+ghost use Rattle.kernel.specs.Promises.{Is, ReadsAndSteps, Answers, Closes, newSession};
 use crate::Kernel;
 use crate::Served;
 use crate::Session;
@@ -26,7 +27,7 @@ use journal::read_call;
 
 // How many of a line's bytes are read: all of them, or none, if it is too long. (No call's line is empty.)
 fn whole(len: usize) -> usize
-    ensures { λ r. ⌜ (r ≡ if ltb 256 len then 0 else len) × (r ≤ 256) ⌝ }
+    ensures { λ r. ⌜ (r ≡ if ltb 256 len then 0 else len) × (r ≤ 256) × (r ≤ len) ⌝ }
 {
     if 256 < len { 0 } else { len }
 }
@@ -71,6 +72,15 @@ impl Kernel {
         let item = line.item;
         let n = line.len;
         self.step_sound(call_in(says), &item[..n], store)
+    }
+
+    // The step of a line: any bytes, of whatever length.
+    pub fn step_line(self, line: &[u8], store: &mut [u8]) -> Step
+        ensures { λ r. ⌜ ReadsAndSteps self (now (line .entry)) (now (store .entry)) r (now (store .exit)) ⌝ }
+    {
+        let n = whole(line.len());
+        let read = read_call(&line[..n]);
+        self.line_step(self.sound(), read, store)
     }
 }
 

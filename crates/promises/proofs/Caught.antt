@@ -10,17 +10,18 @@ use Rattle.order.specs.Order.{ordered, without}
 use Rattle.order.specs.Tidy.{count, tidy}
 use Rattle.items.specs.Bytes.{putAt}
 use Rattle.promises.specs.Types.{Call, State}
-use Rattle.promises.specs.Cases.{Seen}
-use Rattle.promises.specs.Wrong.{Stepping, stepOf, stepBy, Numbers, turnsAllAway, alwaysDone, changesNothing, madeUp, Wrong, after, showsBy}
-use Rattle.promises.specs.Wrong.{ofWord, sameNumber, sameList, sameSeen, Verdict, found, told, idlePrograms, easyMistakes, wrongs}
+use Rattle.promises.specs.Cases.{View}
+use Rattle.promises.specs.Wrong.{Stepping, stepOf, stepBy, Numbers, turnsAllAway, alwaysDone, changesNothing, madeUp, Wrong, showsBy, ofWord, sameNumber, sameList, sameView}
+use Rattle.promises.specs.Wrong.{Verdict, found, verdict, idlePrograms, easyMistakes, wrongs}
 use Rattle.rules.specs.Effects.{created, deleted, suspended, resumed, yielded, delayed, queueMade, mutexMade, removed, taken, handedOn, given, effect}
 use Rattle.rules.specs.Items.{itemAt, outlet, sent, storeSent, received, storeReceived}
 use Rattle.rules.specs.Lines.{line, those, highest, leader, first, chosen, toTail, toHead, leaves}
 use Rattle.rules.specs.Loans.{moved, movedIf, prioritized, newPriority, lent, ownAgain}
-use Rattle.rules.specs.Refusals.{outOfRange, namesNone, wrongSize, notForIdle, notWithHold, noSlot, heldOrWaited, inUse, notHis}
-use Rattle.rules.specs.Refusals.{hisAlready, notSuspended, mustWait, noDepth, noTick, table, laterRow, refusal}
+use Rattle.rules.specs.Refusals.{outOfRange, namesNone, wrongSize, notForIdle, notWithHold, noSlot, heldOrWaited, inUse, notHis, hisAlready, notSuspended, mustWait, noDepth}
+use Rattle.rules.specs.Refusals.{noTick, table, laterRow, refusal}
 use Rattle.rules.specs.Sound.{tablesFine, levelsFine, listingFine, clockFine, noHigher, runsFine, sound}
 use Rattle.rules.specs.Step.{stored, answered, accepted, step}
+use Rattle.rules.specs.Trace.{trace}
 use Rattle.slots.specs.Tasks.{taskAt}
 use Rattle.slots.specs.Objects.{kindAt}
 use Rattle.rules.specs.Tables.{fresh, holds, freeSlot, freeObject}
@@ -33,13 +34,13 @@ pub frame : (k : State) (c : Call) (i s : List ℕ) → stepOf refusal effect ch
 unfolding stepOf step accepted
 frame k c i s = refl
 
-pub caught : (number : Numbers) (n : ℕ) → map found (wrongs number n) ≡ map told (wrongs number n)
-unfolding wrongs idlePrograms easyMistakes stepOf turnsAllAway alwaysDone changesNothing after showsBy sameNumber sameList sameSeen every allBelow foldl upTo index any kept asked
-    ordered without count tidy putAt created deleted suspended resumed yielded delayed queueMade mutexMade removed taken handedOn given effect itemAt outlet sent storeSent received
-    storeReceived line those highest leader first chosen toTail toHead leaves moved movedIf prioritized newPriority lent ownAgain outOfRange namesNone wrongSize notForIdle
-    notWithHold noSlot heldOrWaited inUse notHis hisAlready notSuspended mustWait noDepth noTick table laterRow refusal noHigher runsFine tablesFine levelsFine listingFine
-    clockFine sound stored answered accepted step fresh taskAt kindAt holds freeSlot freeObject wokenIfDue wakes byNumber oneTick turned ticked ticks released held readied blocked
-    waitFor
+pub caught : (number : Numbers) (n : ℕ) → map found (wrongs number n) ≡ map verdict (wrongs number n)
+unfolding wrongs idlePrograms easyMistakes stepOf turnsAllAway alwaysDone changesNothing trace showsBy sameNumber sameList sameView every allBelow
+    foldl upTo index any kept asked ordered without count tidy putAt created deleted suspended resumed yielded delayed queueMade mutexMade
+    removed taken handedOn given effect itemAt outlet sent storeSent received storeReceived line those highest leader first chosen toTail toHead
+    leaves moved movedIf prioritized newPriority lent ownAgain outOfRange namesNone wrongSize notForIdle notWithHold noSlot heldOrWaited inUse
+    notHis hisAlready notSuspended mustWait noDepth noTick table laterRow refusal noHigher runsFine tablesFine levelsFine listingFine clockFine sound stored answered accepted step fresh
+    taskAt kindAt holds freeSlot freeObject wokenIfDue wakes byNumber oneTick turned ticked ticks released held readied blocked waitFor
 caught number n = refl
 
 same-number : (n : ℕ) → sameNumber n n ≡ true
@@ -52,23 +53,23 @@ unfolding sameList
 same-list [] = refl
 same-list (x ∷ xs) = rw (same-number x, same-list xs)
 
-same-seen : (x : Seen) → sameSeen x x ≡ true
-unfolding sameSeen
-same-seen x = rw (same-number (ofWord (x .answer .word)), same-number (x .answer .number), same-number (x .running), same-list (x .looked))
+same-view : (x : View) → sameView x x ≡ true
+unfolding sameView
+same-view x = rw (same-number (ofWord (x .answer .word)), same-number (x .answer .number), same-number (x .running), same-list (x .looked))
 
--- where all that is told of a wrong step is found, it is not the step
-not-the-step : (w : Wrong) → found w ≡ told w → w .step ≡ step → ⊥
+-- where all that is said of a wrong step is found, it is not the step
+not-the-step : (w : Wrong) → found w ≡ verdict w → w .step ≡ step → ⊥
 not-the-step w h e =
     let shown : w .wrong ≡ w .right = sym (ap (λ (v : Verdict). v .wrong) h) ∙ (ap (λ (f : Stepping). showsBy f w) e ∙ ap (λ (v : Verdict). v .right) h) in
-    let apart : not (sameSeen (w .right) (w .wrong)) ≡ true = ap (λ (v : Verdict). v .apart) h in
-    false≢true (ap not (sym (same-seen (w .right))) ∙ rw shown at apart)
+    let apart : not (sameView (w .right) (w .wrong)) ≡ true = ap (λ (v : Verdict). v .apart) h in
+    false≢true (ap not (sym (same-view (w .right))) ∙ rw shown at apart)
 
 -- so it is with each of a list
-none-of : (ws : List Wrong) → map found ws ≡ map told ws → (w : Wrong) → List·Memᴰ w ws → w .step ≡ step → ⊥
+none-of : (ws : List Wrong) → map found ws ≡ map verdict ws → (w : Wrong) → List·Memᴰ w ws → w .step ≡ step → ⊥
 none-of [] h w m = absurd (List·Memᴰ·not-nil m)
 none-of (x ∷ ws) h w m =
-    let front : found x ≡ told x = cc in
-    let rest : map found ws ≡ map told ws = cc in
+    let front : found x ≡ verdict x = cc in
+    let rest : map found ws ≡ map verdict ws = cc in
     ⊎-elim (λ e. not-the-step w (rw e front)) (λ n. none-of ws rest w n) (List·Memᴰ·cases-cons m)
 
 pub none-is-the-step : (number : Numbers) (n : ℕ) (w : Wrong) → List·Memᴰ w (wrongs number n) → w .step ≡ step → ⊥

@@ -26,11 +26,13 @@ use Rattle.rules.specs.Items.{oneLess, sentBy, sent, sentTo, refilledBy, receiv
 use Rattle.rules.specs.Effects.{created, deleted, suspended, resumed, yielded, delayed, queueMade, mutexMade, removed, takenFrom, taken, handedTo, handedOn, given, effect}
 use Rattle.rules.specs.Refusals.{refusal}
 use Rattle.rules.specs.Step.{accepted, turnedAway, step}
+use Rattle.rules.specs.Trace.{momentOf, trace, stateAfter, CallMade, stepMade}
 use Rattle.rules.proofs.Within.{by-outlet}
 use Rattle.rules.proofs.Blocks.{prioritized-same}
-use Rattle.promises.specs.Types.{TaskSlot, ObjSlot, Call, Create, Delete, Suspend, Resume, SetPriority, Delay, Yield, Hold, Release, MakeQueue, MakeMutex, Remove, Send, Receive, Take, Give, Tick, Delayed, AllReady, WaitersOf, Nobody, By, Kind, Unused, Queue, Mutex, State}
-use Rattle.promises.specs.History.{Made, after, reached}
-use Rattle.promises.specs.Depth.{deeper, isAccepted, depth}
+use Rattle.promises.specs.Types.{TaskSlot, ObjSlot, Call, Create, Delete, Suspend, Resume, SetPriority, Delay, Yield, Hold, Release, MakeQueue, MakeMutex, Remove, Send}
+use Rattle.promises.specs.Types.{Receive, Take, Give, Tick, Delayed, AllReady, WaitersOf, Nobody, By, Kind, Unused, Queue, Mutex, State}
+use Rattle.promises.specs.History.{reached}
+use Rattle.promises.specs.Depth.{deeper, isAccepted, depthAt, depth}
 
 -- ── what leaves the depth as it was
 woken-hold : (k : State) (t : TaskSlot) → wokenIfDue k t .hold ≡ k .hold
@@ -162,24 +164,26 @@ module _ (k : State) where
       go false l = refl
 
 -- ── one step: an accepted hold is one deeper, an accepted release one less, and nothing else changes the depth
-pub step-depth : (k : State) (m : Made) → step k (m .call) (m .item) (m .store) .kernel .hold ≡ (if isAccepted k m then deeper (asked (m .call)) (k .hold) else k .hold)
+pub step-depth : (k : State) (s : List ℕ) (m : CallMade) → stepMade k s m .kernel .hold ≡ depthAt (k .hold) (momentOf stepMade k s m)
 unfolding step accepted
-step-depth k m = go (isAccepted k m)
+step-depth k s m = go (isAccepted k m)
   where
     no : ℕ
     no = refusal k (asked (m .call)) (length (m .item)) (length (m .store))
 
-    go : (b : Bool) → (if b then accepted k (asked (m .call)) (m .item) (m .store) else turnedAway k no (m .store)) .kernel .hold ≡ (if b then deeper (asked (m .call)) (k .hold) else k .hold)
+    go : (b : Bool) → (if b then accepted k (asked (m .call)) (m .item) (m .store) else turnedAway k no (m .store)) .kernel .hold
+        ≡ (if b then deeper (asked (m .call)) (k .hold) else k .hold)
     go true = chosen-hold (effect k (asked (m .call))) ∙ effect-hold k (m .call)
     go false = refl
 
-after-depth : (k : State) (n : ℕ) (ms : List Made) → k .hold ≡ n → after k ms .hold ≡ depth k n ms
-unfolding after depth
-after-depth k n [] e = e
-after-depth k n (m ∷ ms) e =
-    after-depth (step k (m .call) (m .item) (m .store) .kernel) _ ms (step-depth k m ∙ ap (λ (d : ℕ). if isAccepted k m then deeper (asked (m .call)) d else d) e)
+run-depth : (k : State) (n : ℕ) (s : List ℕ) (ms : List CallMade) → k .hold ≡ n
+    → stateAfter k (trace stepMade k s ms) .hold ≡ foldl depthAt n (trace stepMade k s ms)
+unfolding foldl trace
+run-depth k n s [] e = e
+run-depth k n s (m ∷ ms) e =
+    run-depth (stepMade k s m .kernel) _ (stepMade k s m .store) ms (step-depth k s m ∙ ap (λ (d : ℕ). depthAt d (momentOf stepMade k s m)) e)
 
 -- after any calls from the fresh kernel
-pub depth-by-calls : (ms : List Made) → reached ms .hold ≡ depth fresh 0 ms
+pub depth-by-calls : (ms : List CallMade) → reached ms .hold ≡ depth ms
 unfolding fresh
-depth-by-calls ms = after-depth fresh 0 ms refl
+depth-by-calls ms = run-depth fresh 0 [] ms refl

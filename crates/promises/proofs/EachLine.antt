@@ -7,19 +7,20 @@ use native.Mathlib.Omega.{arith}
 use lib.Dec.{eqb, ltb}
 use lib.ListN.{length, take}
 use borrow.Author.Tests.{ne-eqb}
-use Rattle.lists.specs.Lists.{index}
+use Rattle.lists.specs.Lists.{foldl, index}
 use Rattle.calls.specs.declared.Call.{Call}
 use Rattle.calls.specs.Door.{taskNo}
 use Rattle.journal.specs.declared.Reading.{Reading}
 use Rattle.journal.specs.declared.Reading.the-variants.{Says, Refused}
-use Rattle.journal.specs.Steps.{readOf}
+use Rattle.journal.specs.Steps.{readOf, noCall}
 use Rattle.journal.proofs.Newlines.{Ended, reply-ended}
 use Rattle.rules.specs.State.{State}
 use Rattle.rules.specs.Sound.{sound}
 use Rattle.rules.specs.Refusals.{table, laterRow, refusal}
 use Rattle.rules.specs.Step.{Stepped, turnedAway, step}
-use Rattle.rules.specs.Session.{noLine, stepTold, told}
-use Rattle.promises.specs.Program.{linesOf, stepOfLine, Answered, answering, answersTo, newlines, allRefused}
+use Rattle.rules.specs.Session.{noLine, stepTold, told, readLine, stepOfLine}
+use Rattle.rules.specs.Trace.{trace}
+use Rattle.promises.specs.Program.{linesOf, Answered, answering, answersTo, newlines, allRefused}
 use Rattle.promises.proofs.LineForLine.{first-line}
 
 -- ---- one answer line for each line
@@ -30,12 +31,12 @@ told-ended d = reply-ended (d .answer) (taskNo (d .kernel .running))
 -- the first line written is the first line's answer
 pub next-answer : (k : State) (s l : List ℕ) (ls : List (List ℕ))
     → linesOf (answering k s (l ∷ ls) .answers) ≡ told (stepOfLine k s l) ∷ linesOf (answering (stepOfLine k s l .kernel) (stepOfLine k s l .store) ls .answers)
-unfolding answering
+unfolding answering trace flatten
 next-answer k s l ls = first-line (told (stepOfLine k s l)) _ (told-ended (stepOfLine k s l))
 
 -- as many lines are written as lines came
 pub as-many-lines : (k : State) (s : List ℕ) (ls : List (List ℕ)) → length (linesOf (answering k s ls .answers)) ≡ length ls
-unfolding answering linesOf
+unfolding answering trace flatten linesOf
 as-many-lines k s [] = refl
 as-many-lines k s (l ∷ ls) = ap length (next-answer k s l ls) ∙ ap suc (as-many-lines (stepOfLine k s l .kernel) (stepOfLine k s l .store) ls)
 
@@ -55,7 +56,7 @@ one-newline (x ∷ l) m e = go (eqb x 10) refl e (one-newline l m)
 
 -- and each of them is ended by its newline
 pub as-many-newlines : (k : State) (s : List ℕ) (ls : List (List ℕ)) → newlines (answering k s ls .answers) ≡ length ls
-unfolding answering newlines
+unfolding answering trace flatten newlines
 as-many-newlines k s [] = refl
 as-many-newlines k s (l ∷ ls) =
     one-newline (told (stepOfLine k s l)) _ (told-ended (stepOfLine k s l))
@@ -69,14 +70,14 @@ one-answer-each input = as-many-newlines _ _ (linesOf input)
 
 module _ (k : State) (s : List ℕ) (n : ℕ) where
   refused-lines : ((l : List ℕ) → stepOfLine k s l ≡ turnedAway k n s) → (ls : List (List ℕ)) → answering k s ls ≡ allRefused k s n (length ls)
-  unfolding answering flatten
+  unfolding answering trace foldl flatten
   refused-lines f [] = refl
   refused-lines f (l ∷ ls) =
       ap (λ (d : Stepped). let r = answering (d .kernel) (d .store) ls in record { kernel = r .kernel; store = r .store; answers = told d ++ r .answers }) (f l)
       ∙ ap (λ (r : Answered). record { kernel = r .kernel; store = r .store; answers = told (turnedAway k n s) ++ r .answers }) (refused-lines f ls)
 
   refused-step : ((c : Call) (item : List ℕ) → step k c item s ≡ turnedAway k n s) → noLine k s ≡ n → (l : List ℕ) → stepOfLine k s l ≡ turnedAway k n s
-  unfolding stepOfLine
+  unfolding stepOfLine readLine noCall
   refused-step f e l = go (ltb 256 (length l)) refl
     where
       none : turnedAway k (noLine k s) s ≡ turnedAway k n s

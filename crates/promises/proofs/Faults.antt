@@ -18,6 +18,7 @@ use Rattle.rules.specs.Sentences.{Holds, Exists, MayWait, receiver, sender, tak
 use Rattle.rules.specs.Loans.{prioritized, newPriority}
 use Rattle.rules.specs.Effects.{effect}
 use Rattle.rules.specs.Step.{accepted, step}
+use Rattle.rules.specs.Trace.{CallMade}
 use Rattle.rules.proofs.Chosen.{chosen-tasks}
 use Rattle.rules.proofs.Held.{some-holds}
 use Rattle.rules.proofs.Says.{sound-says}
@@ -25,12 +26,12 @@ use Rattle.rules.proofs.Slotted.{at-same}
 use Rattle.rules.proofs.Blocks.{prioritized-tasks}
 use Rattle.rules.proofs.Keeps.{exists-low}
 use Rattle.promises.specs.Types.{TaskSlot, ObjSlot, SetPriority, Wake, Ready, Waiting, Kind, Unused, State}
-use Rattle.promises.specs.History.{Made, reached}
+use Rattle.promises.specs.History.{reached}
 use Rattle.promises.specs.Depth.{isAccepted, depth}
 use Rattle.promises.proofs.Histories.{exists-there, reached-sound}
 use Rattle.promises.proofs.Depths.{depth-by-calls}
 
-module _ (ms : List Made) where
+module _ (ms : List CallMade) where
   abbrev k : State
   k = reached ms
 
@@ -46,7 +47,7 @@ module _ (ms : List Made) where
   holder-stays = S .tables .holders
 
   -- the hold's count overflowing: it is the number of accepted holds less the accepted releases, which stays within its range; so it never comes round to 0
-  pub hold-counts : (k .hold ≡ depth fresh 0 ms) × (depth fresh 0 ms ≤ 255)
+  pub hold-counts : (k .hold ≡ depth ms) × (depth ms ≤ 255)
   hold-counts = (depth-by-calls ms, omega (arith, depth-by-calls ms, S .clock .counts .hold-range))
 
   -- an object in use removed: whoever waits, waits on an object that is there

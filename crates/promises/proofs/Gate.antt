@@ -10,22 +10,24 @@ use Rattle.rules.specs.Effects.{created, deleted, suspended, resumed, yielded, 
 use Rattle.rules.specs.Items.{itemAt, outlet, sent, storeSent, received, storeReceived}
 use Rattle.rules.specs.Lines.{line, those, highest, leader, first, chosen, toTail, toHead, leaves}
 use Rattle.rules.specs.Loans.{moved, movedIf, prioritized, newPriority, lent, ownAgain}
-use Rattle.rules.specs.Refusals.{outOfRange, namesNone, wrongSize, notForIdle, notWithHold, noSlot, heldOrWaited, inUse, notHis}
-use Rattle.rules.specs.Refusals.{hisAlready, notSuspended, mustWait, noDepth, noTick, table, laterRow, refusal}
+use Rattle.rules.specs.Refusals.{outOfRange, namesNone, wrongSize, notForIdle, notWithHold, noSlot, heldOrWaited, inUse, notHis, hisAlready, notSuspended, mustWait, noDepth}
+use Rattle.rules.specs.Refusals.{noTick, table, laterRow, refusal}
 use Rattle.rules.specs.Sound.{tablesFine, levelsFine, listingFine, clockFine, noHigher, runsFine, sound}
 use Rattle.rules.specs.Step.{stored, answered, accepted, step}
+use Rattle.rules.specs.Trace.{trace}
 use Rattle.slots.specs.Tasks.{taskAt}
 use Rattle.slots.specs.Objects.{kindAt}
 use Rattle.rules.specs.Tables.{fresh, holds, freeSlot, freeObject}
 use Rattle.numbers.specs.Numbers.{byNumber}
 use Rattle.rules.specs.Ticks.{wokenIfDue, wakes, oneTick, turned, ticked, ticks, released, held}
 use Rattle.rules.specs.Waits.{readied, blocked, waitFor}
-use Rattle.promises.specs.Cases.{Case, run, ran, p1, p2, p3, p4, p5, p6, p7, p8, p9, p10, p11, p12, cases}
+use Rattle.promises.specs.Cases.{Case, ran, p1, p2, p3, p4, p5, p6, p7, p8, p9, p10, p11, p12, cases}
 
 pub both-sides-of-the-gate : map ran cases ≡ map (λ (c : Case). c .expected) cases
-unfolding cases p1 p2 p3 p4 p5 p6 p7 p8 p9 p10 p11 p12 run every allBelow foldl upTo index any kept asked ordered without count tidy putAt created deleted suspended resumed yielded
-    delayed queueMade mutexMade removed taken handedOn given effect itemAt outlet sent storeSent received storeReceived line those highest leader first chosen toTail toHead leaves
-    moved movedIf prioritized newPriority lent ownAgain outOfRange namesNone wrongSize notForIdle notWithHold noSlot heldOrWaited inUse notHis hisAlready notSuspended mustWait
-    noDepth noTick table laterRow refusal noHigher runsFine tablesFine levelsFine listingFine clockFine sound stored answered accepted step fresh taskAt kindAt holds freeSlot
-    freeObject wokenIfDue wakes byNumber oneTick turned ticked ticks released held readied blocked waitFor
+unfolding cases p1 p2 p3 p4 p5 p6 p7 p8 p9 p10 p11 p12 trace every allBelow foldl upTo index any kept asked ordered without count tidy putAt created
+    deleted suspended resumed yielded delayed queueMade mutexMade removed taken handedOn given effect itemAt outlet sent storeSent received
+    storeReceived line those highest leader first chosen toTail toHead leaves moved movedIf prioritized newPriority lent ownAgain outOfRange
+    namesNone wrongSize notForIdle notWithHold noSlot heldOrWaited inUse notHis hisAlready notSuspended mustWait noDepth noTick table laterRow
+    refusal noHigher runsFine tablesFine levelsFine listingFine clockFine sound stored answered accepted step fresh taskAt kindAt holds freeSlot freeObject wokenIfDue wakes byNumber
+    oneTick turned ticked ticks released held readied blocked waitFor
 both-sides-of-the-gate = refl

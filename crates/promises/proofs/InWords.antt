@@ -2,16 +2,18 @@
 use Prim.Native.Nat.{ℕ}
 use mathlib.Core.Path.{_≡_, refl, sym, ap, subst, _∙_}
 use mathlib.Core.Logic.{⊎-elim}
-use mathlib.Core.List.{List, [], _∷_, _++_}
+use mathlib.Core.List.{List, [], _∷_, _++_, flatten}
 use lib.ListN.{replicate}
+use Rattle.lists.specs.Lists.{foldl}
 use Rattle.journal.specs.Promise.{IsLine, NoLine}
 use Rattle.journal.specs.Steps.{readOf}
 use Rattle.journal.proofs.Promised.{reads-as}
 use Rattle.rules.specs.Tables.{fresh}
 use Rattle.rules.specs.Step.{Stepped}
-use Rattle.rules.specs.Session.{told}
+use Rattle.rules.specs.Session.{told, stepOfLine}
+use Rattle.rules.specs.Trace.{trace}
 use Rattle.promises.specs.Types.{State}
-use Rattle.promises.specs.Program.{linesOf, stepOfLine, Answered, answering, program}
+use Rattle.promises.specs.Program.{linesOf, Answered, answering, program}
 use Rattle.promises.specs.ByLines.{LineSteps, aCall, noCall, LinesAnswered, nothing, line, ProgramAnswers}
 use Rattle.promises.proofs.LineSteps.{call-line, no-call-line}
 
@@ -30,12 +32,12 @@ module _ (k : State) (s l : List ℕ) where
   one-line-step (noCall n) = sym (no-call-line k s l n)
 
 pub lines-answered : (k : State) (s : List ℕ) (ls : List (List ℕ)) → LinesAnswered k s ls (answering k s ls)
-unfolding answering
+unfolding answering foldl trace flatten
 lines-answered k s [] = nothing
 lines-answered k s (l ∷ ls) = line (line-steps k s l) (lines-answered (stepOfLine k s l .kernel) (stepOfLine k s l .store) ls)
 
 pub one-answering : {k : State} {s : List ℕ} {ls : List (List ℕ)} {r : Answered} → LinesAnswered k s ls r → r ≡ answering k s ls
-unfolding answering
+unfolding answering foldl trace flatten
 one-answering nothing = refl
 one-answering (line {k} {s} {l} {ls} {d} {r} f g) =
     ap (λ (x : Answered). record { kernel = x .kernel; store = x .store; answers = told d ++ x .answers }) (one-answering g)

@@ -16,9 +16,10 @@ use Rattle.cuts.specs.declared.Cut.{Cut}
 use Rattle.cuts.specs.Keeping.{noByte, kept, ended, isEmpty}
 use Rattle.rules.specs.State.{State}
 use Rattle.rules.specs.Tables.{fresh}
-use Rattle.rules.specs.Session.{Run, noLine, lineStep, readCut, stepRead, told, answeredBy, fed, begun, closed}
+use Rattle.rules.specs.Session.{Run, noLine, lineStep, readCut, stepRead, told, readLine, stepOfLine, answeredBy, fed, begun, closed}
 use Rattle.rules.specs.Step.{Stepped, turnedAway}
-use Rattle.promises.specs.Program.{inFront, linesOf, stepOfLine, Answered, answering, program, answersTo}
+use Rattle.rules.specs.Trace.{trace}
+use Rattle.promises.specs.Program.{inFront, linesOf, Answered, answering, program, answersTo}
 use Rattle.promises.specs.Turns.{Turn, Pause, afterTurns, cameIn, afterEnd, opened, atStart, outcome, inOne}
 use Rattle.promises.proofs.AnyBlocks.{all-as-in-one}
 use Rattle.promises.proofs.LineSteps.{cut-line}
@@ -62,7 +63,7 @@ ended-holds h = record { size = h .size; len = refl; bytes = λ g. refl }
 
 -- the step of what is kept is that of the line
 line-held : {c : Cut} {p : List ℕ} → Holds c p → (k : State) (s : List ℕ) → lineStep k s c ≡ stepOfLine k s p
-unfolding lineStep readCut noCall stepOfLine
+unfolding lineStep readCut noCall readLine stepOfLine
 line-held {c} {p} h k s = go (ltb 256 (length p)) refl
   where
     go : (t : Bool) → ltb 256 (length p) ≡ t → lineStep k s c ≡ stepOfLine k s p
@@ -129,11 +130,11 @@ abbrev ending : ℕ → Run → Answered
 ending n r = let q = closed n (r .kernel) (r .store) (r .cut) in before (r .answers) record { kernel = q .kernel; store = q .store; answers = q .answers }
 
 none-cut : (n : ℕ) (r : Run) → Holds (r .cut) [] → ending n r ≡ before (r .answers) (answering (r .kernel) (r .store) (linesOf []))
-unfolding closed answering linesOf
+unfolding closed answering trace foldl linesOf flatten
 none-cut n r h = rw (eq-eqb (r .cut .len) 0 (h .len))
 
 one-cut : (n : ℕ) (r : Run) (p : List ℕ) → 256 ≤ n → 0 < length p → Holds (r .cut) p → Clear p → ending n r ≡ before (r .answers) (answering (r .kernel) (r .store) (linesOf p))
-unfolding closed answering
+unfolding closed answering trace foldl flatten
 one-cut n r p m e h c =
     let d = stepOfLine (r .kernel) (r .store) p in
     rw (ne-eqb (r .cut .len) 0 (λ z. absurd (omega (arith, h .len))), le-ltb n 256 m, last-line p c e)
@@ -155,7 +156,7 @@ one-ended b e = rw e
 
 -- a line's answer, and then those of the lines after it
 line-before : (k : State) (s a l : List ℕ) (ls : List (List ℕ)) → let d = stepOfLine k s l in before (a ++ told d) (answering (d .kernel) (d .store) ls) ≡ before a (answering k s (l ∷ ls))
-unfolding answering
+unfolding answering trace foldl flatten
 line-before k s a l ls =
     let d = stepOfLine k s l in
     let x = answering (d .kernel) (d .store) ls in
@@ -187,7 +188,8 @@ lines-fed n m (b ∷ input) r p h c = go (eqb b 10) refl (lines-fed n m input)
         ∙ ap (λ (ls : List (List ℕ)). before (r .answers) (answering (r .kernel) (r .store) ls)) lines
     go false e ih =
         ap (λ (z : Run). ending n (foldl fed z input)) (kept-byte r b e)
-        ∙ ih record { taken = r .taken + 1; kernel = r .kernel; store = r .store; cut = kept (r .cut) b; answers = r .answers } (p ++ (b ∷ [])) (kept-holds h b) (clear-append p (b ∷ []) c (one-clear b (eqb-false b 10 e)))
+        ∙ ih record { taken = r .taken + 1; kernel = r .kernel; store = r .store; cut = kept (r .cut) b; answers = r .answers }
+        (p ++ (b ∷ [])) (kept-holds h b) (clear-append p (b ∷ []) c (one-clear b (eqb-false b 10 e)))
         ∙ ap (λ (l : List ℕ). before (r .answers) (answering (r .kernel) (r .store) (linesOf l))) (append-snoc p b input)
 
 -- the end changes neither kernel nor store
@@ -244,5 +246,5 @@ session-is-the-program = session-answers-lines fresh (replicate 9216 0)
 
 -- nothing for empty input
 pub nothing-for-nothing : answersTo [] ≡ []
-unfolding linesOf answering
+unfolding linesOf answering trace flatten
 nothing-for-nothing = refl

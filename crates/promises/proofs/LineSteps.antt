@@ -18,19 +18,18 @@ use Rattle.journal.specs.declared.Reading.the-variants.{Refused}
 use Rattle.journal.specs.Line.{lineOf, HasLine}
 use Rattle.journal.specs.Told.{aCall, refusal, reads}
 use Rattle.journal.specs.Promise.{IsLine, NoLine}
-use Rattle.journal.specs.Steps.{says, readOf}
+use Rattle.journal.specs.Steps.{says, readOf, noCall}
 use Rattle.journal.proofs.Fit.{item-long}
 use Rattle.journal.proofs.Newlines.{isNewline, Clear, line-ended}
 use Rattle.journal.proofs.Promised.{line-read, reads-as}
 use Rattle.journal.proofs.Theorems.{one-reading, told-item, line-within}
 use Rattle.rules.specs.State.{State}
 use Rattle.rules.specs.Step.{turnedAway, step}
-use Rattle.rules.specs.Session.{noLine, stepTold, stepRead}
-use Rattle.promises.specs.Program.{stepOfLine}
+use Rattle.rules.specs.Session.{noLine, stepTold, stepRead, readLine, stepOfLine}
 
 -- the line of a call with an item
 pub call-line : (k : State) (s : List ℕ) (c : Call) (b : List ℕ) → HasLine c b → stepOfLine k s (lineOf c b) ≡ step k c b s
-unfolding stepOfLine
+unfolding stepOfLine readLine
 call-line k s c b h =
     let r = says c (filled b) (length b) in
     let item : take (length b) (filled b) ≡ b = told-item r (aCall (called c)) b record { answer = refl; bytes = refl; len = refl } (item-long c b h) in
@@ -42,7 +41,7 @@ refused-read k s r e = ap (λ (x : Reading). stepTold k s x (take (r .len) (r .i
 
 -- "3: the line is no call's line", after 1 and 2
 pub no-call-line : (k : State) (s l : List ℕ) → ((c : Call) (b : List ℕ) → HasLine c b → l ≡ lineOf c b → ⊥) → stepOfLine k s l ≡ turnedAway k (noLine k s) s
-unfolding stepOfLine
+unfolding stepOfLine readLine noCall
 no-call-line k s l none = go (ltb 256 (length l)) refl
   where
     go : (t : Bool) → ltb 256 (length l) ≡ t → stepOfLine k s l ≡ turnedAway k (noLine k s) s

@@ -1,52 +1,41 @@
 -- The program's kernel is one that calls reach, after every line of every input, however it is cut: so what holds after any calls holds of the program.
 use Prim.Native.Nat.{ℕ}
 use mathlib.Core.Path.{_≡_, refl, sym, ap, subst, _∙_}
-use mathlib.Core.Bool.{Bool, true, false}
-use mathlib.Core.List.{List, [], _∷_, _++_}
-use lib.Dec.{ltb}
-use lib.ListN.{length, take, replicate}
-use Rattle.lists.specs.Choice.{if_then_else_}
+use mathlib.Core.List.{List, [], _∷_, flatten}
+use lib.ListN.{take, replicate}
+use Rattle.lists.specs.Lists.{foldl}
 use Rattle.journal.specs.declared.Reading.{Reading}
 use Rattle.journal.specs.declared.Reading.the-variants.{Says, Refused}
-use Rattle.journal.specs.Steps.{readOf}
 use Rattle.rules.specs.State.{State}
 use Rattle.rules.specs.Tables.{fresh}
-use Rattle.rules.specs.Step.{turnedAway}
-use Rattle.rules.specs.Session.{noLine, stepTold, stepRead}
-use Rattle.promises.specs.History.{Made, after, reached, Placed}
-use Rattle.promises.specs.Program.{linesOf, stepOfLine, answering}
+use Rattle.rules.specs.Session.{stepTold, readLine, stepOfLine}
+use Rattle.rules.specs.Trace.{trace, stateAfter, stepMade}
+use Rattle.rules.proofs.Traces.{more-calls}
+use Rattle.promises.specs.History.{after, reached, Placed}
+use Rattle.promises.specs.Program.{linesOf, answering}
 use Rattle.promises.specs.Turns.{Turn, Pause, afterTurns, atStart}
 use Rattle.promises.specs.Reached.{saidCall, callOfLine, callsOf, programCalls, SoFar}
 use Rattle.promises.proofs.Histories.{after-any-calls}
 use Rattle.promises.proofs.AnyBlocks.{turns-through}
 use Rattle.promises.proofs.LineForLine.{fed-so-far}
 
-after-more : (k : State) (ms ns : List Made) → after k (ms ++ ns) ≡ after (after k ms) ns
-unfolding after
-after-more k [] ns = refl
-after-more k (m ∷ ms) ns = after-more _ ms ns
-
 -- a line: its call, or none
-line-reaches : (k : State) (s l : List ℕ) → stepOfLine k s l .kernel ≡ after k (callOfLine s l)
-unfolding stepOfLine callOfLine after
-line-reaches k s l = go (ltb 256 (length l))
+line-reaches : (k : State) (s l u : List ℕ) → stepOfLine k s l .kernel ≡ stateAfter k (trace stepMade k u (callOfLine s l))
+unfolding stepOfLine foldl trace
+line-reaches k s l u = read (readLine l .answer) (take (readLine l .len) (readLine l .item))
   where
-    read : (x : Reading) (item : List ℕ) → stepTold k s x item .kernel ≡ after k (saidCall s x item)
+    read : (x : Reading) (item : List ℕ) → stepTold k s x item .kernel ≡ stateAfter k (trace stepMade k u (saidCall s x item))
     read (Says c) item = refl
     read (Refused n) item = refl
 
-    go : (b : Bool) → (if b then turnedAway k (noLine k s) s else stepRead k s (readOf l)) .kernel ≡ after k (if b then [] else saidCall s (readOf l .answer) (take (readOf l .len) (readOf l .item)))
-    go true = refl
-    go false = read (readOf l .answer) (take (readOf l .len) (readOf l .item))
-
 lines-reach : (k : State) (s : List ℕ) (ls : List (List ℕ)) → answering k s ls .kernel ≡ after k (callsOf k s ls)
-unfolding answering callsOf after
+unfolding answering callsOf foldl trace flatten
 lines-reach k s [] = refl
 lines-reach k s (l ∷ ls) =
     let d = stepOfLine k s l in
     lines-reach (d .kernel) (d .store) ls
-    ∙ ap (λ (j : State). after j (callsOf (d .kernel) (d .store) ls)) (line-reaches k s l)
-    ∙ sym (after-more k (callOfLine s l) (callsOf (d .kernel) (d .store) ls))
+    ∙ ap (λ (j : State). after j (callsOf (d .kernel) (d .store) ls)) (line-reaches k s l [])
+    ∙ sym (more-calls k [] [] (callOfLine s l) (callsOf (d .kernel) (d .store) ls))
 
 -- after every line: whatever the lines so far, the program's kernel is reached by their calls
 pub program-reached : (ls : List (List ℕ)) → answering fresh (replicate 9216 0) ls .kernel ≡ reached (programCalls ls)

@@ -1,7 +1,7 @@
 -- P1 as bytes: what the program writes when document 01's session is typed, computed; and so in whatever blocks it is typed.
 use Prim.Native.Nat.{ℕ, _≤_}
 use mathlib.Core.Path.{_≡_, refl, ap, _∙_}
-use mathlib.Core.List.{List, []}
+use mathlib.Core.List.{List, [], flatten}
 use Rattle.lists.specs.Lists.{every, allBelow, foldl, upTo, index, any, kept}
 use Rattle.calls.specs.Asked.{asked}
 use Rattle.order.specs.Order.{ordered, without}
@@ -12,6 +12,8 @@ use Rattle.rules.specs.Loans.{moved, movedIf, prioritized, lent, ownAgain}
 use Rattle.rules.specs.Refusals.{outOfRange, namesNone, wrongSize, notForIdle, notWithHold, noSlot, inUse, notHis, hisAlready, notSuspended, mustWait, noDepth, noTick, table, laterRow, refusal}
 use Rattle.rules.specs.Sound.{tablesFine, levelsFine, listingFine, clockFine, noHigher, runsFine, sound}
 use Rattle.rules.specs.Step.{stored, answered, accepted, step}
+use Rattle.rules.specs.Session.{readLine, stepOfLine}
+use Rattle.rules.specs.Trace.{trace}
 use Rattle.slots.specs.Tasks.{taskAt}
 use Rattle.slots.specs.Objects.{kindAt}
 use Rattle.rules.specs.Tables.{fresh, holds, freeSlot, freeObject}
@@ -22,16 +24,17 @@ use Rattle.fields.specs.Number.{grow}
 use Rattle.journal.specs.Frames.{callOf, shapeOf}
 use Rattle.journal.specs.Steps.{nums, readOf}
 use Rattle.journal.specs.Reply.{reply}
-use Rattle.promises.specs.Program.{linesOf, stepOfLine, Answered, answering, answersTo}
+use Rattle.promises.specs.Program.{linesOf, Answered, answering, answersTo}
 use Rattle.promises.specs.Turns.{Turn, afterTurns, cameIn, afterEnd, atStart}
 use Rattle.promises.specs.Typed.{bytesOf, typed, written}
 use Rattle.promises.proofs.LineForLine.{session-is-the-program}
 
 pub p1-as-bytes : answersTo typed ≡ written
-unfolding bytesOf typed written linesOf stepOfLine answering digits dec among grow callOf shapeOf nums readOf reply every allBelow foldl upTo index any kept asked ordered without
-    count tidy created mutexMade taken handedOn given effect line those highest leader first chosen toTail toHead leaves moved movedIf prioritized lent ownAgain outOfRange
-    namesNone wrongSize notForIdle notWithHold noSlot inUse notHis hisAlready notSuspended mustWait noDepth noTick table laterRow refusal noHigher runsFine tablesFine levelsFine
-    listingFine clockFine sound stored answered accepted step fresh taskAt kindAt holds freeSlot freeObject readied blocked waitFor
+unfolding bytesOf typed written linesOf readLine stepOfLine trace answering flatten digits dec among grow callOf shapeOf nums readOf reply every
+    allBelow foldl upTo index any kept asked ordered without count tidy created mutexMade taken handedOn given effect line those highest leader
+    first chosen toTail toHead leaves moved movedIf prioritized lent ownAgain outOfRange namesNone wrongSize notForIdle notWithHold noSlot inUse
+    notHis hisAlready notSuspended mustWait noDepth noTick table laterRow refusal noHigher runsFine tablesFine levelsFine listingFine clockFine sound stored answered accepted step fresh
+    taskAt kindAt holds freeSlot freeObject readied blocked waitFor
 p1-as-bytes = refl
 
 pub p1-in-any-blocks : (ts : List Turn) → cameIn ts ≡ typed → afterTurns atStart ts .waits ≡ [] → (n : ℕ) → 256 ≤ n → afterEnd (afterTurns atStart ts) n .answers ≡ written

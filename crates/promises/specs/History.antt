@@ -7,7 +7,6 @@ use lib.ListN.{replicate}
 use Rattle.lists.specs.Choice.{if_then_else_}
 use Rattle.numbers.specs.declared.TaskSlot.{TaskSlot}
 use Rattle.numbers.specs.declared.ObjSlot.{ObjSlot}
-use Rattle.calls.specs.declared.Call.{Call}
 use Rattle.numbers.specs.Numbers.{task, idle}
 use Rattle.order.specs.Order.{listed, ordered}
 use Rattle.order.specs.Tidy.{count}
@@ -20,21 +19,14 @@ use Rattle.slots.specs.Objects.{unused}
 use Rattle.rules.specs.State.{State}
 use Rattle.rules.specs.Tables.{fresh}
 use Rattle.rules.specs.Lines.{line, those, level}
-use Rattle.rules.specs.Step.{step}
-
--- a call as it is made: with an item and a lent store, of whatever length
-pub record Made : Type 0 where
-  pub call : Call
-  pub item : List ℕ
-  pub store : List ℕ
+use Rattle.rules.specs.Trace.{trace, stateAfter, CallMade, stepMade}
 
 -- the kernel after the calls, one after the other
-unfoldable pub after : State → List Made → State
-after k [] = k
-after k (m ∷ ms) = after (step k (m .call) (m .item) (m .store) .kernel) ms
+abbrev pub after : State → List CallMade → State
+after k ms = stateAfter k (trace stepMade k [] ms)
 
 -- "from the fresh kernel"
-abbrev pub reached : List Made → State
+abbrev pub reached : List CallMade → State
 reached ms = after fresh ms
 
 -- delayed; waiting on an object

@@ -1,17 +1,16 @@
 -- "a program that reads call lines from standard input and writes one answer line for each": what an input is answered, line by line.
 use Prim.Native.Nat.{ℕ, suc}
-use mathlib.Core.List.{List, [], _∷_, _++_, flatten}
-use lib.Dec.{eqb, ltb}
-use lib.ListN.{length, replicate}
+use mathlib.Core.List.{List, [], _∷_, map, flatten}
+use lib.Dec.{eqb}
+use lib.ListN.{replicate}
 use Rattle.lists.specs.Choice.{if_then_else_}
 use Rattle.calls.specs.Door.{taskNo}
 use Rattle.calls.specs.Said.{says, refused}
 use Rattle.journal.specs.Reply.{reply}
-use Rattle.journal.specs.Steps.{readOf}
 use Rattle.rules.specs.State.{State}
 use Rattle.rules.specs.Tables.{fresh}
-use Rattle.rules.specs.Step.{Stepped, turnedAway}
-use Rattle.rules.specs.Session.{noLine, stepRead, told}
+use Rattle.rules.specs.Session.{told, stepOfLine}
+use Rattle.rules.specs.Trace.{trace, stateAfter, storeAfter}
 
 -- a byte in front of the first line; a line of its own where there is none
 abbrev pub inFront : ℕ → List (List ℕ) → List (List ℕ)
@@ -23,10 +22,6 @@ unfoldable pub linesOf : List ℕ → List (List ℕ)
 linesOf [] = []
 linesOf (b ∷ input) = if eqb b 10 then (b ∷ []) ∷ linesOf input else inFront b (linesOf input)
 
--- the step of a line, whatever its length: "a longer line is one refusal 3"; any other is read, as a call with its item or as "no call's line"
-unfoldable pub stepOfLine : State → List ℕ → List ℕ → Stepped
-stepOfLine k s l = if ltb 256 (length l) then turnedAway k (noLine k s) s else stepRead k s (readOf l)
-
 -- what comes of some lines: the kernel and the store after them, and the bytes of all answers
 pub record Answered : Type 0 where
   pub kernel : State
@@ -35,11 +30,9 @@ pub record Answered : Type 0 where
 
 -- "one answer line for each": the lines one after the other, each from the kernel and the store that the last one left
 unfoldable pub answering : State → List ℕ → List (List ℕ) → Answered
-answering k s [] = record { kernel = k; store = s; answers = [] }
-answering k s (l ∷ ls) =
-    let d = stepOfLine k s l in
-    let r = answering (d .kernel) (d .store) ls in
-    record { kernel = r .kernel; store = r .store; answers = told d ++ r .answers }
+answering k s ls =
+    let ms = trace stepOfLine k s ls in
+    record { kernel = stateAfter k ms; store = storeAfter s ms; answers = flatten (map (λ m. told (m .gave)) ms) }
 
 -- "The program starts from the fresh kernel and a store of zeros."
 abbrev pub program : List ℕ → Answered

@@ -8,7 +8,6 @@ use Rattle.lists.specs.Choice.{if_then_else_}
 use Rattle.lists.specs.Lists.{index, upTo, kept}
 use Rattle.numbers.specs.Numbers.{task, object, sameTask}
 use Rattle.calls.specs.Numbers.{taskOf, objectOf}
-use Rattle.calls.specs.Door.{taskNo}
 use Rattle.calls.specs.Asked.{asked}
 use Rattle.calls.specs.Said.{Word, done, made, waiting, refused, says}
 use Rattle.order.specs.Order.{listed}
@@ -16,8 +15,9 @@ use Rattle.items.specs.Bytes.{putAt}
 use Rattle.slots.specs.Places.{isReady, isSuspended, waitsOn, wakesAt, outcomeDue}
 use Rattle.slots.specs.Tasks.{brokenOff, taskAt}
 use Rattle.slots.specs.Objects.{holderOf, kindAt}
-use Rattle.promises.specs.Types.{TaskSlot, ObjSlot, Asked, Call, Create, Delete, Suspend, Delay, Hold, Release, MakeQueue, MakeMutex, Send, Receive, Take, Give, Tick, Wake, Never, At, Place, Free, Ready, Delayed, Waiting, Suspended, Task, State}
-use Rattle.promises.specs.Cases.{Seen, seen}
+use Rattle.promises.specs.Types.{TaskSlot, ObjSlot, Asked, Call, Create, Delete, Suspend, Delay, Hold, Release, MakeQueue, MakeMutex, Send, Receive, Take, Give, Tick, Wake}
+use Rattle.promises.specs.Types.{Never, At, Place, Free, Ready, Delayed, Waiting, Suspended, Task, State}
+use Rattle.promises.specs.Cases.{View, view, viewOf}
 use Rattle.rules.specs.Tables.{fresh, withTask, withTick, withHold}
 use Rattle.rules.specs.Lines.{level, leader, chosen, toTail}
 use Rattle.rules.specs.Waits.{later, readied}
@@ -28,6 +28,7 @@ use Rattle.rules.specs.Asking.{is}
 use Rattle.rules.specs.Refusals.{isEmpty, laterRow, refusal}
 use Rattle.rules.specs.Effects.{suspended, handedOn, effect}
 use Rattle.rules.specs.Step.{Stepped, answered, stored, turnedAway, step}
+use Rattle.rules.specs.Trace.{trace, atLast, lending}
 
 abbrev pub Stepping : Type 0
 Stepping = State → Call → List ℕ → List ℕ → Stepped
@@ -93,17 +94,17 @@ abbrev pub wakePast : ℕ → Wake → Bool
 wakePast n Never = false
 wakePast n (At w) = leb w n
 
-abbrev pub past : ℕ → Place → Bool
-past n Free = false
-past n Ready = false
-past n (Delayed w) = leb w n
-past n (Waiting o w) = wakePast n w
-past n Suspended = false
+abbrev pub isPast : ℕ → Place → Bool
+isPast n Free = false
+isPast n Ready = false
+isPast n (Delayed w) = leb w n
+isPast n (Waiting o w) = wakePast n w
+isPast n Suspended = false
 
 abbrev pub wokenIfPast : State → ℕ → State
 wokenIfPast k n =
     let p = taskAt (k .tasks) (task n) .place in
-    if past (k .tick) p then readied k (task n) (outcomeDue p) else k
+    if isPast (k .tick) p then readied k (task n) (outcomeDue p) else k
 
 abbrev pub wakesThePast : State → Asked → State
 wakesThePast = changed 17 (λ k a. tickedBy (upTo wokenIfPast 16) k)
@@ -164,27 +165,16 @@ pub record Wrong : Type 0 where
   pub start : State
   pub calls : List Call
   pub look : Stepped → List ℕ
-  pub right : Seen
-  pub wrong : Seen
+  pub right : View
+  pub wrong : View
 
 -- every call is lent this item
 abbrev pub item : List ℕ
 item = 7 ∷ []
 
--- the calls one after the other
-unfoldable pub after : Stepping → Stepped → List Call → Stepped
-after f r [] = r
-after f r (c ∷ cs) = after f (f (r .kernel) c item (r .store)) cs
-
--- what stands there before the first call, with a store of zeros
-abbrev pub before : State → Stepped
-before k = record { kernel = k; answer = says done 0; store = replicate 9216 0 }
-
-abbrev pub shows : (Stepped → List ℕ) → Stepped → Seen
-shows look r = record { answer = r .answer; running = taskNo (r .kernel .running) .0; looked = look r }
-
-unfoldable pub showsBy : Stepping → Wrong → Seen
-showsBy f w = shows (w .look) (after f (before (w .start)) (w .calls))
+-- what is seen after the last of the calls, one after the other, from a store of zeros
+unfoldable pub showsBy : Stepping → Wrong → View
+showsBy f w = atLast (viewOf (w .look)) (view done 0 0 []) (trace (lending f item) (w .start) (replicate 9216 0) (w .calls))
 
 -- a test whether two are the same
 abbrev pub ofWord : Word → ℕ
@@ -206,25 +196,26 @@ sameList [] (y ∷ ys) = false
 sameList (x ∷ xs) [] = false
 sameList (x ∷ xs) (y ∷ ys) = sameNumber x y && sameList xs ys
 
-unfoldable pub sameSeen : Seen → Seen → Bool
-sameSeen x y =
+unfoldable pub sameView : View → View → Bool
+sameView x y =
     (sameNumber (ofWord (x .answer .word)) (ofWord (y .answer .word)) && sameNumber (x .answer .number) (y .answer .number))
     && (sameNumber (x .running) (y .running) && sameList (x .looked) (y .looked))
 
 -- what comes of a wrong step: shown by the right one, shown by the wrong one, and whether these are two
 pub record Verdict : Type 0 where
-  pub right : Seen
-  pub wrong : Seen
+  pub right : View
+  pub wrong : View
   pub apart : Bool
 
 abbrev pub found : Wrong → Verdict
-found w = record { right = showsBy step w; wrong = showsBy (w .step) w; apart = not (sameSeen (w .right) (w .wrong)) }
+found w = record { right = showsBy step w; wrong = showsBy (w .step) w; apart = not (sameView (w .right) (w .wrong)) }
 
-abbrev pub told : Wrong → Verdict
-told w = record { right = w .right; wrong = w .wrong; apart = true }
+-- what it is to come to
+abbrev pub verdict : Wrong → Verdict
+verdict w = record { right = w .right; wrong = w .wrong; apart = true }
 
 -- from the fresh kernel
-abbrev pub fails : Stepping → List Call → (Stepped → List ℕ) → Seen → Seen → Wrong
+abbrev pub fails : Stepping → List Call → (Stepped → List ℕ) → View → View → Wrong
 fails f cs look x y = record { step = f; start = fresh; calls = cs; look = look; right = x; wrong = y }
 
 abbrev pub nothing : Stepped → List ℕ
@@ -235,17 +226,17 @@ outcomes r = taskAt (r .kernel .tasks) (task 1) .outcome ∷ taskAt (r .kernel .
 
 -- a hold and ticks under it, after which m are pended, and not n
 abbrev pub miscounts : ℕ → List Call → ℕ → Wrong
-miscounts n ts m = fails (stepBy (madeUp n) chosen) (Hold ∷ ts) (λ r. r .kernel .pended ∷ []) (seen done 0 0 (m ∷ [])) (seen done 0 0 (n ∷ []))
+miscounts n ts m = fails (stepBy (madeUp n) chosen) (Hold ∷ ts) (λ r. r .kernel .pended ∷ []) (view done 0 0 (m ∷ [])) (view done 0 0 (n ∷ []))
 
 unfoldable pub idlePrograms : Numbers → ℕ → List Wrong
 idlePrograms number n =
-    fails (turnsAllAway number) (Create 3 ∷ []) nothing (seen made 1 1 []) (seen refused (number fresh (Create 3) item (replicate 9216 0)) 0 [])
-    ∷ fails alwaysDone (Create 3 ∷ []) nothing (seen made 1 1 []) (seen done 0 1 [])
-    ∷ fails changesNothing (Create 3 ∷ []) nothing (seen made 1 1 []) (seen made 1 0 [])
+    fails (turnsAllAway number) (Create 3 ∷ []) nothing (view made 1 1 []) (view refused (number fresh (Create 3) item (replicate 9216 0)) 0 [])
+    ∷ fails alwaysDone (Create 3 ∷ []) nothing (view made 1 1 []) (view done 0 1 [])
+    ∷ fails changesNothing (Create 3 ∷ []) nothing (view made 1 1 []) (view made 1 0 [])
     -- two tasks are due at one tick
-    ∷ fails (stepBy skipsTheRest chosen) (Create 3 ∷ Delay 1 ∷ Create 3 ∷ Delay 1 ∷ Tick ∷ []) outcomes (seen done 0 1 (1 ∷ 1 ∷ [])) (seen done 0 1 (1 ∷ 0 ∷ []))
+    ∷ fails (stepBy skipsTheRest chosen) (Create 3 ∷ Delay 1 ∷ Create 3 ∷ Delay 1 ∷ Tick ∷ []) outcomes (view done 0 1 (1 ∷ 1 ∷ [])) (view done 0 1 (1 ∷ 0 ∷ []))
     -- the tick count after two pended ticks
-    ∷ fails (stepBy oneForAll chosen) (Hold ∷ Tick ∷ Tick ∷ Release ∷ []) (λ r. r .kernel .tick ∷ []) (seen done 0 0 (2 ∷ [])) (seen done 0 0 (1 ∷ []))
+    ∷ fails (stepBy oneForAll chosen) (Hold ∷ Tick ∷ Tick ∷ Release ∷ []) (λ r. r .kernel .tick ∷ []) (view done 0 0 (2 ∷ [])) (view done 0 0 (1 ∷ []))
     -- whatever the count: none, one, or more
     ∷ miscounts 0 (Tick ∷ []) 1
     ∷ miscounts 1 (Tick ∷ Tick ∷ []) 2
@@ -262,37 +253,37 @@ easyMistakes =
     fails (stepBy dropsGiver chosen)
     (Create 3 ∷ MakeMutex ∷ MakeMutex ∷ Take (objectOf 0) 0 ∷ Take (objectOf 1) 0 ∷ Create 5 ∷ Take (objectOf 0) 10 ∷ Give (objectOf 1) ∷ [])
     (λ r. level (r .kernel .tasks) (task 1) ∷ [])
-    (seen done 0 1 (5 ∷ []))
-    (seen done 0 1 (3 ∷ []))
+    (view done 0 1 (5 ∷ []))
+    (view done 0 1 (3 ∷ []))
     -- the wake tick is 1, the count 4,294,967,295
     ∷ record {
       step = stepBy wakesThePast chosen;
       start = withTick fresh 4294967294;
       calls = Create 3 ∷ Delay 3 ∷ Tick ∷ [];
       look = outcomes;
-      right = seen done 0 0 (0 ∷ 0 ∷ []);
-      wrong = seen done 0 1 (1 ∷ 0 ∷ []);
+      right = view done 0 0 (0 ∷ 0 ∷ []);
+      wrong = view done 0 1 (1 ∷ 0 ∷ []);
     }
     -- task 3 overtakes 1, ahead of 2 in its line, and leaves again
-    ∷ fails (stepBy effect losesTurn) (Create 3 ∷ Create 3 ∷ Create 5 ∷ Suspend (taskOf 3) ∷ []) nothing (seen done 0 1 []) (seen done 0 2 [])
+    ∷ fails (stepBy effect losesTurn) (Create 3 ∷ Create 3 ∷ Create 5 ∷ Suspend (taskOf 3) ∷ []) nothing (view done 0 1 []) (view done 0 2 [])
     -- task 1's outcome, suspended as it is, and how many are listed
     ∷ fails staysListed
     (MakeQueue 1 1 ∷ Create 3 ∷ Receive (objectOf 0) 10 ∷ Suspend (taskOf 1) ∷ [])
     (λ r. brokenOffNow (taskAt (r .kernel .tasks) (task 1)) ∷ length (listed (r .kernel .order)) ∷ [])
-    (seen done 0 0 (3 ∷ 1 ∷ []))
-    (seen done 0 0 (3 ∷ 2 ∷ []))
+    (view done 0 0 (3 ∷ 1 ∷ []))
+    (view done 0 0 (3 ∷ 2 ∷ []))
     -- then the first byte of its slip, and of the queue
     ∷ fails staysListed
     (MakeQueue 1 1 ∷ Create 3 ∷ Receive (objectOf 0) 10 ∷ Suspend (taskOf 1) ∷ Send (objectOf 0) 0 ∷ [])
     (λ r. getD (r .store) (slipOf (task 1)) 0 ∷ getD (r .store) 0 0 ∷ [])
-    (seen done 0 0 (0 ∷ 7 ∷ []))
-    (seen done 0 1 (7 ∷ 0 ∷ []))
+    (view done 0 0 (0 ∷ 7 ∷ []))
+    (view done 0 1 (7 ∷ 0 ∷ []))
     -- the new task's number, and the holder of mutex 0
     ∷ fails deletesHolders
     (Create 3 ∷ MakeMutex ∷ Take (objectOf 0) 0 ∷ Delete (taskOf 1) ∷ Create 3 ∷ [])
     (λ r. holderOf (kindAt (r .kernel .objects) (object 0)) .0 ∷ [])
-    (seen made 2 1 (1 ∷ []))
-    (seen made 1 1 (1 ∷ []))
+    (view made 2 1 (1 ∷ []))
+    (view made 1 1 (1 ∷ []))
     ∷ []
 
 unfoldable pub wrongs : Numbers → ℕ → List Wrong

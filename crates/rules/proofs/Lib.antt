@@ -27,3 +27,4 @@ pub mod KeepObjects
 pub mod KeepMutexes
 pub mod KeepQueues
 pub mod Every
+pub mod Traces

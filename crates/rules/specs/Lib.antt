@@ -13,3 +13,4 @@ pub mod Items
 pub mod Effects
 pub mod Step
 pub mod Session
+pub mod Trace

@@ -31,8 +31,16 @@ stepTold k s (Refused n) item = turnedAway k (noLine k s) s
 abbrev pub stepRead : State → List ℕ → Read → Stepped
 stepRead k s r = stepTold k s (r .answer) (take (r .len) (r .item))
 
--- what a line says that has ended; "a longer line is one refusal 3 up to its newline". (`readOf` is the one reading that the reader's promise
--- allows: `reads-as`, `read-is` in journal/proofs. `noCall` is refusal 3.)
+-- what a line says, whatever its length: "a longer line is one refusal 3". (`readOf` is the one reading that the reader's promise allows: `reads-as`,
+-- `read-is` in journal/proofs. `noCall` is refusal 3.)
+unfoldable pub readLine : List ℕ → Read
+readLine l = if ltb 256 (length l) then noCall else readOf l
+
+-- the step of a line: that of its call with its item, or a refusal
+unfoldable pub stepOfLine : State → List ℕ → List ℕ → Stepped
+stepOfLine k s l = stepRead k s (readLine l)
+
+-- the same of a line that has ended, of which at most 256 bytes are kept
 unfoldable pub readCut : Cut → Read
 readCut c = if ltb 256 (c .len) then noCall else readOf (take (c .len) (c .bytes))
 
@@ -65,7 +73,8 @@ fed r b =
 unfoldable pub noRoom : ℕ → Run → ℕ → Bool
 noRoom n r b = eqb b 10 && ltb n (length (r .answers) + 256)
 
--- the bytes of a block, as far as the answers fit into n bytes
+-- the bytes of a block, as far as the answers fit into n bytes: no trace of lines (`answering` in promises/specs/Program), since bytes are counted and it
+-- stops where there is no room; with room it comes to one (`session-answers-lines` in promises/proofs)
 unfoldable pub run : ℕ → Run → List ℕ → Run
 run n r [] = r
 run n r (b ∷ l) = if noRoom n r b then r else run n (fed r b) l
