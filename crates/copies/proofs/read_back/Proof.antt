@@ -5,12 +5,6 @@ use Rattle.copies.proofs.Backs.{lent-within, came-back, refused-back}
 use Rattle.copies.proofs.read_back.Statement.{statement}
 use Rattle.copies.proofs.read_back.Tie as tie
 
-write-call-requires : tie.Need-write-call-requires
-write-call-requires c κs = search needs
-
-enum-known-n : tie.Need-enum-known-n
-enum-known-n c = search needs
-
 slice-reshare-prefix-read-call : tie.Need-slice-reshare-prefix-read-call
 slice-reshare-prefix-read-call c =
     let w = c .before .before .before .before .before in
@@ -21,25 +15,10 @@ slice-aggregate-read-call c =
     let w = c .before .before .before .before .before .before in
     sym (length-take-le _ _ (lent-within _ _ _ _ _ _ (c .before .before .n .given .1) (w .write-call .ensures)))
 
-read-call-requires : tie.Need-read-call-requires
-read-call-requires c κs = search needs
-
-enum-known-n-2 : tie.Need-enum-known-n-2
-enum-known-n-2 c = search needs
-
-refused-requires : tie.Need-refused-requires
-refused-requires c κs = search needs
-
-same-length : tie.Need-same-length
-same-length c = search needs
-
 returns : tie.Need-returns
 returns c =
     let n = c .before .before .before in
     came-back _ _ _ _ _ _ _ (n .n .given .1) (n .before .before .before .before .write-call .ensures) (c .read-call .ensures)
-
-same-length-2 : tie.Need-same-length-2
-same-length-2 c = search needs
 
 returns-2 : tie.Need-returns-2
 returns-2 c =
@@ -50,14 +29,14 @@ pub read-back-spec : {M : Type 1} → statement M
 read-back-spec =
     tie.close
     (tie.spec
-    write-call-requires
-    enum-known-n
+    (λ c κs. search needs)
+    (λ c. search needs)
     slice-reshare-prefix-read-call
     slice-aggregate-read-call
-    read-call-requires
-    enum-known-n-2
-    refused-requires
-    same-length
+    (λ c κs. search needs)
+    (λ c. search needs)
+    (λ c κs. search needs)
+    (λ c. search needs)
     returns
-    same-length-2
+    (λ c. search needs)
     returns-2)

@@ -8,9 +8,6 @@ use Rattle.copies.proofs.Backs.{lent-within}
 use Rattle.copies.proofs.show.Statement.{statement}
 use Rattle.copies.proofs.show.Tie as tie
 
-enum-known-answer : tie.Need-enum-known-answer
-enum-known-answer c = search needs
-
 array-share-prefix-item : tie.Need-array-share-prefix-item
 array-share-prefix-item c =
     let a = c .before .before .before .before .args in
@@ -23,15 +20,6 @@ slice-aggregate-write-call c =
     let h : length (a .read .item) ≡ 64 = search length-mapped in
     sym (length-take-le (a .read .len) (a .read .item) (omega arith))
 
-slice-aggregate-write-call-2 : tie.Need-slice-aggregate-write-call-2
-slice-aggregate-write-call-2 c = search needs
-
-write-call-requires : tie.Need-write-call-requires
-write-call-requires c κs = search needs
-
-enum-known-n : tie.Need-enum-known-n
-enum-known-n c = search needs
-
 array-share-prefix-line : tie.Need-array-share-prefix-line
 array-share-prefix-line c =
     let w = c .before .before .before .before in
@@ -42,39 +30,21 @@ slice-aggregate-write-all c =
     let w = c .before .before .before .before .before in
     sym (length-take-le _ _ (lent-within _ _ _ _ _ _ (c .before .before .n .given .1) (w .write-call .ensures)))
 
-write-all-requires : tie.Need-write-all-requires
-write-all-requires c κs = search needs
-
-enum-told : tie.Need-enum-told
-enum-told c = search needs
-
-enum-told-2 : tie.Need-enum-told-2
-enum-told-2 c = search needs
-
-returns : tie.Need-returns
-returns c = search needs
-
-returns-2 : tie.Need-returns-2
-returns-2 c = search needs
-
-returns-3 : tie.Need-returns-3
-returns-3 c = search needs
-
 pub show-spec : {M : Type 1} → statement M
 show-spec =
     tie.close
     (tie.spec
-    enum-known-answer
+    (λ c. search needs)
     array-share-prefix-item
     slice-aggregate-write-call
-    slice-aggregate-write-call-2
-    write-call-requires
-    enum-known-n
+    (λ c. search needs)
+    (λ c κs. search needs)
+    (λ c. search needs)
     array-share-prefix-line
     slice-aggregate-write-all
-    write-all-requires
-    enum-told
-    enum-told-2
-    returns
-    returns-2
-    returns-3)
+    (λ c κs. search needs)
+    (λ c. search needs)
+    (λ c. search needs)
+    (λ c. search needs)
+    (λ c. search needs)
+    (λ c. search needs))
