@@ -1,4 +1,5 @@
 // What is asked of the kernel, and what it answers: two kinds of number, the 17 calls, the four answers.
+mod behind;
 mod door;
 mod named;
 mod table;
@@ -49,7 +50,24 @@ pub enum Names {
     Mutex,
 }
 
-// A call behind the door: its number and arguments, each in its own field, and slots where the caller wrote numbers. An argument that the call does not have stands at a value that is never turned away.
+// A call in words: its number, what it names, and the numbers among its arguments with zeros after them.
+pub struct Frame {
+    pub number: u8,
+    pub names: Names,
+    pub words: [u32; 5],
+}
+
+// How the arguments of a call stand: so many numbers, then an item if there is one, then so many numbers more.
+// `known` is false where a number is no call's.
+pub struct Shape {
+    pub known: bool,
+    pub before: usize,
+    pub item: bool,
+    pub after: usize,
+}
+
+// A call behind the door: its number and arguments, each in its own field, and slots where the caller wrote numbers.
+// An argument that the call does not have stands at a value that is never turned away.
 pub struct Asked {
     pub number: u8,
     pub names: Names,

@@ -1,88 +1,115 @@
-// A call behind the door, in one row.
+// The table of calls: a call in words, and by its number how its words stand in a line and the call that they make.
+// Other rooms read the calls off it.
 ghost use mathlib.Core.Path.{_≡_};
-ghost use Rattle.calls.specs.Door.{taskSlot, objSlot};
-ghost use Rattle.calls.specs.Asked.{asked, nothing, onTask, onObject};
-use crate::Asked;
+ghost use mathlib.Core.List.{[], _∷_};
+ghost use Rattle.calls.specs.Table.{callOf};
+ghost use Rattle.calls.specs.Words.{Small, numbersIn, fieldsOf, framed, frameOf, plain, shapeOf};
 use crate::Call;
+use crate::Frame;
 use crate::Names;
 use crate::ObjNo;
+use crate::Shape;
 use crate::TaskNo;
-use numbers::ObjSlot;
-use numbers::TaskSlot;
 
-impl Asked {
-    // A call that names nothing: its slots are 16, which no table has.
-    pub fn nothing(number: u8, priority: u32, ticks: u32, capacity: u32, size: u32) -> Asked
-        ensures { λ r. ⌜ r ≡ nothing number priority ticks capacity size ⌝ }
+impl Frame {
+    fn of(number: u8, names: Names, a: u32, b: u32) -> Frame
+        ensures { λ r. ⌜ r ≡ framed number names (a ∷ b ∷ 0 ∷ 0 ∷ 0 ∷ []) ⌝ }
     {
-        Asked {
-            number,
-            names: Names::Nothing,
-            task: TaskSlot(16),
-            object: ObjSlot(16),
-            priority,
-            ticks,
-            capacity,
-            size,
-            wait: 0,
-        }
-    }
-
-    pub fn on_task(number: u8, t: TaskNo, priority: u32) -> Asked
-        ensures { λ r. ⌜ r ≡ onTask number (taskSlot t) priority ⌝ }
-    {
-        Asked {
-            number,
-            names: Names::Task,
-            task: t.slot(),
-            object: ObjSlot(16),
-            priority,
-            ticks: 0,
-            capacity: 1,
-            size: 0,
-            wait: 0,
-        }
-    }
-
-    pub fn on_object(number: u8, names: Names, o: ObjNo, wait: u32) -> Asked
-        ensures { λ r. ⌜ r ≡ onObject number names (objSlot o) wait ⌝ }
-    {
-        Asked {
+        Frame {
             number,
             names,
-            task: TaskSlot(16),
-            object: o.slot(),
-            priority: 0,
-            ticks: 0,
-            capacity: 1,
-            size: 0,
-            wait,
+            words: [a, b, 0, 0, 0],
         }
     }
 }
 
 impl Call {
-    pub fn asked(self) -> Asked
-        ensures { λ r. ⌜ r ≡ asked self ⌝ }
+    // The words of a call, which are u32.
+    pub fn frame(self) -> Frame
+        ensures { λ r. ⌜ (r ≡ frameOf self) × Small (numbersIn (fieldsOf self)) ⌝ }
     {
         match self {
-            Call::Create(p) => Asked::nothing(1, p, 0, 1, 0),
-            Call::Delete(t) => Asked::on_task(2, t, 0),
-            Call::Suspend(t) => Asked::on_task(3, t, 0),
-            Call::Resume(t) => Asked::on_task(4, t, 0),
-            Call::SetPriority(t, p) => Asked::on_task(5, t, p),
-            Call::Delay(n) => Asked::nothing(6, 0, n, 1, 0),
-            Call::Yield => Asked::nothing(7, 0, 0, 1, 0),
-            Call::Hold => Asked::nothing(8, 0, 0, 1, 0),
-            Call::Release => Asked::nothing(9, 0, 0, 1, 0),
-            Call::MakeQueue(c, s) => Asked::nothing(10, 0, 0, c, s),
-            Call::MakeMutex => Asked::nothing(11, 0, 0, 1, 0),
-            Call::Remove(o) => Asked::on_object(12, Names::Object, o, 0),
-            Call::Send(o, w) => Asked::on_object(13, Names::Queue, o, w),
-            Call::Receive(o, w) => Asked::on_object(14, Names::Queue, o, w),
-            Call::Take(o, w) => Asked::on_object(15, Names::Mutex, o, w),
-            Call::Give(o) => Asked::on_object(16, Names::Mutex, o, 0),
-            Call::Tick => Asked::nothing(17, 0, 0, 1, 0),
+            Call::Create(p) => Frame::of(1, Names::Nothing, p, 0),
+            Call::Delete(t) => Frame::of(2, Names::Task, t.0, 0),
+            Call::Suspend(t) => Frame::of(3, Names::Task, t.0, 0),
+            Call::Resume(t) => Frame::of(4, Names::Task, t.0, 0),
+            Call::SetPriority(t, p) => Frame::of(5, Names::Task, t.0, p),
+            Call::Delay(n) => Frame::of(6, Names::Nothing, n, 0),
+            Call::Yield => Frame::of(7, Names::Nothing, 0, 0),
+            Call::Hold => Frame::of(8, Names::Nothing, 0, 0),
+            Call::Release => Frame::of(9, Names::Nothing, 0, 0),
+            Call::MakeQueue(c, s) => Frame::of(10, Names::Nothing, c, s),
+            Call::MakeMutex => Frame::of(11, Names::Nothing, 0, 0),
+            Call::Remove(o) => Frame::of(12, Names::Object, o.0, 0),
+            Call::Send(o, w) => Frame::of(13, Names::Queue, o.0, w),
+            Call::Receive(o, w) => Frame::of(14, Names::Queue, o.0, w),
+            Call::Take(o, w) => Frame::of(15, Names::Mutex, o.0, w),
+            Call::Give(o) => Frame::of(16, Names::Mutex, o.0, 0),
+            Call::Tick => Frame::of(17, Names::Nothing, 0, 0),
+        }
+    }
+
+    // The call of a number, which `known` says is one.
+    pub fn of(number: u32, words: [u32; 5]) -> Call
+        ensures { λ r. ⌜ r ≡ callOf number words ⌝ }
+    {
+        let a = words[0];
+        let b = words[1];
+        match number {
+            1 => Call::Create(a),
+            2 => Call::Delete(TaskNo(a)),
+            3 => Call::Suspend(TaskNo(a)),
+            4 => Call::Resume(TaskNo(a)),
+            5 => Call::SetPriority(TaskNo(a), b),
+            6 => Call::Delay(a),
+            7 => Call::Yield,
+            8 => Call::Hold,
+            9 => Call::Release,
+            10 => Call::MakeQueue(a, b),
+            11 => Call::MakeMutex,
+            12 => Call::Remove(ObjNo(a)),
+            13 => Call::Send(ObjNo(a), b),
+            14 => Call::Receive(ObjNo(a), b),
+            15 => Call::Take(ObjNo(a), b),
+            16 => Call::Give(ObjNo(a)),
+            _ => Call::Tick,
+        }
+    }
+}
+
+impl Shape {
+    // So many numbers and no item.
+    fn plain(count: usize) -> Shape
+        ensures { λ r. ⌜ r ≡ plain count ⌝ }
+    {
+        Shape {
+            known: true,
+            before: count,
+            item: false,
+            after: 0,
+        }
+    }
+
+    // How the arguments of the call of a number stand.
+    pub fn of(number: u32) -> Shape
+        ensures { λ r. ⌜ r ≡ shapeOf number ⌝ }
+    {
+        match number {
+            7..=9 | 11 | 17 => Shape::plain(0),
+            1..=4 | 6 | 12 | 16 => Shape::plain(1),
+            5 | 10 | 14..=15 => Shape::plain(2),
+            13 => Shape {
+                known: true,
+                before: 1,
+                item: true,
+                after: 1,
+            },
+            _ => Shape {
+                known: false,
+                before: 0,
+                item: false,
+                after: 0,
+            },
         }
     }
 }

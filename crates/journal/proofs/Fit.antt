@@ -4,18 +4,17 @@ use mathlib.Core.Path.{_≡_, refl, sym, ap}
 use mathlib.Core.Bool.{Bool, true, false, false≢true}
 use mathlib.Core.List.{List, [], _∷_, _++_}
 use native.Mathlib.Omega.{arith}
-use lib.ListN.{length, getD, take, drop}
+use lib.ListN.{length, getD, take, drop, set}
 use lib.Seq.{sets}
 use mir.Syntax.{w8}
 use mir.Val.{Fits}
 use Rattle.lists.specs.Choice.{if_then_else_}
 use Rattle.lists.specs.Lists.{any}
+use Rattle.calls.specs.Words.{Field, number, bytes, fieldsOf, isBytes, numbersIn, Small, noWords, frameOf}
 use Rattle.fields.specs.Hex.{Bytes}
-use Rattle.fields.proofs.Stores.{sets-out}
 use Rattle.journal.specs.Types.{Call}
-use Rattle.journal.specs.Line.{Field, number, bytes, fieldsOf, isBytes, carries, itsItem, AllFit, HasLine}
-use Rattle.journal.specs.Frames.{numbersIn, frameOf}
-use Rattle.journal.proofs.Steps.{Small, ItemFits}
+use Rattle.journal.specs.Line.{carries, itsItem, AllFit, HasLine}
+use Rattle.journal.proofs.Steps.{ItemFits}
 
 pub small-append : (a b : List ℕ) → Small a → Small b → Small (a ++ b)
 small-append [] b v w = w
@@ -31,10 +30,17 @@ small-drop zero a w = w
 small-drop (suc k) [] w = tt
 small-drop (suc k) (x ∷ a) w = small-drop k a (w .1)
 
-small-filled : (a : List ℕ) → Small a → Small (sets (0 ∷ 0 ∷ []) 0 a)
-small-filled [] w = (omega arith, (omega arith, tt))
-small-filled (x ∷ []) w = (w .0, (omega arith, tt))
-small-filled (x ∷ y ∷ a) w = rw (sets-out (x ∷ y ∷ []) 2 a (omega arith)) (w .0, (w .1 .0, tt))
+small-set : (vs : List ℕ) (i n : ℕ) → Small vs → n ≤ 4294967295 → Small (set vs i n)
+small-set [] i n v h = tt
+small-set (x ∷ vs) zero n v h = (h, v .1)
+small-set (x ∷ vs) (suc i) n v h = (v .0, small-set vs i n (v .1) h)
+
+small-sets : (vs : List ℕ) (i : ℕ) (a : List ℕ) → Small vs → Small a → Small (sets vs i a)
+small-sets vs i [] v w = v
+small-sets vs i (x ∷ a) v w = small-sets (set vs i x) (suc i) a (small-set vs i x v (w .0)) (w .1)
+
+small-filled : (a : List ℕ) → Small a → Small (sets noWords 0 a)
+small-filled a w = small-sets noWords 0 a (omega arith, (omega arith, (omega arith, (omega arith, (omega arith, tt))))) w
 
 fits-small : (b : List ℕ) (fs : List Field) → AllFit b fs → Small (numbersIn fs)
 fits-small b [] w = tt
@@ -69,24 +75,20 @@ pub has-line : (c : Call) (b : List ℕ) → Small (numbersIn (fieldsOf c)) → 
 unfolding carries
 has-line c b w h = record { fits = all-fit b (fieldsOf c) w (item-sent (carries c) b h); none = item-none (carries c) b h }
 
--- a call whose numbers fit has a line with an item of no bytes
-pub numbers-fit : (c : Call) → AllFit [] (fieldsOf c) → HasLine c []
-numbers-fit c w = record { fits = w; none = λ e. refl }
-
 -- what is known of the elements of a slice of u8
 all-bytes : (b : List ℕ) → ((i : ℕ) → Fits w8 (getD b i 0)) → Bytes b
 all-bytes [] h = tt
 all-bytes (x ∷ b) h = (h 0 .fits, all-bytes b (λ i. h (suc i)))
 
--- and then it has one with each item of at most 64 bytes
-pub its-line : (c : Call) (b : List ℕ) → HasLine c [] → ((i : ℕ) → Fits w8 (getD b i 0)) → length (itsItem c b) ≤ 64 → HasLine c (itsItem c b)
-its-line c b h w k = has-line c (itsItem c b) (fits-small [] (fieldsOf c) (h .fits)) (go (carries c) k)
+-- a call whose numbers are u32 has a line with each item of at most 64 bytes
+pub its-line : (c : Call) (b : List ℕ) → Small (numbersIn (fieldsOf c)) → ((i : ℕ) → Fits w8 (getD b i 0)) → length (itsItem c b) ≤ 64 → HasLine c (itsItem c b)
+its-line c b h w k = has-line c (itsItem c b) h (go (carries c) k)
   where
     go : (i : Bool) → length (if i then b else []) ≤ 64 → ItemFits i (if i then b else [])
     go true k = (k, all-bytes b w)
     go false k = refl
 
-pub line-fits : (c : Call) (b : List ℕ) → HasLine c b → Small (frameOf c .values) × ItemFits (carries c) b
+pub line-fits : (c : Call) (b : List ℕ) → HasLine c b → Small (frameOf c .words) × ItemFits (carries c) b
 unfolding carries
 line-fits c b h = (small-filled (numbersIn (fieldsOf c)) (fits-small b (fieldsOf c) (h .fits)), item-fits (carries c) b (fits-item b (fieldsOf c) (h .fits)) (h .none))
 

@@ -3,6 +3,5 @@ pub mod Steps
 pub mod Fit
 pub mod Promised
 pub mod Stores
-pub mod Ranges
 pub mod Theorems
 pub mod Newlines

@@ -11,12 +11,13 @@ use borrow.Author.Tests.{lt-ltb, le-ltb, ne-eqb}
 use Rattle.lists.specs.Lists.{index}
 use Rattle.calls.specs.Said.{Word, done, made, waiting, refused, Saying}
 use Rattle.calls.specs.Table.{called}
+use Rattle.calls.specs.Words.{Field, number, bytes, fieldsOf}
 use Rattle.fields.specs.Decimal.{digits, dec}
 use Rattle.fields.specs.Hex.{hexDigit, hex}
 use Rattle.fields.specs.Texts.{texts}
 use Rattle.fields.proofs.Places.{below-or}
 use Rattle.journal.specs.Types.{Call, TaskNo, Read}
-use Rattle.journal.specs.Line.{Field, number, bytes, fieldsOf, text, after, lineOf}
+use Rattle.journal.specs.Line.{text, after, lineOf}
 use Rattle.journal.specs.Reply.{wordOf, reply}
 use Rattle.journal.specs.Told.{refusal}
 use Rattle.journal.specs.Promise.{Tells, ReadsAs}

@@ -9,6 +9,7 @@ use lib.Dec.{eqb}
 use lib.ListN.{length, drop, set}
 use lib.Seq.{sets}
 use borrow.Author.Tests.{eqb-true}
+use Rattle.calls.specs.Words.{Small}
 use Rattle.fields.specs.Decimal.{dec}
 use Rattle.fields.specs.Hex.{hex, Bytes}
 use Rattle.fields.specs.Texts.{texts}
@@ -21,11 +22,6 @@ use Rattle.fields.proofs.Pairs.{hex-length, item-front, bytes-fit, bytes-whole,
 use Rattle.journal.specs.Types.{Number, Got, Missing, Item, Place, Numbers}
 use Rattle.journal.specs.Frames.{tabbed, sentText}
 use Rattle.journal.specs.Steps.{tabIn, afterTab, placeOf, numberAt, nums, sentAt, endOf}
-
--- "each at most 4,294,967,295"
-abbrev pub Small : List ℕ → Type 0
-Small [] = Unit {0}
-Small (n ∷ ns) = (n ≤ 4294967295) × Small ns
 
 -- the item that goes with a shape: 0 to 64 bytes, or none
 abbrev pub ItemFits : Bool → List ℕ → Type 0

@@ -10,6 +10,8 @@ use lib.Seq.{sets-eq, getD-take, getD-drop}
 use borrow.Author.Tests.{ltb-false, eq-eqb, ne-eqb}
 use Rattle.lists.specs.Choice.{if_then_else_}
 use Rattle.calls.specs.Said.{Word, done, made, waiting, refused, Saying, said}
+use Rattle.calls.specs.Words.{shapeOf, frameOf}
+use Rattle.calls.proofs.Rows.{frame-five}
 use Rattle.fields.specs.Decimal.{dec}
 use Rattle.fields.specs.Texts.{texts}
 use Rattle.fields.specs.Wrote.{Wrote}
@@ -21,8 +23,8 @@ use Rattle.journal.specs.Line.{lineOf, carries, itsItem}
 use Rattle.journal.specs.Reply.{wordOf, reply, replyOf}
 use Rattle.journal.specs.Told.{count}
 use Rattle.journal.specs.Promise.{Writes, lineRefusal, itemRefusal, WritesAnswer}
-use Rattle.journal.specs.Frames.{shapeOf, frameOf, tabbed, sentText, shapeText, frameText}
-use Rattle.journal.proofs.Rows.{frame-two, line-frame, item-frame}
+use Rattle.journal.specs.Frames.{tabbed, sentText, shapeText, frameText}
+use Rattle.journal.proofs.Rows.{line-frame, item-frame}
 
 -- ---- the numbers of a frame
 
@@ -43,23 +45,33 @@ sent-length : (i : Bool) (b : List ℕ) → (i ≡ true → length b ≤ 64) →
 sent-length true b h = omega (arith, hex-length b, h refl)
 sent-length false b h = omega arith
 
-shape-length : (s : Shape) (vs b : List ℕ) → length vs ≡ 2 → (s .item ≡ true → length b ≤ 64) → length (shapeText s vs b) ≤ 214
+shape-length : (s : Shape) (vs b : List ℕ) → length vs ≡ 5 → (s .item ≡ true → length b ≤ 64) → length (shapeText s vs b) ≤ 235
 shape-length s vs b h i =
-    let x = texts tabbed (take (s .before) vs) in
+    let m = take (s .before) vs in
+    let n = take (s .after) (drop (s .before) vs) in
+    let x = texts tabbed m in
     let y = sentText (s .item) b in
-    let z = texts tabbed (take (s .after) (drop (s .before) vs)) in
-    let p : length x ≤ 42 = omega (arith, texts-length (take (s .before) vs), length-take (s .before) vs) in
-    let q : length z ≤ 42 = omega (arith, texts-length (take (s .after) (drop (s .before) vs)), length-take (s .after) (drop (s .before) vs), length-drop (s .before) vs) in
-    omega (arith, length-append x (y ++ (z ++ (10 ∷ []))), length-append y (z ++ (10 ∷ [])), length-append z (10 ∷ []), sent-length (s .item) b i, p, q)
+    let z = texts tabbed n in
+    let q : length m + length n ≤ 5 =
+    omega (arith, length-take (s .before) vs, length-take (s .after) (drop (s .before) vs), length-drop (s .before) vs) in
+    let r : length x + length z ≤ 105 = omega (arith, texts-length m, texts-length n, q) in
+    omega (
+      arith,
+      length-append x (y ++ (z ++ (10 ∷ []))),
+      length-append y (z ++ (10 ∷ [])),
+      length-append z (10 ∷ []),
+      sent-length (s .item) b i,
+      r,
+    )
 
 -- "A line has at most 256 bytes with its newline"
 pub line-short : (c : Call) (b : List ℕ) → (carries c ≡ true → length b ≤ 64) → length (lineOf c b) ≤ 256
 line-short c b h =
     let n = frameOf c .number in
-    let vs = frameOf c .values in
+    let vs = frameOf c .words in
     let i : shapeOf n .item ≡ true → length b ≤ 64 = λ e. h (item-frame c ∙ e) in
     let t = shapeText (shapeOf n) vs b in
-    rw (line-frame c b) (omega (arith, length-append (dec n) t, dec-length n, shape-length (shapeOf n) vs b (frame-two c) i))
+    rw (line-frame c b) (omega (arith, length-append (dec n) t, dec-length n, shape-length (shapeOf n) vs b (frame-five c) i))
 
 word-length : (w : Word) → length (wordOf w) ≤ 4
 word-length done = omega arith
@@ -115,7 +127,7 @@ sent-passed false b = refl
 passed-over : (c : Call) (b : List ℕ) → lineOf c (itsItem c b) ≡ lineOf c b
 passed-over c b =
     let n = frameOf c .number in
-    let vs = frameOf c .values in
+    let vs = frameOf c .words in
     let e : sentText (shapeOf n .item) (itsItem c b) ≡ sentText (shapeOf n .item) b = rw (item-frame c) (sent-passed (shapeOf n .item) b) in
     line-frame c (itsItem c b) ∙ rw e (sym (line-frame c b))
 
@@ -132,11 +144,11 @@ module _ (c : Call) (b l : List ℕ) (h : length l ≡ 256) (f : Frame) (s : Sha
   pub item-refused : t ≡ true → Writes (lineRefusal l (itemRefusal (itsItem c b))) (lineOf c (itsItem c b)) l (NotWritten 6) l
   item-refused e = rw (eq-eqb (length l) 256 h, tested, e) record { answer = refl; line = refl }
 
-  pub call-written : (m : List ℕ) (r : ℕ) → t ≡ false → Wrote l 0 (frameText (f .number) (f .values) b) r m
+  pub call-written : (m : List ℕ) (r : ℕ) → t ≡ false → Wrote l 0 (frameText (f .number) (f .words) b) r m
       → Writes (lineRefusal l (itemRefusal (itsItem c b))) (lineOf c (itsItem c b)) l (Count r) m
   unfolding frameText
   call-written m r k w =
-      let q : frameText (f .number) (f .values) b ≡ lineOf c (itsItem c b) = rw ef (sym (line-frame c b)) ∙ sym (passed-over c b) in
+      let q : frameText (f .number) (f .words) b ≡ lineOf c (itsItem c b) = rw ef (sym (line-frame c b)) ∙ sym (passed-over c b) in
       let short : length (itsItem c b) ≤ 64 = ltb-false 64 (length (itsItem c b)) (tested ∙ k) in
       rw (eq-eqb (length l) 256 h, tested, k) (written (lineOf c (itsItem c b)) l m r h (line-short c (itsItem c b) (λ e. short)) (rw q at w))
 

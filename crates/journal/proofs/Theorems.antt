@@ -3,22 +3,22 @@ use Prim.Native.Nat.{ℕ, _+_, _<_, _≤_}
 use mathlib.Core.Path.{_≡_, refl, sym, ap, _∙_}
 use mathlib.Core.Logic.{inl, inr, ⊎-elim}
 use mathlib.Core.Bool.{Bool, true, false, false≢true}
-use mathlib.Core.List.{List, [], _∷_, _++_, map}
+use mathlib.Core.List.{List, [], _++_, map}
 use native.Mathlib.Omega.{arith}
 use lib.ListN.{length, take, drop, replicate, length-append}
 use lib.Seq.{sets, sets-eq, take-at}
 use lib.Dec.{eqb, ltb}
 use borrow.Author.Tests.{eqb-true, eq-eqb, le-ltb, ltb-false}
 use Rattle.lists.specs.Choice.{if_then_else_}
-use Rattle.calls.specs.Table.{called}
+use Rattle.calls.specs.Table.{called, callOf}
+use Rattle.calls.specs.Words.{fieldOf, numbersIn, noWords}
+use Rattle.calls.proofs.Rows.{call-again}
 use Rattle.fields.specs.Item.{filled}
 use Rattle.journal.specs.Types.{Call, Answer, TaskNo, Reading, Says, NoCall, Read, Written, Count, NotWritten}
-use Rattle.journal.specs.Line.{fieldOf, lineOf, HasLine}
+use Rattle.journal.specs.Line.{lineOf, HasLine}
 use Rattle.journal.specs.Told.{Told, aCall, refusal, count, reads, writes}
 use Rattle.journal.specs.Promise.{Tells, IsLine, NoLine, ReadsAs, Writes, lineRefusal, itemRefusal, WritesCall, WritesAnswer}
-use Rattle.journal.specs.Frames.{callOf, numbersIn}
 use Rattle.journal.specs.Steps.{says, readOf}
-use Rattle.journal.proofs.Rows.{call-again}
 use Rattle.journal.proofs.Fit.{item-long}
 use Rattle.journal.proofs.Promised.{line-read, reads-as}
 use Rattle.journal.proofs.Stores.{line-short}
@@ -26,7 +26,7 @@ use Rattle.journal.proofs.Stores.{line-short}
 -- ---- the answers by what they say
 
 reading : Told → Reading
-reading (aCall w) = Says (callOf (w .number) (sets (0 ∷ 0 ∷ []) 0 (numbersIn (map fieldOf (w .arguments)))))
+reading (aCall w) = Says (callOf (w .number) (sets noWords 0 (numbersIn (map fieldOf (w .arguments)))))
 reading (refusal n) = NoCall n
 reading (count n) = NoCall n
 

@@ -1,37 +1,16 @@
 -- The journal line of a call, from the table of calls.
 use Prim.Native.Nat.{ℕ, _≤_}
 use mathlib.Core.Path.{_≡_}
-use mathlib.Core.Bool.{Bool, true, false}
-use mathlib.Core.List.{List, [], _∷_, _++_, map}
+use mathlib.Core.Bool.{Bool, false}
+use mathlib.Core.List.{List, [], _∷_, _++_}
 use lib.ListN.{length}
 use Rattle.lists.specs.Choice.{if_then_else_}
 use Rattle.lists.specs.Lists.{any}
-use Rattle.calls.specs.Table.{Argument, aTask, anObject, aQueue, aMutex, priority, ticks, capacity, size, wait, item, called}
+use Rattle.calls.specs.Table.{called}
+use Rattle.calls.specs.Words.{Field, number, bytes, fieldsOf, isBytes}
 use Rattle.fields.specs.Decimal.{dec}
 use Rattle.fields.specs.Hex.{hex, Bytes}
 use Rattle.journal.specs.Types.{Call}
-
--- what stands in a line for an argument: a number, or the item's bytes
-pub data Field : Type 0 where
-  number : ℕ → Field
-  bytes : Field
-
--- a task and an object are written by their numbers
-abbrev pub fieldOf : Argument → Field
-fieldOf (aTask t) = number (t .0)
-fieldOf (anObject o) = number (o .0)
-fieldOf (aQueue o) = number (o .0)
-fieldOf (aMutex o) = number (o .0)
-fieldOf (priority p) = number p
-fieldOf (ticks n) = number n
-fieldOf (capacity c) = number c
-fieldOf (size s) = number s
-fieldOf (wait w) = number w
-fieldOf item = bytes
-
--- "arguments in this order"
-abbrev pub fieldsOf : Call → List Field
-fieldsOf c = map fieldOf (called c .arguments)
 
 -- "in decimal without needless zeros"; "an item is lower-case hex, two digits a byte"
 abbrev pub text : List ℕ → Field → List ℕ
@@ -48,10 +27,6 @@ unfoldable pub lineOf : Call → List ℕ → List ℕ
 lineOf c b = dec (called c .number) ++ after b (fieldsOf c)
 
 -- whether the call has an item: "send: object, item, wait"
-abbrev pub isBytes : Field → Bool
-isBytes (number n) = false
-isBytes bytes = true
-
 unfoldable pub carries : Call → Bool
 carries c = any isBytes (fieldsOf c)
 

@@ -9,10 +9,11 @@ use lib.ListN.{length, drop, set, replicate}
 use lib.Dec.{eqb}
 use Rattle.lists.specs.Choice.{if_then_else_}
 use Rattle.lists.specs.Lists.{isNone}
+use Rattle.calls.specs.Table.{callOf}
+use Rattle.calls.specs.Words.{noWords, shapeOf}
 use Rattle.fields.specs.Number.{number}
 use Rattle.fields.specs.Item.{item}
 use Rattle.journal.specs.Types.{Call, Number, Got, Missing, Item, Says, NoCall, Read, Place, Numbers, Shape}
-use Rattle.journal.specs.Frames.{shapeOf, callOf}
 
 -- l is left at a place of a line of n bytes: the place after a tab
 abbrev pub tabIn : ℕ → ℕ → List ℕ → ℕ
@@ -60,7 +61,7 @@ abbrev pub readSent : List ℕ → ℕ → Shape → Numbers → Read
 readSent l n s f = readLast l n s f (sentAt l (f .next) (s .item))
 
 abbrev pub readFirst : List ℕ → Place → Shape → Read
-readFirst l p s = readSent l (p .value) s (nums l (s .before) 0 (0 ∷ 0 ∷ []) (p .next))
+readFirst l p s = readSent l (p .value) s (nums l (s .before) 0 noWords (p .next))
 
 unfoldable pub readOf : List ℕ → Read
 readOf l = readFirst l (numberAt l 0) (shapeOf (numberAt l 0 .value))

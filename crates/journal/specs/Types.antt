@@ -1,7 +1,6 @@
 -- The declared records and variants, under one name.
 pub use Rattle.calls.specs.declared.TaskNo.{TaskNo}
 pub use Rattle.calls.specs.declared.Call.{Call}
-pub use Rattle.calls.specs.declared.Call.the-variants.{Create, Delete, Suspend, Resume, SetPriority, Delay, Yield, Hold, Release, MakeQueue, MakeMutex, Remove, Send, Receive, Take, Give, Tick}
 pub use Rattle.calls.specs.declared.Answer.{Answer}
 pub use Rattle.fields.specs.declared.Number.{Number}
 pub use Rattle.fields.specs.declared.Number.the-variants.{Got, Missing}
@@ -11,7 +10,7 @@ pub use Rattle.journal.specs.declared.Reading.the-variants.{Says, Refuse
 pub use Rattle.journal.specs.declared.Read.{Read}
 pub use Rattle.journal.specs.declared.Written.{Written}
 pub use Rattle.journal.specs.declared.Written.the-variants.{Count, Refused as NotWritten}
-pub use Rattle.journal.specs.declared.table.Shape.{Shape}
-pub use Rattle.journal.specs.declared.table.Frame.{Frame}
+pub use Rattle.calls.specs.declared.Shape.{Shape}
+pub use Rattle.calls.specs.declared.Frame.{Frame}
 pub use Rattle.journal.specs.declared.reader.Place.{Place}
 pub use Rattle.journal.specs.declared.reader.Numbers.{Numbers}

@@ -1,6 +1,5 @@
 // The journal: a call's line read and written, an answer's line written.
 mod reader;
-mod table;
 mod writer;
 
 use calls::Call;

@@ -6,8 +6,8 @@ ghost use Rattle.journal.specs.Promise.{ReadsAs};
 ghost use Rattle.journal.specs.Steps.{afterTab, numberAt, nums, sentAt, endOf, noCall};
 use crate::Read;
 use crate::Reading;
-use crate::table::call_of;
-use crate::table::shape_of;
+use calls::Call;
+use calls::Shape;
 use fields::Item;
 use fields::Number;
 use fields::read_item;
@@ -22,7 +22,7 @@ pub(crate) struct Place {
 
 // The numbers among a call's arguments, as far as they are read.
 pub(crate) struct Numbers {
-    pub(crate) values: [u32; 2],
+    pub(crate) values: [u32; 5],
     pub(crate) next: usize,
 }
 
@@ -53,8 +53,8 @@ fn number_at(line: &[u8], at: usize) -> Place
 }
 
 // A tab and a number for each of `count` values, from the place `from` on.
-fn read_numbers(line: &[u8], at: usize, from: usize, count: usize, values: [u32; 2]) -> Numbers
-    requires { ⌜ from + count ≤ 2 ⌝ }
+fn read_numbers(line: &[u8], at: usize, from: usize, count: usize, values: [u32; 5]) -> Numbers
+    requires { ⌜ from + count ≤ 5 ⌝ }
     ensures { λ r. ⌜ r ≡ nums (now (line .entry)) count from values at ⌝ }
 {
     let mut read = values;
@@ -115,8 +115,8 @@ pub fn read_call(line: &[u8]) -> Read
     ensures { λ r. ⌜ ReadsAs (now (line .entry)) r ⌝ }
 {
     let number = number_at(line, 0);
-    let shape = shape_of(number.value);
-    let first = read_numbers(line, number.next, 0, shape.before, [0u32; 2]);
+    let shape = Shape::of(number.value);
+    let first = read_numbers(line, number.next, 0, shape.before, [0u32; 5]);
     let sent = read_sent(line, first.next, shape.item);
     let v = first.values;
     let last = read_numbers(line, sent.next, shape.before, shape.after, v);
@@ -126,7 +126,7 @@ pub fn read_call(line: &[u8]) -> Read
     let w = last.values;
     let bytes = sent.bytes;
     Read {
-        answer: Reading::Says(call_of(number.value, w)),
+        answer: Reading::Says(Call::of(number.value, w)),
         item: bytes,
         len: sent.len,
     }

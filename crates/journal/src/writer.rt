@@ -10,12 +10,10 @@ ghost use Rattle.journal.specs.Reply.{wordOf, replyOf};
 ghost use Rattle.journal.specs.Frames.{tabbed, sentText, frameText};
 ghost use Rattle.journal.specs.Promise.{WritesCall, WritesAnswer};
 use crate::Written;
-use crate::table::Frame;
-use crate::table::Shape;
-use crate::table::frame_of;
-use crate::table::shape_of;
 use calls::Answer;
 use calls::Call;
+use calls::Frame;
+use calls::Shape;
 use calls::TaskNo;
 use fields::put;
 use fields::put_all;
@@ -32,8 +30,8 @@ fn put_field(line: &mut [u8], at: usize, n: u32) -> usize
 }
 
 // A tab and a number for each of `count` values, from the place `from` on.
-fn put_numbers(line: &mut [u8], at: usize, values: [u32; 2], from: usize, count: usize) -> usize
-    requires { ⌜ from + count ≤ 2 ⌝ }
+fn put_numbers(line: &mut [u8], at: usize, values: [u32; 5], from: usize, count: usize) -> usize
+    requires { ⌜ from + count ≤ 5 ⌝ }
     ensures { λ r. ⌜ Wrote (now (line .entry)) at (texts tabbed (take count (drop from values))) r (now (line .exit)) ⌝ }
 {
     let mut next = at;
@@ -58,10 +56,10 @@ fn put_sent(line: &mut [u8], at: usize, sent: bool, item: &[u8]) -> usize
 
 // The whole line of a frame.
 fn put_frame(line: &mut [u8], f: Frame, item: &[u8]) -> usize
-    ensures { λ r. ⌜ Wrote (now (line .entry)) 0 (frameText (f .number) (f .values) (now (item .entry))) r (now (line .exit)) ⌝ }
+    ensures { λ r. ⌜ Wrote (now (line .entry)) 0 (frameText (f .number) (f .words) (now (item .entry))) r (now (line .exit)) ⌝ }
 {
-    let shape = shape_of(f.number);
-    let v = f.values;
+    let shape = Shape::of(f.number as u32);
+    let v = f.words;
     let first = put_number(line, 0, f.number as u64);
     let sent = put_numbers(line, first, v, 0, shape.before);
     let last = put_sent(line, sent, shape.item, item);
@@ -73,11 +71,11 @@ fn put_frame(line: &mut [u8], f: Frame, item: &[u8]) -> usize
 pub fn write_call(call: Call, item: &[u8], line: &mut [u8]) -> Written
     ensures { λ r. ⌜ WritesCall call (itsItem call (now (item .entry))) (now (line .entry)) r (now (line .exit)) ⌝ }
 {
-    let f = frame_of(call);
+    let f = call.frame();
     if line.len() != 256 {
         return Written::Refused(2);
     }
-    if both(shape_of(f.number).item, item.len() > 64) {
+    if both(Shape::of(f.number as u32).item, item.len() > 64) {
         return Written::Refused(6);
     }
     Written::Count(put_frame(line, f, item))

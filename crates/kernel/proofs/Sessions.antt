@@ -22,7 +22,7 @@ use Rattle.journal.specs.declared.Reading.{Reading}
 use Rattle.journal.specs.declared.Reading.the-variants.{Says, Refused}
 use Rattle.journal.specs.Promise.{ReadsAs}
 use Rattle.journal.specs.Reply.{reply, replyOf}
-use Rattle.journal.specs.Frames.{shapeOf}
+use Rattle.calls.specs.Words.{shapeOf}
 use Rattle.journal.specs.Steps.{noCall, readOf}
 use Rattle.journal.proofs.Stores.{reply-short}
 use Rattle.journal.proofs.Theorems.{read-is, len-within}

@@ -21,7 +21,8 @@ use Rattle.rules.specs.Waits.{readied, blocked, waitFor}
 use Rattle.fields.specs.Decimal.{digits, dec}
 use Rattle.fields.specs.Digit.{among}
 use Rattle.fields.specs.Number.{grow}
-use Rattle.journal.specs.Frames.{callOf, shapeOf}
+use Rattle.calls.specs.Table.{callOf}
+use Rattle.calls.specs.Words.{shapeOf}
 use Rattle.journal.specs.Steps.{nums, readOf}
 use Rattle.journal.specs.Reply.{reply}
 use Rattle.promises.specs.Program.{linesOf, Answered, answering, answersTo}

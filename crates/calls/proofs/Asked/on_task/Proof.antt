@@ -2,11 +2,8 @@ use borrow.Author.Needs.{needs}
 use Rattle.calls.proofs.Asked.on_task.Statement.{statement}
 use Rattle.calls.proofs.Asked.on_task.Tie as tie
 
-slot-requires : tie.Need-slot-requires
-slot-requires c κs = search needs
-
 returns : tie.Need-returns
 returns c = rw (c .slot .ensures)
 
 pub on-task-spec : {M : Type 1} → statement M
-on-task-spec = tie.close (tie.spec slot-requires returns)
+on-task-spec = tie.close (tie.spec (λ c κs. search needs) returns)

@@ -2,11 +2,8 @@ use borrow.Author.Needs.{needs}
 use Rattle.calls.proofs.TaskNo.of_slot.Statement.{statement}
 use Rattle.calls.proofs.TaskNo.of_slot.Tie as tie
 
-number-requires : tie.Need-number-requires
-number-requires c κs = search needs
-
 returns : tie.Need-returns
 returns c = rw (c .number .ensures)
 
 pub of-slot-spec : {M : Type 1} → statement M
-of-slot-spec = tie.close (tie.spec number-requires returns)
+of-slot-spec = tie.close (tie.spec (λ c κs. search needs) returns)

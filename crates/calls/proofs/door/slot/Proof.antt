@@ -4,9 +4,6 @@ use native.Mathlib.Omega.{arith}
 use Rattle.calls.proofs.door.slot.Statement.{statement}
 use Rattle.calls.proofs.door.slot.Tie as tie
 
-cast-result : tie.Need-cast-result
-cast-result c = search needs
-
 returns : tie.Need-returns
 returns c = rw (lt-ltb (c .before .args .n) 16 (c .if1 .taken))
 
@@ -14,4 +11,4 @@ returns-2 : tie.Need-returns-2
 returns-2 c = rw (le-ltb (c .before .args .n) 16 (omega arith))
 
 pub slot-spec : {M : Type 1} → statement M
-slot-spec = tie.close (tie.spec cast-result returns returns-2)
+slot-spec = tie.close (tie.spec (λ c. search needs) returns returns-2)

@@ -8,14 +8,8 @@ use Rattle.journal.proofs.reader.at_end.Tie as tie
 returns : tie.Need-returns
 returns c = rw (drop-of-length-le _ (c .if1 .taken))
 
-shared-slice-read-if2 : tie.Need-shared-slice-read-if2
-shared-slice-read-if2 c = search needs
-
 returns-2 : tie.Need-returns-2
 returns-2 c = rw (here _ _ (c .before .before .if1 .left), ne-eqb _ _ (c .if2 .taken))
-
-add-if3 : tie.Need-add-if3
-add-if3 c = search needs
 
 returns-3 : tie.Need-returns-3
 returns-3 c = rw (here _ _ (c .before .before .before .if1 .left), eq-eqb _ _ (c .before .if2 .left), here _ _ (c .if3 .taken))
@@ -25,4 +19,4 @@ returns-4 c = rw (here _ _ (c .before .before .before .if1 .left), eq-eqb _ _ (c
 
 pub at-end-spec : {M : Type 1} → statement M
 at-end-spec =
-    tie.close (tie.spec returns shared-slice-read-if2 returns-2 add-if3 returns-3 returns-4)
+    tie.close (tie.spec returns (λ c. search needs) returns-2 (λ c. search needs) returns-3 returns-4)

@@ -20,27 +20,6 @@ loop-holds c =
     let f : a .from + 0 ≡ a .from = omega arith in
     (search needs, rw (e, f))
 
-after-tab-requires : tie.Need-after-tab-requires Inv-loop μ-loop
-after-tab-requires c κs = search needs
-
-number-at-requires : tie.Need-number-at-requires Inv-loop μ-loop
-number-at-requires c κs = search needs
-
-add-read : tie.Need-add-read Inv-loop μ-loop
-add-read c = search needs
-
-mul-read : tie.Need-mul-read Inv-loop μ-loop
-mul-read c = search needs
-
-array-write-read : tie.Need-array-write-read Inv-loop μ-loop
-array-write-read c = search needs
-
-add-i : tie.Need-add-i Inv-loop μ-loop
-add-i c = search needs
-
-loop-less : tie.Need-loop-less Inv-loop μ-loop
-loop-less c = search needs
-
 loop-again : tie.Need-loop-again Inv-loop μ-loop
 loop-again c =
     let a = c .before .before .before .before .before .args in
@@ -62,12 +41,12 @@ read-numbers-spec =
     Inv-loop
     μ-loop
     loop-holds
-    after-tab-requires
-    number-at-requires
-    add-read
-    mul-read
-    array-write-read
-    add-i
-    loop-less
+    (λ c κs. search needs)
+    (λ c κs. search needs)
+    (λ c. search needs)
+    (λ c. search needs)
+    (λ c. search needs)
+    (λ c. search needs)
+    (λ c. search needs)
     loop-again
     returns)

@@ -9,16 +9,10 @@ returns c =
     let a = c .before .before .args in
     line-refused 0 (replyOf (a .answer) (a .running)) (a .line .now) (c .if1 .taken)
 
-put-answer-requires : tie.Need-put-answer-requires
-put-answer-requires c κs = search needs
-
-same-length : tie.Need-same-length
-same-length c = search needs
-
 returns-2 : tie.Need-returns-2
 returns-2 c =
     let a = c .before .before .before .before .before .before .args in
     reply-written (a .answer) (a .running) (a .line .now) _ _ (c .before .before .before .before .if1 .left) (c .before .before .put-answer .ensures)
 
 pub write-answer-spec : {M : Type 1} → statement M
-write-answer-spec = tie.close (tie.spec returns put-answer-requires same-length returns-2)
+write-answer-spec = tie.close (tie.spec returns (λ c κs. search needs) (λ c. search needs) returns-2)

@@ -11,57 +11,43 @@ returns c =
     let a = f .before .before .before .args in
     record {
       written = line-refused _ _ _ (c .if1 .taken);
-      has = λ k. its-line (a .call) (a .item .now) (f .frame-of .ensures .1) (f .before .before .shared-slice-known .given) (omega (arith, k));
+      has = λ k. its-line (a .call) (a .item .now) (f .frame .ensures .1) (f .before .before .shared-slice-known .given) (omega (arith, k));
     }
-
-frame-of-requires : tie.Need-frame-of-requires
-frame-of-requires c κs = search needs
-
-shape-of-requires : tie.Need-shape-of-requires
-shape-of-requires c κs = search needs
-
-both-requires : tie.Need-both-requires
-both-requires c κs = search needs
 
 returns-2 : tie.Need-returns-2
 returns-2 c =
     let s = c .before .before in
-    let f = s .before .before in
+    let f = s .before .before .before in
     let a = f .before .before .before .args in
     record {
-      written = item-refused (a .call) (a .item .now) (a .line .now) (s .before .if1 .left) _ _ _ (f .frame-of .ensures .0) (s .shape-of .ensures)
+      written = item-refused (a .call) (a .item .now) (a .line .now) (s .before .before .if1 .left) _ _ _ (f .frame .ensures .0) (s .of .ensures)
           (c .before .both .ensures) (c .if2 .taken);
-      has = λ k. its-line (a .call) (a .item .now) (f .frame-of .ensures .1) (f .before .before .shared-slice-known .given) (omega (arith, k));
+      has = λ k. its-line (a .call) (a .item .now) (f .frame .ensures .1) (f .before .before .shared-slice-known .given) (omega (arith, k));
     }
-
-put-frame-requires : tie.Need-put-frame-requires
-put-frame-requires c κs = search needs
-
-same-length : tie.Need-same-length
-same-length c = search needs
 
 returns-3 : tie.Need-returns-3
 returns-3 c =
     let p = c .before .before in
     let t = p .before .before in
     let s = t .before .before in
-    let f = s .before .before in
+    let f = s .before .before .before in
     let a = f .before .before .before .args in
     record {
-      written = call-written (a .call) (a .item .now) (a .line .now) (s .before .if1 .left) _ _ _ (f .frame-of .ensures .0) (s .shape-of .ensures)
+      written = call-written (a .call) (a .item .now) (a .line .now) (s .before .before .if1 .left) _ _ _ (f .frame .ensures .0) (s .of .ensures)
           (t .before .both .ensures) _ _ (t .if2 .left) (p .put-frame .ensures);
-      has = λ k. its-line (a .call) (a .item .now) (f .frame-of .ensures .1) (f .before .before .shared-slice-known .given) (omega (arith, k));
+      has = λ k. its-line (a .call) (a .item .now) (f .frame .ensures .1) (f .before .before .shared-slice-known .given) (omega (arith, k));
     }
 
 pub write-call-spec : {M : Type 1} → statement M
 write-call-spec =
     tie.close
     (tie.spec
-    frame-of-requires
+    (λ c κs. search needs)
     returns
-    shape-of-requires
-    both-requires
+    (λ c. search needs)
+    (λ c κs. search needs)
+    (λ c κs. search needs)
     returns-2
-    put-frame-requires
-    same-length
+    (λ c κs. search needs)
+    (λ c. search needs)
     returns-3)

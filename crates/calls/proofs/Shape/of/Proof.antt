@@ -1,18 +1,16 @@
 use Prim.Native.Nat.{ℕ, _<_, _≤_}
 use mathlib.Core.Bool.{true}
-use mathlib.Core.List.{List, _∷_, [], map}
+use mathlib.Core.List.{List, _∷_, []}
 use mathlib.Core.Logic.{⊎-elim}
 use mathlib.Core.Path.{_≡_, refl, sym, _∙_}
 use native.Mathlib.Omega.{arith}
 use lib.ListN.{List·getD-eq-default}
 use borrow.Author.Needs.{needs}
 use Rattle.lists.specs.Lists.{index, any}
-use Rattle.fields.proofs.Places.{below-or}
-use Rattle.journal.specs.Frames.{calls, shaped, plain, unknown, shapeIn, shapeOf}
-use Rattle.journal.specs.Line.{fieldsOf}
-use Rattle.journal.proofs.Ranges.{keyed, Nones, ranged}
-use Rattle.journal.proofs.table.shape_of.Statement.{statement}
-use Rattle.journal.proofs.table.shape_of.Tie as tie
+use Rattle.calls.specs.Words.{shaped, plain, unknown, shapes, shapeOf}
+use Rattle.calls.proofs.Ranges.{below-or, keyed, Nones, ranged}
+use Rattle.calls.proofs.Shape.of.Statement.{statement}
+use Rattle.calls.proofs.Shape.of.Tie as tie
 
 -- the keys of the arms, the last arm first
 abbrev arms : List (List ℕ)
@@ -23,17 +21,8 @@ beyond : (n : ℕ) → 16 ≤ n → Nones arms n → unknown ≡ shapeOf n
 unfolding shapeOf any index
 beyond n l o =
     ⊎-elim (λ (e : n < 18). ranged unknown arms 16 2 refl n l e o)
-    (λ (e : 18 ≤ n). sym (List·getD-eq-default (unknown ∷ map (λ c. shapeIn (fieldsOf c)) (calls 0 0)) unknown {n = n} e))
+    (λ (e : 18 ≤ n). sym (List·getD-eq-default shapes unknown {n = n} e))
     (below-or n 18)
-
-plain-requires : tie.Need-plain-requires
-plain-requires c κs = search needs
-
-plain-requires-2 : tie.Need-plain-requires-2
-plain-requires-2 c κs = search needs
-
-plain-requires-3 : tie.Need-plain-requires-3
-plain-requires-3 c κs = search needs
 
 returns : tie.Need-returns
 unfolding shapeOf any index
@@ -62,13 +51,13 @@ unfolding shapeOf any index
 returns-6 c =
     c .plain3 .ensures ∙ ⊎-elim (λ k. keyed (plain 1) (6 ∷ 12 ∷ 16 ∷ []) refl _ (k .keys2)) (λ w. ranged (plain 1) arms 1 4 refl _ (w .1 .left) (w .2 .taken) (w .0 .rest)) (c .before .match .came)
 
-pub shape-of-spec : {M : Type 1} → statement M
-shape-of-spec =
+pub of-spec : {M : Type 1} → statement M
+of-spec =
     tie.close
     (tie.spec
-    plain-requires
-    plain-requires-2
-    plain-requires-3
+    (λ c κs. search needs)
+    (λ c κs. search needs)
+    (λ c κs. search needs)
     returns
     returns-2
     returns-3

@@ -1,16 +1,15 @@
 use Prim.Native.Nat.{ℕ, _<_, _≤_}
-use mathlib.Core.List.{List, _∷_}
+use mathlib.Core.List.{List}
 use mathlib.Core.Logic.{⊎-elim}
 use mathlib.Core.Path.{_≡_, sym}
 use native.Mathlib.Omega.{arith}
-use lib.ListN.{getD, List·getD-eq-default}
+use lib.ListN.{List·getD-eq-default}
 use borrow.Author.Needs.{needs}
-use Rattle.fields.proofs.Places.{below-or}
-use Rattle.journal.specs.Frames.{calls, callOf}
-use Rattle.journal.specs.Types.{Tick}
-use Rattle.journal.proofs.Ranges.{NotUpto, outside}
-use Rattle.journal.proofs.table.call_of.Statement.{statement}
-use Rattle.journal.proofs.table.call_of.Tie as tie
+use Rattle.calls.specs.Table.{rows, callOf}
+use Rattle.calls.specs.Types.{Tick}
+use Rattle.calls.proofs.Ranges.{below-or, NotUpto, outside}
+use Rattle.calls.proofs.Call.of.Statement.{statement}
+use Rattle.calls.proofs.Call.of.Tie as tie
 
 other-call : (n : ℕ) (vs : List ℕ) → NotUpto 16 n → Tick ≡ callOf n vs
 unfolding callOf
@@ -18,21 +17,9 @@ other-call n vs h =
     ⊎-elim (λ (e : n ≡ 0). rw e)
     (λ (l : 16 < n).
     ⊎-elim (λ (u : n < 18). let e : n ≡ 17 = omega arith in rw e)
-    (λ (u : 18 ≤ n). sym (List·getD-eq-default (Tick ∷ calls (getD vs 0 0) (getD vs 1 0)) Tick {n = n} u))
+    (λ (u : 18 ≤ n). sym (List·getD-eq-default (rows vs) Tick {n = n} u))
     (below-or n 18))
     (outside 16 n h)
-
-array-read-a : tie.Need-array-read-a
-array-read-a c = search needs
-
-array-read-b : tie.Need-array-read-b
-array-read-b c = search needs
-
-of-requires : tie.Need-of-requires
-of-requires c κs = search needs
-
-of-requires-2 : tie.Need-of-requires-2
-of-requires-2 c κs = search needs
 
 returns : tie.Need-returns
 unfolding callOf
@@ -40,19 +27,19 @@ returns c = rw (c .match .keys1)
 
 returns-2 : tie.Need-returns-2
 unfolding callOf
-returns-2 c = rw (c .match .keys2, c .before .before .of .ensures)
+returns-2 c = rw (c .match .keys2)
 
 returns-3 : tie.Need-returns-3
 unfolding callOf
-returns-3 c = rw (c .match .keys3, c .before .before .of .ensures)
+returns-3 c = rw (c .match .keys3)
 
 returns-4 : tie.Need-returns-4
 unfolding callOf
-returns-4 c = rw (c .match .keys4, c .before .before .of .ensures)
+returns-4 c = rw (c .match .keys4)
 
 returns-5 : tie.Need-returns-5
 unfolding callOf
-returns-5 c = rw (c .match .keys5, c .before .before .of .ensures)
+returns-5 c = rw (c .match .keys5)
 
 returns-6 : tie.Need-returns-6
 unfolding callOf
@@ -80,35 +67,33 @@ returns-11 c = rw (c .match .keys11)
 
 returns-12 : tie.Need-returns-12
 unfolding callOf
-returns-12 c = rw (c .match .keys12, c .before .of2 .ensures)
+returns-12 c = rw (c .match .keys12)
 
 returns-13 : tie.Need-returns-13
 unfolding callOf
-returns-13 c = rw (c .match .keys13, c .before .of2 .ensures)
+returns-13 c = rw (c .match .keys13)
 
 returns-14 : tie.Need-returns-14
 unfolding callOf
-returns-14 c = rw (c .match .keys14, c .before .of2 .ensures)
+returns-14 c = rw (c .match .keys14)
 
 returns-15 : tie.Need-returns-15
 unfolding callOf
-returns-15 c = rw (c .match .keys15, c .before .of2 .ensures)
+returns-15 c = rw (c .match .keys15)
 
 returns-16 : tie.Need-returns-16
 unfolding callOf
-returns-16 c = rw (c .match .keys16, c .before .of2 .ensures)
+returns-16 c = rw (c .match .keys16)
 
 returns-17 : tie.Need-returns-17
 returns-17 c = other-call _ _ (c .match .rest)
 
-pub call-of-spec : {M : Type 1} → statement M
-call-of-spec =
+pub of-spec : {M : Type 1} → statement M
+of-spec =
     tie.close
     (tie.spec
-    array-read-a
-    array-read-b
-    of-requires
-    of-requires-2
+    (λ c. search needs)
+    (λ c. search needs)
     returns
     returns-2
     returns-3

@@ -1,0 +1,104 @@
+-- A call in words: its number, what it names, and the numbers among its arguments, of which no call has more than five. All of it is read
+-- off the table.
+use Prim.Native.Nat.{ℕ, _-_, _≤_}
+use mathlib.Core.Bool.{Bool, true, false}
+use mathlib.Core.List.{List, [], _∷_, map}
+use lib.ListN.{length, getD}
+use lib.Seq.{sets}
+use lib.Dec.{eqb}
+use Rattle.lists.specs.Choice.{if_then_else_}
+use Rattle.lists.specs.Lists.{any, index}
+use Rattle.calls.specs.Types.{Call, Names, Nothing, ATask, AnObject, AQueue, AMutex, Shape, Frame, Asked}
+use Rattle.calls.specs.Table.{Argument, aTask, anObject, aQueue, aMutex, priority, ticks, capacity, size, wait, item, called, calls}
+use Rattle.calls.specs.Numbers.{taskOf, objectOf}
+use Rattle.calls.specs.Door.{taskSlot, objSlot}
+use Rattle.calls.specs.Asked.{asked, nothing, onTask, onObject}
+
+-- what stands for an argument: a number, or the item's bytes
+pub data Field : Type 0 where
+  number : ℕ → Field
+  bytes : Field
+
+-- a task and an object are written by their numbers
+abbrev pub fieldOf : Argument → Field
+fieldOf (aTask t) = number (t .0)
+fieldOf (anObject o) = number (o .0)
+fieldOf (aQueue o) = number (o .0)
+fieldOf (aMutex o) = number (o .0)
+fieldOf (priority p) = number p
+fieldOf (ticks n) = number n
+fieldOf (capacity c) = number c
+fieldOf (size s) = number s
+fieldOf (wait w) = number w
+fieldOf item = bytes
+
+-- "arguments in this order"
+abbrev pub fieldsOf : Call → List Field
+fieldsOf c = map fieldOf (called c .arguments)
+
+abbrev pub isBytes : Field → Bool
+isBytes (number n) = false
+isBytes bytes = true
+
+-- the numbers among the fields
+abbrev pub numbersIn : List Field → List ℕ
+numbersIn [] = []
+numbersIn (number n ∷ xs) = n ∷ numbersIn xs
+numbersIn (bytes ∷ xs) = numbersIn xs
+
+-- "each at most 4,294,967,295"
+abbrev pub Small : List ℕ → Type 0
+Small [] = Unit {0}
+Small (n ∷ ns) = (n ≤ 4294967295) × Small ns
+
+-- ---- the words of a call
+
+abbrev pub noWords : List ℕ
+noWords = 0 ∷ 0 ∷ 0 ∷ 0 ∷ 0 ∷ []
+
+abbrev pub framed : ℕ → Names → List ℕ → Frame
+framed n m ws = record { number = n; names = m; words = ws }
+
+-- the numbers, and zeros after them
+abbrev pub frameOf : Call → Frame
+frameOf c = framed (called c .number) (asked c .names) (sets noWords 0 (numbersIn (fieldsOf c)))
+
+-- ---- how they stand
+
+abbrev pub shaped : Bool → ℕ → Bool → ℕ → Shape
+shaped k m i n = record { known = k; before = m; item = i; after = n }
+
+abbrev pub plain : ℕ → Shape
+plain n = shaped true n false 0
+
+abbrev pub unknown : Shape
+unknown = shaped false 0 false 0
+
+-- how many numbers stand before the item, and how many after it
+abbrev pub shapeIn : List Field → Shape
+shapeIn fs = shaped true (index isBytes fs) (any isBytes fs) (length (numbersIn fs) - index isBytes fs)
+
+-- by number
+abbrev pub shapes : List Shape
+shapes = unknown ∷ map (λ c. shapeIn (fieldsOf c)) (calls noWords)
+
+unfoldable pub shapeOf : ℕ → Shape
+shapeOf n = getD shapes n unknown
+
+-- ---- behind the door
+
+-- a call that names nothing, of its first two words
+abbrev pub unnamed : ℕ → ℕ → ℕ → Asked
+unnamed n a b =
+    if eqb n 1 then nothing 1 a 0 1 0
+    else if eqb n 6 then nothing 6 0 a 1 0
+    else if eqb n 10 then nothing 10 0 0 a b
+    else nothing n 0 0 1 0
+
+-- what a word is follows from what the call names
+abbrev pub askedBy : Names → ℕ → ℕ → ℕ → Asked
+askedBy Nothing n a b = unnamed n a b
+askedBy ATask n a b = onTask n (taskSlot (taskOf a)) b
+askedBy AnObject n a b = onObject n AnObject (objSlot (objectOf a)) b
+askedBy AQueue n a b = onObject n AQueue (objSlot (objectOf a)) b
+askedBy AMutex n a b = onObject n AMutex (objSlot (objectOf a)) b

@@ -1,0 +1,94 @@
+// A call behind the door.
+ghost use mathlib.Core.Path.{_≡_};
+ghost use Rattle.calls.specs.Door.{taskSlot, objSlot};
+ghost use Rattle.calls.specs.Asked.{asked, nothing, onTask, onObject};
+ghost use Rattle.calls.specs.Words.{unnamed};
+use crate::Asked;
+use crate::Call;
+use crate::Names;
+use crate::ObjNo;
+use crate::TaskNo;
+use numbers::ObjSlot;
+use numbers::TaskSlot;
+
+impl Asked {
+    // A call that names nothing: its slots are 16, which no table has.
+    fn nothing(number: u8, priority: u32, ticks: u32, capacity: u32, size: u32) -> Asked
+        ensures { λ r. ⌜ r ≡ nothing number priority ticks capacity size ⌝ }
+    {
+        Asked {
+            number,
+            names: Names::Nothing,
+            task: TaskSlot(16),
+            object: ObjSlot(16),
+            priority,
+            ticks,
+            capacity,
+            size,
+            wait: 0,
+        }
+    }
+
+    // Such a call, of its words: a priority, ticks, or a capacity and a size.
+    fn unnamed(number: u8, a: u32, b: u32) -> Asked
+        ensures { λ r. ⌜ r ≡ unnamed number a b ⌝ }
+    {
+        match number {
+            1 => Asked::nothing(1, a, 0, 1, 0),
+            6 => Asked::nothing(6, 0, a, 1, 0),
+            10 => Asked::nothing(10, 0, 0, a, b),
+            _ => Asked::nothing(number, 0, 0, 1, 0),
+        }
+    }
+
+    fn on_task(number: u8, t: TaskNo, priority: u32) -> Asked
+        ensures { λ r. ⌜ r ≡ onTask number (taskSlot t) priority ⌝ }
+    {
+        Asked {
+            number,
+            names: Names::Task,
+            task: t.slot(),
+            object: ObjSlot(16),
+            priority,
+            ticks: 0,
+            capacity: 1,
+            size: 0,
+            wait: 0,
+        }
+    }
+
+    fn on_object(number: u8, names: Names, o: ObjNo, wait: u32) -> Asked
+        ensures { λ r. ⌜ r ≡ onObject number names (objSlot o) wait ⌝ }
+    {
+        Asked {
+            number,
+            names,
+            task: TaskSlot(16),
+            object: o.slot(),
+            priority: 0,
+            ticks: 0,
+            capacity: 1,
+            size: 0,
+            wait,
+        }
+    }
+}
+
+impl Call {
+    // What a word is follows from what the call names; a word that it does not have is 0.
+    pub fn asked(self) -> Asked
+        ensures { λ r. ⌜ r ≡ asked self ⌝ }
+    {
+        let f = self.frame();
+        let names = f.names;
+        let a = f.words[0];
+        let b = f.words[1];
+        match names {
+            Names::Nothing => Asked::unnamed(f.number, a, b),
+            Names::Task => Asked::on_task(f.number, TaskNo(a), b),
+            Names::Object => Asked::on_object(f.number, Names::Object, ObjNo(a), b),
+            Names::Queue => Asked::on_object(f.number, Names::Queue, ObjNo(a), b),
+            Names::Mutex => Asked::on_object(f.number, Names::Mutex, ObjNo(a), b),
+        }
+    }
+}
