@@ -24,7 +24,9 @@ larger-max a b = go (ltb a b) refl
 pub largest-append : (xs ys : List ℕ) → largest (xs ++ ys) ≡ larger (largest xs) (largest ys)
 unfolding largest
 largest-append [] ys = rw (larger-max 0 (largest ys)) (omega arith)
-largest-append (x ∷ xs) ys = rw (largest-append xs ys, larger-max x (larger (largest xs) (largest ys)), larger-max (largest xs) (largest ys), larger-max (larger x (largest xs)) (largest ys), larger-max x (largest xs)) (omega arith)
+largest-append (x ∷ xs) ys =
+    rw (largest-append xs ys, larger-max x (larger (largest xs) (largest ys)), larger-max (largest xs) (largest ys))
+    (rw (larger-max (larger x (largest xs)) (largest ys), larger-max x (largest xs)) (omega arith))
 
 pub larger-none : (n : ℕ) → (larger n 0 ≡ n) × (larger 0 n ≡ n)
 larger-none n = (rw (larger-max n 0) (omega arith), rw (larger-max 0 n) (omega arith))
@@ -50,7 +52,8 @@ module _ (f : TaskSlot → ℕ) (p : TaskSlot → Bool) where
   at-least zero r low e = absurd (omega arith)
   at-least (suc n) r low e = go (eqb (r .0) n) refl (p (task n)) refl (at-least n r)
     where
-      go : (b : Bool) → eqb (r .0) n ≡ b → (c : Bool) → p (task n) ≡ c → (r .0 < n → p r ≡ true → f r ≤ largest (map f (kept p (tasksBelow n)))) → f r ≤ largest (map f (if c then task n ∷ kept p (tasksBelow n) else kept p (tasksBelow n)))
+      go : (b : Bool) → eqb (r .0) n ≡ b → (c : Bool) → p (task n) ≡ c → (r .0 < n → p r ≡ true → f r ≤ largest (map f (kept p (tasksBelow n))))
+          → f r ≤ largest (map f (if c then task n ∷ kept p (tasksBelow n) else kept p (tasksBelow n)))
       go true q true g ih = rw (one-number r (task n) (eqb-true (r .0) n q), larger-max (f (task n)) (largest (map f (kept p (tasksBelow n))))) (omega arith)
       go true q false g ih = absurd (false≢true (sym g ∙ ap p (sym (one-number r (task n) (eqb-true (r .0) n q))) ∙ e))
       go false q true g ih = let h = ih (omega (arith, eqb-false (r .0) n q)) e in rw (larger-max (f (task n)) (largest (map f (kept p (tasksBelow n))))) (omega arith)

@@ -203,7 +203,9 @@ one-tick-too {k} w = twice (λ z. oneTick z) w (λ o v. wakes-too (byNumber 16) 
 
 turned-too : {k j : State} → Twins k j → Twins (turned k) (turned j)
 unfolding turned
-turned-too {k} w = twice (λ z. turned z) w (λ o v. rw (← same-higher (k .tasks) (listed (k .order)) (listed o) (v .alike .lines) (level (k .tasks) (k .running))) (go o v (noHigher (k .tasks) (level (k .tasks) (k .running)) (listed (k .order)))))
+turned-too {k} w = twice (λ z. turned z) w
+    (λ o v. rw (← same-higher (k .tasks) (listed (k .order)) (listed o) (v .alike .lines) (level (k .tasks) (k .running)))
+    (go o v (noHigher (k .tasks) (level (k .tasks) (k .running)) (listed (k .order)))))
   where
     go : (o : Order) → Twins k (withOrder k o) → (b : Bool) → Twins (if b then toTail k (k .running) else k) (if b then toTail (withOrder k o) (k .running) else withOrder k o)
     go o v true = runner-to-tail v
@@ -223,7 +225,8 @@ unfolding released ticks
 released-too {k} w = twice (λ z. released z) w (λ o v. go o v (eqb (k .hold) 1))
   where
     go : (o : Order) → Twins k (withOrder k o) → (b : Bool)
-        → Twins (if b then ticks (k .pended) (withHold k 0 0) else withHold k (k .hold - 1) (k .pended)) (if b then ticks (k .pended) (withHold (withOrder k o) 0 0) else withHold (withOrder k o) (k .hold - 1) (k .pended))
+        → Twins (if b then ticks (k .pended) (withHold k 0 0) else withHold k (k .hold - 1) (k .pended))
+        (if b then ticks (k .pended) (withHold (withOrder k o) 0 0) else withHold (withOrder k o) (k .hold - 1) (k .pended))
     go o v true = each-too (λ x i. oneTick x) (λ x y n. one-tick-too) (k .pended) (count-too 0 0 v)
     go o v false = count-too (k .hold - 1) (k .pended) v
 

@@ -33,7 +33,8 @@ pub alike-refusal : (k j : State) (a : Asked) (item store : ℕ) → sound k ≡
 unfolding refusal
 alike-refusal k j a item store e b =
     let p = one-kernel b in
-    let q : laterRow k a item store ≡ laterRow j a item store = subst (λ z. laterRow k a item store ≡ laterRow z a item store) p (rows-same k (j .order) (subst (λ z. Alike k z) (sym p) b) a item store) in
+    let q : laterRow k a item store ≡ laterRow j a item store =
+    subst (λ z. laterRow k a item store ≡ laterRow z a item store) p (rows-same k (j .order) (subst (λ z. Alike k z) (sym p) b) a item store) in
     rw (e, q)
 
 -- where the table gives 0, no row applies

@@ -32,7 +32,9 @@ use Rattle.rules.specs.Step.{stored, answered, accepted, turnedAway, step}
 use Rattle.rules.proofs.Within.{by-outlet}
 use Rattle.promises.specs.Alike.{Alike, AlikeSteps, Ordered}
 use Rattle.promises.proofs.Twins.{Twins, two-orders, shared, twice}
-use Rattle.promises.proofs.Likewise.{first-same, outlet-same, created-too, deleted-too, suspended-too, resumed-too, new-priority-too, yielded-too, delayed-too, queue-made-too, mutex-made-too, removed-too, ticked-too, released-too, held-too, sent-to-too, received-from-too, taken-too, given-too}
+use Rattle.promises.proofs.Likewise.{first-same, outlet-same, created-too, deleted-too, suspended-too, resumed-too, new-priority-too, yielded-too}
+use Rattle.promises.proofs.Likewise.{delayed-too, queue-made-too, mutex-made-too, removed-too, ticked-too, released-too, held-too, sent-to-too}
+use Rattle.promises.proofs.Likewise.{received-from-too, taken-too, given-too}
 use Rattle.promises.proofs.Together.{alike-sound, twins}
 use Rattle.promises.proofs.Refused.{alike-refusal, create-low, resume-low}
 
@@ -81,7 +83,9 @@ received-store-too k m a o (Mutex h) s = refl
 stored-too : (k j : State) (a : Asked) (item s : List ℕ) → Twins k j → stored k a item s ≡ stored j a item s
 unfolding stored
 stored-too k j a item s w =
-    shared (λ z. stored k a item s ≡ stored z a item s) k j w (λ m v. rw (sent-store-too k m (v .alike) (a .object) (kindAt (k .objects) (a .object)) item s, received-store-too k m (v .alike) (a .object) (kindAt (k .objects) (a .object)) s))
+    let x : Kind = kindAt (k .objects) (a .object) in
+    shared (λ z. stored k a item s ≡ stored z a item s) k j w
+    (λ m v. rw (sent-store-too k m (v .alike) (a .object) x item s, received-store-too k m (v .alike) (a .object) x s))
 
 answered-too : {k j next after : State} (a : Asked) → Alike k j → Alike next after → answered k a next ≡ answered j a after
 unfolding answered

@@ -47,7 +47,10 @@ pub first-meant : (k : State) (w : Who) (t : TaskSlot) → first k w ≡ t ∷ [
 unfolding first leader those
 first-meant k w t e =
     and-left (isWho w (taskAt (k .tasks) t .place)) _
-    (kept-head _ (listed (k .order)) t (sym (ap head (kept-kept (λ u. isWho w (taskAt (k .tasks) u .place)) (λ u. eqb (level (k .tasks) u) (highest (k .tasks) (those (k .tasks) w (listed (k .order))))) (listed (k .order)))) ∙ e))
+    (kept-head _ (listed (k .order)) t
+    (sym (ap head
+    (kept-kept (λ u. isWho w (taskAt (k .tasks) u .place)) (λ u. eqb (level (k .tasks) u) (highest (k .tasks) (those (k .tasks) w (listed (k .order)))))
+    (listed (k .order)))) ∙ e))
 
 no-free : (w : Who) (ts : List Task) (t : TaskSlot) → length ts ≤ t .0 → isWho w (taskAt ts t .place) ≡ true → ⊥
 no-free AllReady ts t h e = false≢true (rw (past-tasks ts t h) at e)
