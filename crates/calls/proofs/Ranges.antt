@@ -5,20 +5,14 @@ use mathlib.Core.Logic.{_⊎_, inl, inr, ⊎-elim}
 use mathlib.Core.Bool.{Bool, true, false, _&&_, _||_, Bool·beq}
 use mathlib.Core.List.{List, [], _∷_}
 use native.Mathlib.Omega.{arith}
-use lib.Dec.{T, eqb, ltb}
-use borrow.Author.Tests.{eqb-true, ltb-true, ltb-false}
+use lib.Dec.{T, eqb}
+use borrow.Author.Tests.{eqb-true}
 use types.Run.{OneOf, hit}
 use mir.Val.{hasKey}
+use Rattle.lists.proofs.Tests.{below-or}
 use Rattle.lists.proofs.Bools.{and-left, and-right}
 use Rattle.calls.specs.Types.{Shape}
 use Rattle.calls.specs.Words.{shaped, shapeOf}
-
-pub below-or : (a b : ℕ) → (a < b) ⊎ (b ≤ a)
-below-or a b = go (ltb a b) refl
-  where
-    go : (t : Bool) → ltb a b ≡ t → (a < b) ⊎ (b ≤ a)
-    go true e = inl (ltb-true a b e)
-    go false e = inr (ltb-false a b e)
 
 abbrev same : Shape → Shape → Bool
 same s t = (Bool·beq (s .known) (t .known) && eqb (s .before) (t .before)) && (Bool·beq (s .item) (t .item) && eqb (s .after) (t .after))

@@ -16,7 +16,7 @@ use Rattle.calls.specs.Types.{Names, Shape, Frame, Asked}
 use Rattle.calls.specs.Table.{called, word, rows, callOf}
 use Rattle.calls.specs.Asked.{asked}
 use Rattle.calls.specs.Words.{fieldsOf, isBytes, numbersIn, noWords, frameOf, unknown, shapes, shapeOf, askedBy}
-use Rattle.calls.proofs.Ranges.{below-or}
+use Rattle.lists.proofs.Tests.{below-or}
 
 -- five words
 pub five : (ws : List ℕ) → length ws ≡ 5 → ws ≡ word ws 0 ∷ word ws 1 ∷ word ws 2 ∷ word ws 3 ∷ word ws 4 ∷ []

@@ -90,7 +90,8 @@ impl Shape {
         }
     }
 
-    // How the arguments of the call of a number stand.
+    // "The line reader decides on the call number and groups calls by argument shape with ranges": a list of its own, since a line's words
+    // are read before there is a call.
     pub fn of(number: u32) -> Shape
         ensures { λ r. ⌜ r ≡ shapeOf number ⌝ }
     {

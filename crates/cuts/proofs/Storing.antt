@@ -10,6 +10,7 @@ use lib.Dec.{eqb, ltb}
 use lib.ListN.{length, getD, take, drop, set, length-take, length-drop, drop-of-length-le}
 use lib.Seq.{sets, take-suc, take-add, getD-drop}
 use borrow.Author.Tests.{eq-eqb, ne-eqb, ltb-true, ltb-false, lt-ltb, le-ltb}
+use Rattle.lists.proofs.Loops.{fold-append}
 use Rattle.lists.specs.Choice.{if_then_else_}
 use Rattle.lists.specs.Lists.{foldl, index}
 use Rattle.lists.proofs.Loops.{front}
@@ -98,11 +99,6 @@ unfolding foldl
 full [] bytes len h p = absurd (omega arith)
 full (x ∷ xs) bytes len h p = rw (← kept-out bytes len x h) (above xs bytes)
 
-foldl-append : (xs ys : List ℕ) (c : Cut) → foldl kept c (xs ++ ys) ≡ foldl kept (foldl kept c xs) ys
-unfolding foldl
-foldl-append [] ys c = refl
-foldl-append (x ∷ xs) ys c = foldl-append xs ys (kept c x)
-
 -- the bytes of a block from `at` up to `end`
 module _ (block bytes : List ℕ) (at end len : ℕ) (inside : end - at ≤ length block - at) where
   abbrev Kept : List ℕ → ℕ → Type 0
@@ -129,7 +125,7 @@ module _ (block bytes : List ℕ) (at end len : ℕ) (inside : end - at ≤ leng
           let m : length (take room (drop at block)) ≡ room = count room (omega arith) in
           let w : len + length (take room (drop at block)) ≤ 256 = omega arith in
           let y : 0 < length (take more (drop room (drop at block))) = rw (length-take, length-drop, length-drop) (omega arith) in
-          let two = foldl-append (take room (drop at block)) (take more (drop room (drop at block))) (cutOf bytes len) in
+          let two = fold-append kept (cutOf bytes len) (take room (drop at block)) (take more (drop room (drop at block))) in
           rw (e, take-add room more (drop at block), two, fits (take room (drop at block)) bytes len w, m, ← t)
           (sym (full (take more (drop room (drop at block))) after (len + room) (omega arith) y))
 

@@ -10,7 +10,8 @@ use Rattle.fields.specs.Decimal.{digits, dec}
 use Rattle.fields.specs.Digit.{among, digitOf}
 use Rattle.fields.specs.Number.{grow, more, number}
 use Rattle.fields.specs.declared.Number.the-variants.{Got}
-use Rattle.fields.proofs.Places.{below-or, past}
+use Rattle.lists.proofs.Tests.{below-or}
+use Rattle.fields.proofs.Places.{past}
 
 -- the numbers of up to k + 1 digits lie below it
 abbrev tens : ℕ → ℕ

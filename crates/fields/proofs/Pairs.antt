@@ -13,7 +13,7 @@ use Rattle.fields.specs.Hex.{hexDigit, twoDigits, hex, Bytes}
 use Rattle.fields.specs.Digit.{among, nibbleOf}
 use Rattle.fields.specs.Item.{pairOf, byteOf, bytesOf}
 use Rattle.fields.specs.declared.Item.{Item}
-use Rattle.fields.proofs.Places.{below-or}
+use Rattle.lists.proofs.Tests.{below-or}
 
 pub hex-length : (b : List ℕ) → length (hex b) ≡ 2 * length b
 unfolding texts

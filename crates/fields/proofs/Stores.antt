@@ -9,7 +9,7 @@ use lib.ListN.{length, take, getD, set, length-append}
 use lib.Seq.{sets, length-sets, set-out, take-suc, take-all}
 use Rattle.fields.specs.Texts.{texts}
 use Rattle.fields.specs.Wrote.{Wrote}
-use Rattle.fields.proofs.Places.{below-or}
+use Rattle.lists.proofs.Tests.{below-or}
 
 -- past the end nothing is stored
 pub sets-out : (l : List ℕ) (i : ℕ) (a : List ℕ) → length l ≤ i → sets l i a ≡ l

@@ -15,7 +15,7 @@ use Rattle.calls.specs.Words.{Field, number, bytes, fieldsOf}
 use Rattle.fields.specs.Decimal.{digits, dec}
 use Rattle.fields.specs.Hex.{hexDigit, hex}
 use Rattle.fields.specs.Texts.{texts}
-use Rattle.fields.proofs.Places.{below-or}
+use Rattle.lists.proofs.Tests.{below-or}
 use Rattle.journal.specs.Types.{Call, TaskNo, Read}
 use Rattle.journal.specs.Line.{text, after, lineOf}
 use Rattle.journal.specs.Reply.{wordOf, reply}

@@ -6,6 +6,7 @@ use mathlib.Core.List.{List, [], _∷_, _++_, append-nil, append-assoc}
 use native.Mathlib.Omega.{arith}
 use lib.Dec.{eqb}
 use lib.ListN.{length, take, drop, take-append-drop}
+use Rattle.lists.proofs.Loops.{fold-append}
 use Rattle.lists.specs.Lists.{foldl}
 use Rattle.rules.specs.State.{State}
 use Rattle.cuts.specs.declared.Cut.{Cut}
@@ -43,11 +44,6 @@ from-here r l =
     let none : r .taken ≡ r .taken + 0 = omega arith in
     ap (λ (z : Run). foldl fed z l) (same-run (r .kernel) (r .store) (r .cut) none (sym (append-nil (r .answers))))
     ∙ past-all r (begun (r .kernel) (r .store) (r .cut)) l
-
-pub fold-append : {A B : Type 0} (f : B → A → B) (b : B) (xs ys : List A) → foldl f b (xs ++ ys) ≡ foldl f (foldl f b xs) ys
-unfolding foldl
-fold-append f b [] ys = refl
-fold-append f b (x ∷ xs) ys = fold-append f (f b x) xs ys
 
 -- ---- a block: its first bytes are taken
 

@@ -7,6 +7,7 @@ use lib.Dec.{eqb}
 use borrow.Author.Tests.{eqb-true}
 use Rattle.lists.specs.Choice.{if_then_else_}
 use Rattle.lists.specs.Lists.{foldl}
+use Rattle.lists.proofs.Loops.{fold-append}
 use Rattle.rules.specs.Refusals.{Row, row, firstRow, orRow}
 
 -- every row has a number that is not 0
@@ -41,15 +42,14 @@ pub no-row : Given [] 0
 unfolding foldl
 no-row = record { so = refl }
 
-one-more : (n : ℕ) (rs : List Row) (r : Row) → foldl orRow n (rs ++ (r ∷ [])) ≡ orRow (foldl orRow n rs) r
+one-more : (rs : List Row) (r : Row) → foldl orRow 0 (rs ++ (r ∷ [])) ≡ orRow (foldl orRow 0 rs) r
 unfolding foldl
-one-more n [] r = refl
-one-more n (x ∷ rs) r = one-more (orRow n x) rs r
+one-more rs r = fold-append orRow 0 rs (r ∷ [])
 
 pub then-row : {r m : ℕ} {rs : List Row} {b t : Bool} (n : ℕ) → Given rs m → r ≡ orRow m (row n b) → b ≡ t → Given (rs ++ (row n t ∷ [])) r
 then-row {m = m} {rs} {b} {t} n f e q =
     record {
-      so = e ∙ ap (λ (x : Bool). orRow m (row n x)) q ∙ ap (λ (x : ℕ). orRow x (row n t)) (f .so) ∙ sym (one-more 0 rs (row n t));
+      so = e ∙ ap (λ (x : Bool). orRow m (row n x)) q ∙ ap (λ (x : ℕ). orRow x (row n t)) (f .so) ∙ sym (one-more rs (row n t));
     }
 
 pub all-rows : {rs : List Row} {n : ℕ} → Given rs n → numbered rs ≡ true → n ≡ firstRow rs

@@ -4,9 +4,6 @@ use Rattle.calls.specs.Asked.{asked}
 use Rattle.calls.specs.Words.{frameOf}
 use Rattle.calls.proofs.Call.frame.Statement.{statement}
 use Rattle.calls.proofs.Call.frame.Tie as tie
-use Rattle.calls.proofs.Call.frame.Reads as reads
-use Rattle.calls.proofs.Call.frame.Lts as lts
-use Rattle.calls.proofs.Frame.of.Reads as of-reads
 
 returns : tie.Need-returns
 unfolding asked

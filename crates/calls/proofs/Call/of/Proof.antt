@@ -7,7 +7,8 @@ use lib.ListN.{List·getD-eq-default}
 use borrow.Author.Needs.{needs}
 use Rattle.calls.specs.Table.{rows, callOf}
 use Rattle.calls.specs.Types.{Tick}
-use Rattle.calls.proofs.Ranges.{below-or, NotUpto, outside}
+use Rattle.calls.proofs.Ranges.{NotUpto, outside}
+use Rattle.lists.proofs.Tests.{below-or}
 use Rattle.calls.proofs.Call.of.Statement.{statement}
 use Rattle.calls.proofs.Call.of.Tie as tie
 

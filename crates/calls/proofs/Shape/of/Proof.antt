@@ -8,7 +8,8 @@ use lib.ListN.{List·getD-eq-default}
 use borrow.Author.Needs.{needs}
 use Rattle.lists.specs.Lists.{index, any}
 use Rattle.calls.specs.Words.{shaped, plain, unknown, shapes, shapeOf}
-use Rattle.calls.proofs.Ranges.{below-or, keyed, Nones, ranged}
+use Rattle.calls.proofs.Ranges.{keyed, Nones, ranged}
+use Rattle.lists.proofs.Tests.{below-or}
 use Rattle.calls.proofs.Shape.of.Statement.{statement}
 use Rattle.calls.proofs.Shape.of.Tie as tie
 
