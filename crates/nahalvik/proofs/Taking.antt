@@ -25,7 +25,8 @@ use Rattle.kernel.proofs.Stepped.{stands-on}
 use Rattle.kernel.proofs.Sessions.{line-keeps}
 use Rattle.promises.specs.Program.{Answered, program, answersTo}
 use Rattle.promises.specs.Turns.{begins, atStart, afterEnd}
-use Rattle.promises.proofs.AnyBlocks.{past, from-here, fold-append}
+use Rattle.promises.proofs.AnyBlocks.{past, from-here}
+use Rattle.lists.proofs.Loops.{fold-append}
 use Rattle.promises.proofs.WholeBlocks.{whole-taken, all-counted, fed-then-ended, fed-kernel, fed-store}
 use Rattle.nahalvik.specs.Blocks.{fedAll, onward, roomFor, fromStart, Whole, Brought, Came}
 
