@@ -24,7 +24,8 @@ use Rattle.journal.proofs.Theorems.{read-is, no-second-call, no-second-answer}
 use Rattle.rules.specs.Tables.{fresh}
 use Rattle.rules.specs.Lines.{chosen}
 use Rattle.rules.specs.Sound.{sound}
-use Rattle.rules.specs.Asking.{makes, newSlot}
+use Rattle.rows.specs.Asking.{makes}
+use Rattle.rules.specs.Refusals.{newSlot}
 use Rattle.rules.specs.Refusals.{refusal}
 use Rattle.rules.specs.Effects.{effect}
 use Rattle.rules.specs.Step.{answered, accepted, turnedAway, step}

@@ -6,7 +6,7 @@ use lib.ListN.{length}
 use Rattle.calls.specs.Asked.{asked}
 use Rattle.calls.specs.Said.{says, said, refused}
 use Rattle.rules.specs.Lines.{chosen}
-use Rattle.rules.specs.Refusals.{Row}
+use Rattle.rows.specs.Applies.{Row}
 use Rattle.rules.specs.Effects.{effect}
 use Rattle.rules.specs.Step.{answered, stored}
 use Rattle.kernel.specs.Stands.{kernelOf, shown}

@@ -19,7 +19,7 @@ use Rattle.slots.specs.Objects.{heldBy, kindAt}
 use Rattle.rules.specs.Tables.{holds}
 use Rattle.rules.specs.Lines.{level, toTail}
 use Rattle.rules.specs.Sentences.{Holds, Sound}
-use Rattle.rules.specs.Refusals.{hisAlready}
+use Rattle.rows.specs.Applies.{hisAlready}
 use Rattle.rules.specs.Waits.{wakeOf, blocked, waitFor}
 use Rattle.rules.specs.Loans.{prioritized, lent, ownAgain}
 use Rattle.rules.specs.Effects.{takenFrom, taken, handedOn, given}

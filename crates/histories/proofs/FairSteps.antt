@@ -16,8 +16,10 @@ use Rattle.slots.specs.Tasks.{taskAt}
 use Rattle.rules.specs.Lines.{first, runsIf, chosen, toTail}
 use Rattle.rules.specs.Sound.{sound}
 use Rattle.rules.specs.Sentences.{Sound}
-use Rattle.rules.specs.Asking.{is, makes, newSlot}
-use Rattle.rules.specs.Refusals.{namesNone, laterRow, refusal}
+use Rattle.rows.specs.Asking.{is, makes}
+use Rattle.rules.specs.Refusals.{newSlot}
+use Rattle.rows.specs.Applies.{namesNone}
+use Rattle.rules.specs.Refusals.{laterRow, refusal}
 use Rattle.rules.specs.Ticks.{held}
 use Rattle.rules.specs.Effects.{resumed, yielded, queueMade, mutexMade, removed, effect}
 use Rattle.rules.specs.Step.{answered, accepted, turnedAway, steppedBy, step}

@@ -19,7 +19,8 @@ use Rattle.slots.specs.Tasks.{freeTask, readyAt, ranked, taskAt}
 use Rattle.rules.specs.Tables.{holds, freeSlot}
 use Rattle.rules.specs.Lines.{level, toTail, leaves}
 use Rattle.rules.specs.Sentences.{Sound}
-use Rattle.rules.specs.Refusals.{namesNone, noSlot, inUse}
+use Rattle.rows.specs.Applies.{namesNone, noSlot}
+use Rattle.rules.specs.Refusals.{inUse}
 use Rattle.rules.specs.Loans.{prioritized, newPriority}
 use Rattle.rules.specs.Effects.{created, deleted}
 use Rattle.rules.proofs.Held.{none-holds}

@@ -11,7 +11,7 @@ use Rattle.slots.specs.Objects.{heldBy, kindAt}
 use Rattle.slots.specs.Tasks.{taskAt}
 use Rattle.rules.specs.Lines.{level}
 use Rattle.rules.specs.Sentences.{Exists}
-use Rattle.rules.specs.Asking.{is}
+use Rattle.rows.specs.Asking.{is}
 use Rattle.rules.specs.Trace.{Moment, CallMade}
 use Rattle.histories.specs.Types.{TaskSlot, State}
 use Rattle.histories.specs.Moments.{moments, hasMutex, appears, waited, beginsToWait, notRefused, tasksBelow}

@@ -5,24 +5,27 @@ use mathlib.Core.Bool.{true, false, _&&_}
 use lib.Dec.{eqb, ltb}
 use Rattle.calls.specs.declared.Asked.{Asked}
 use Rattle.slots.specs.Objects.{kindAt}
-use Rattle.rules.specs.State.{State, Seen as WhatIsSeen}
+use Rattle.rules.specs.State.{State}
 use Rattle.rules.specs.Tables.{freeSlot, freeObject}
-use Rattle.rules.specs.Asking.{makes, newSlot}
-use Rattle.rules.specs.Refusals.{seen, sizeDiffers, firstRow, table, laterRow}
+use Rattle.rows.specs.declared.Seen.{Seen}
+use Rattle.rows.specs.Asking.{makes}
+use Rattle.rules.specs.Refusals.{newSlot}
+use Rattle.rows.specs.Applies.{sizeDiffers, firstRow, table}
+use Rattle.rules.specs.Refusals.{seen, laterRow}
 use Rattle.rules.proofs.Passes.{Passed, passed, InRange, range, send-sized, hold-fits, release-fits, tick-fits}
-use Rattle.kernel.specs.Types.{Kernel, Seen}
-use Rattle.kernel.specs.Stands.{shown, seenOf}
+use Rattle.kernel.specs.Types.{Kernel}
+use Rattle.kernel.specs.Stands.{shown}
 use Rattle.kernel.specs.Does.{Reads, Firm}
 use Rattle.kernel.proofs.Stands.{same-hold, same-pended}
 
 -- what was seen is what the table looks at, and has the new slot
-module _ (s : State) (a : Asked) (x : Seen) (e : seenOf x ≡ seen s a) where
-  pub row-of : (item store : ℕ) → firstRow (table (seenOf x) a item store) ≡ laterRow s a item store
+module _ (s : State) (a : Asked) (x : Seen) (e : x ≡ seen s a) where
+  pub row-of : (item store : ℕ) → firstRow (table x a item store) ≡ laterRow s a item store
   unfolding laterRow
-  row-of item store = ap (λ (y : WhatIsSeen). firstRow (table y a item store)) e
+  row-of item store = ap (λ (y : Seen). firstRow (table y a item store)) e
 
   pub new-of : makes a ≡ true → x .new ≡ newSlot s a
-  new-of m = ap (λ (y : WhatIsSeen). y .new) e ∙ rw m
+  new-of m = ap (λ (y : Seen). y .new) e ∙ rw m
 
 module _ (k : Kernel) (F : Firm k) (a : Asked) (item store : ℕ) (e : laterRow (shown k) a item store ≡ 0) where
   P : Passed (shown k) a store

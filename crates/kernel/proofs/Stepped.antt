@@ -19,7 +19,8 @@ use Rattle.slots.specs.Tasks.{taskAt}
 use Rattle.rules.specs.State.{State}
 use Rattle.rules.specs.Lines.{chosen}
 use Rattle.rules.specs.Sound.{sound}
-use Rattle.rules.specs.Asking.{makes, newSlot}
+use Rattle.rows.specs.Asking.{makes}
+use Rattle.rules.specs.Refusals.{newSlot}
 use Rattle.rules.specs.Refusals.{laterRow, refusal}
 use Rattle.rules.specs.Effects.{effect}
 use Rattle.rules.specs.Step.{stored, answered, accepted, step}

@@ -9,7 +9,7 @@ use Rattle.calls.specs.Said.{Saying, says, done, made, waiting}
 use Rattle.slots.specs.Places.{isBlocked}
 use Rattle.slots.specs.Tasks.{taskAt}
 use Rattle.rules.specs.State.{State}
-use Rattle.rules.specs.Asking.{makes}
+use Rattle.rows.specs.Asking.{makes}
 use Rattle.rules.specs.Sentences.{Steady}
 use Rattle.kernel.specs.Types.{Kernel}
 use Rattle.kernel.specs.Stands.{kernelOf, shown}

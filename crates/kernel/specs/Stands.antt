@@ -5,9 +5,9 @@ use Rattle.lists.specs.Choice.{if_then_else_}
 use Rattle.tasks.specs.Rows.{tasksOf, rowsOf as taskRows}
 use Rattle.tasks.specs.Known.{canonical as plainTasks}
 use Rattle.objects.specs.Rows.{objectsOf, rowsOf as objectRows, canonical as plainObjects}
-use Rattle.rules.specs.State.{State, Seen as WhatIsSeen, Outlet as WhereTo, toWaiter, toQueue, toCaller}
+use Rattle.rules.specs.State.{State, Outlet as WhereTo, toWaiter, toQueue, toCaller}
 use Rattle.rules.specs.Sound.{sound}
-use Rattle.kernel.specs.Types.{Kernel, Seen, Outlet, Waiter, InRing, Caller}
+use Rattle.kernel.specs.Types.{Kernel, Outlet, Waiter, InRing, Caller}
 
 -- the kernel value that stands for a state
 unfoldable pub kernelOf : State → Kernel
@@ -33,10 +33,7 @@ shown k = if plain k then rows k else none k
 abbrev pub standing : Kernel → State → Kernel
 standing k s = if sound (shown k) then kernelOf s else k
 
--- the rules' words for what the code has seen, and for where an item goes
-abbrev pub seenOf : Seen → WhatIsSeen
-seenOf x = record { place = x .place; kind = x .kind; new = x .new; used = x .used; running = x .running; hold = x .hold; pended = x .pended }
-
+-- the rules' word for where an item goes
 abbrev pub outletOf : Outlet → WhereTo
 outletOf (Waiter t) = toWaiter t
 outletOf InRing = toQueue

@@ -4,6 +4,5 @@ pub use Rattle.kernel.specs.declared.Kernel.{Kernel}
 pub use Rattle.kernel.specs.declared.Step.{Step}
 pub use Rattle.kernel.specs.declared.Outlet.{Outlet}
 pub use Rattle.kernel.specs.declared.Outlet.the-variants.{Waiter, Ring as InRing, Caller}
-pub use Rattle.kernel.specs.declared.Seen.{Seen}
 pub use Rattle.kernel.specs.declared.Session.{Session}
 pub use Rattle.kernel.specs.declared.Served.{Served}

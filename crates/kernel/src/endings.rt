@@ -2,7 +2,6 @@
 ghost use Rattle.calls.specs.Said.{said};
 ghost use Rattle.kernel.specs.Does.{Reads, answerOf};
 use crate::Kernel;
-use crate::asking;
 use calls::Answer;
 use calls::Asked;
 use numbers::TaskSlot;
@@ -12,7 +11,7 @@ impl Kernel {
     pub(crate) fn answered(self, a: Asked, caller: TaskSlot, n: u8) -> Answer
         ensures { λ r. ⌜ Reads self (answerOf a n caller) (said r) ⌝ }
     {
-        if asking::makes(a) {
+        if rows::makes(a) {
             return Answer::Made(calls::number(n));
         }
         let x = self.task(caller);

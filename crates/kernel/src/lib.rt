@@ -1,6 +1,5 @@
 // The kernel: a value that goes in with a call, and comes back with the next state, the running task and an answer.
 mod answering;
-mod asking;
 mod endings;
 mod lines;
 mod loans;
@@ -20,8 +19,6 @@ use cuts::Cut;
 use numbers::TaskSlot;
 use objects::Objects;
 use order::Order;
-use slots::Kind;
-use slots::Place;
 use tasks::Tasks;
 
 pub struct Kernel {
@@ -45,18 +42,6 @@ pub(crate) enum Outlet {
     Waiter(TaskSlot),
     Ring,
     Caller,
-}
-
-// What the rows of the refusal table look at: the task and the object that the call names; the slot that a create or make takes, and whether what is to be
-// deleted or removed is in use, each searched once, for their calls alone; the caller, the hold and the pended ticks.
-pub(crate) struct Seen {
-    pub(crate) place: Place,
-    pub(crate) kind: Kind,
-    pub(crate) new: u8,
-    pub(crate) used: bool,
-    pub(crate) running: TaskSlot,
-    pub(crate) hold: u8,
-    pub(crate) pended: u16,
 }
 
 // What goes on from block to block: the kernel, and what there is of a line whose newline has not come yet.

@@ -2,7 +2,7 @@
 ghost use mathlib.Core.Path.{_≡_};
 ghost use Rattle.slots.specs.Tasks.{taskAt, placed, ranked};
 ghost use Rattle.slots.specs.Objects.{kindAt};
-ghost use Rattle.rules.specs.Tables.{fresh, holds, withTask, withObject, withOrder, withTick, withHold};
+ghost use Rattle.rules.specs.Tables.{fresh, holds, withTask, withObject, withTick, withHold};
 ghost use Rattle.kernel.specs.Stands.{kernelOf};
 ghost use Rattle.kernel.specs.Does.{Reads, Does};
 use crate::Kernel;
@@ -69,13 +69,6 @@ impl Kernel {
         ensures { λ r. ⌜ Does self (λ s. withObject s o kind) r ⌝ }
     {
         self.objects = self.objects.set(o, kind);
-        self
-    }
-
-    pub(crate) fn with_order(mut self, o: Order) -> Kernel
-        ensures { λ r. ⌜ Does self (λ s. withOrder s o) r ⌝ }
-    {
-        self.order = o;
         self
     }
 

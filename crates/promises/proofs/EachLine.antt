@@ -16,7 +16,8 @@ use Rattle.journal.specs.Steps.{readOf, noCall}
 use Rattle.journal.proofs.Newlines.{Ended, reply-ended}
 use Rattle.rules.specs.State.{State}
 use Rattle.rules.specs.Sound.{sound}
-use Rattle.rules.specs.Refusals.{table, laterRow, refusal}
+use Rattle.rows.specs.Applies.{table}
+use Rattle.rules.specs.Refusals.{laterRow, refusal}
 use Rattle.rules.specs.Step.{Stepped, turnedAway, step}
 use Rattle.rules.specs.Session.{noLine, stepTold, told, readLine, stepOfLine}
 use Rattle.rules.specs.Trace.{trace}

@@ -15,9 +15,11 @@ use Rattle.slots.specs.Places.{isBlocked}
 use Rattle.slots.specs.Tasks.{taskAt}
 use Rattle.rules.specs.Lines.{chosen}
 use Rattle.rules.specs.Sound.{sound}
-use Rattle.rules.specs.Asking.{makes, newSlot}
-use Rattle.rules.proofs.Firsts.{numbered}
-use Rattle.rules.specs.Refusals.{seen, Row, firstRow, table, laterRow, refusal}
+use Rattle.rows.specs.Asking.{makes}
+use Rattle.rules.specs.Refusals.{newSlot}
+use Rattle.rows.proofs.InTurn.{numbered}
+use Rattle.rows.specs.Applies.{Row, firstRow, table}
+use Rattle.rules.specs.Refusals.{seen, laterRow, refusal}
 use Rattle.rules.specs.Effects.{effect}
 use Rattle.rules.specs.Step.{Stepped, answered, accepted, turnedAway, step}
 use Rattle.promises.specs.Types.{Asked, Call, State}

@@ -20,7 +20,8 @@ use Rattle.rules.specs.State.{State}
 use Rattle.slots.specs.Tasks.{taskAt}
 use Rattle.rules.specs.Tables.{freeSlot, withOrder}
 use Rattle.rules.specs.Sound.{sound}
-use Rattle.rules.specs.Refusals.{seen, noSlot, heldOrWaited, inUse, notSuspended, Row, row, firstRow, table, laterRow, refusal}
+use Rattle.rows.specs.Applies.{noSlot, notSuspended, Row, row, firstRow, table}
+use Rattle.rules.specs.Refusals.{seen, heldOrWaited, inUse, laterRow, refusal}
 use Rattle.promises.specs.Alike.{Alike}
 use Rattle.promises.proofs.Twins.{one-kernel}
 use Rattle.promises.proofs.Likewise.{slot-low}

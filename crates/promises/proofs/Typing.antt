@@ -9,7 +9,8 @@ use Rattle.order.specs.Tidy.{count, tidy}
 use Rattle.rules.specs.Effects.{created, mutexMade, taken, handedOn, given, effect}
 use Rattle.rules.specs.Lines.{line, those, highest, leader, first, chosen, toTail, toHead, leaves}
 use Rattle.rules.specs.Loans.{moved, movedIf, prioritized, lent, ownAgain}
-use Rattle.rules.specs.Refusals.{outOfRange, namesNone, wrongSize, notForIdle, notWithHold, noSlot, inUse, notHis, hisAlready, notSuspended, mustWait, noDepth, noTick, table, laterRow, refusal}
+use Rattle.rows.specs.Applies.{outOfRange, namesNone, wrongSize, notForIdle, notWithHold, noSlot, notHis, hisAlready, notSuspended, mustWait, noDepth, noTick, table}
+use Rattle.rules.specs.Refusals.{inUse, laterRow, refusal}
 use Rattle.rules.specs.Sound.{tablesFine, levelsFine, listingFine, clockFine, noHigher, runsFine, sound}
 use Rattle.rules.specs.Step.{stored, answered, accepted, step}
 use Rattle.rules.specs.Session.{readLine, stepOfLine}

@@ -7,7 +7,7 @@ use lib.ListN.{length}
 use Rattle.lists.specs.Choice.{if_then_else_}
 use Rattle.lists.specs.Lists.{foldl}
 use Rattle.calls.specs.Asked.{asked}
-use Rattle.rules.specs.Asking.{is}
+use Rattle.rows.specs.Asking.{is}
 use Rattle.rules.specs.Refusals.{refusal}
 use Rattle.rules.specs.Tables.{fresh}
 use Rattle.rules.specs.Trace.{Moment, trace, CallMade, stepMade}

@@ -9,7 +9,8 @@ use Rattle.calls.specs.Asked.{asked}
 use Rattle.calls.specs.Said.{says, refused}
 use Rattle.rules.specs.Lines.{chosen}
 use Rattle.rules.specs.Sound.{sound}
-use Rattle.rules.specs.Refusals.{seen, Row, row, table}
+use Rattle.rows.specs.Applies.{Row, row, table}
+use Rattle.rules.specs.Refusals.{seen}
 use Rattle.rules.specs.Effects.{effect}
 use Rattle.rules.specs.Step.{Stepped, answered, stored}
 use Rattle.promises.specs.Types.{Asked, Call, State}

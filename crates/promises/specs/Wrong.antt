@@ -24,8 +24,9 @@ use Rattle.rules.specs.Waits.{later, readied}
 use Rattle.rules.specs.Loans.{prioritized}
 use Rattle.rules.specs.Ticks.{wokenIfDue, oneTick, turned, ticked, released}
 use Rattle.rules.specs.Items.{slipOf}
-use Rattle.rules.specs.Asking.{is}
-use Rattle.rules.specs.Refusals.{isEmpty, laterRow, refusal}
+use Rattle.rows.specs.Asking.{is}
+use Rattle.rows.specs.Applies.{isEmpty}
+use Rattle.rules.specs.Refusals.{laterRow, refusal}
 use Rattle.rules.specs.Effects.{suspended, handedOn, effect}
 use Rattle.rules.specs.Step.{Stepped, answered, stored, turnedAway, step}
 use Rattle.rules.specs.Trace.{trace, atLast, lending}

@@ -21,7 +21,7 @@ use Rattle.rules.specs.Types.{TaskSlot, ObjSlot, Wake, Place, Free, Read
 use Rattle.rules.specs.Tables.{holds, withObject}
 use Rattle.rules.specs.Lines.{level, first, toTail}
 use Rattle.rules.specs.Sentences.{Holds, Exists, MayWait, taker, Sound}
-use Rattle.rules.specs.Refusals.{namesNone, notForIdle, hisAlready, notHis}
+use Rattle.rows.specs.Applies.{namesNone, notForIdle, hisAlready, notHis}
 use Rattle.rules.specs.Waits.{wakeOf, readied, blocked, waitFor}
 use Rattle.rules.specs.Loans.{prioritized, lent, ownAgain}
 use Rattle.rules.specs.Effects.{takenFrom, taken, handedTo, handedOn, given, effect}

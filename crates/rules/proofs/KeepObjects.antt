@@ -20,8 +20,9 @@ use Rattle.slots.specs.Tasks.{taskAt}
 use Rattle.rules.specs.Tables.{freeObject, withObject}
 use Rattle.rules.specs.Lines.{those, first}
 use Rattle.rules.specs.Sentences.{MayWait, receiver, sender, taker, RingFits, Sound}
-use Rattle.rules.specs.Asking.{waits}
-use Rattle.rules.specs.Refusals.{outOfRange, namesNone, noSlot, heldOrWaited, inUse}
+use Rattle.rows.specs.Asking.{waits}
+use Rattle.rows.specs.Applies.{outOfRange, namesNone, noSlot}
+use Rattle.rules.specs.Refusals.{heldOrWaited, inUse}
 use Rattle.rules.specs.Waits.{later, wakeOf}
 use Rattle.rules.specs.Effects.{queueMade, mutexMade, removed, effect}
 use Rattle.rules.proofs.Slots.{past-objects}

@@ -16,7 +16,7 @@ use Rattle.slots.specs.Tasks.{taskAt}
 use Rattle.rules.specs.Tables.{withObject}
 use Rattle.rules.specs.Lines.{first, toTail}
 use Rattle.rules.specs.Sentences.{MayWait, receiver, sender, taker, RingFits, Sound}
-use Rattle.rules.specs.Refusals.{namesNone}
+use Rattle.rows.specs.Applies.{namesNone}
 use Rattle.rules.specs.Waits.{wakeOf, readied, blocked, waitFor}
 use Rattle.rules.specs.Items.{oneMore, oneLess, roomOr, outletFor, outlet, sentBy, sent, sentTo, refilledBy, received, receivedFrom}
 use Rattle.rules.specs.Effects.{effect}

@@ -17,7 +17,8 @@ use Rattle.rules.specs.Types.{TaskSlot, ObjSlot, Free, Ready, Delayed, S
 use Rattle.rules.specs.Tables.{holds, freeSlot, withTask}
 use Rattle.rules.specs.Lines.{level, toTail, leaves}
 use Rattle.rules.specs.Sentences.{Holds, AsIdle, Sound}
-use Rattle.rules.specs.Refusals.{outOfRange, namesNone, notForIdle, notWithHold, noSlot, inUse, notSuspended}
+use Rattle.rows.specs.Applies.{outOfRange, namesNone, notForIdle, notWithHold, noSlot, notSuspended}
+use Rattle.rules.specs.Refusals.{inUse}
 use Rattle.rules.specs.Waits.{later, readied, blocked}
 use Rattle.rules.specs.Loans.{prioritized, movedIf, newPriority}
 use Rattle.rules.specs.Effects.{created, deleted, suspended, resumed, yielded, delayed, effect}

@@ -22,7 +22,7 @@ use Rattle.rules.specs.Tables.{withTick, withHold}
 use Rattle.rules.specs.Lines.{level, toTail}
 use Rattle.rules.specs.Sound.{noHigher}
 use Rattle.rules.specs.Sentences.{Counts, Sound}
-use Rattle.rules.specs.Refusals.{noDepth, noTick}
+use Rattle.rows.specs.Applies.{noDepth, noTick}
 use Rattle.rules.specs.Waits.{later, readied}
 use Rattle.rules.specs.Ticks.{wokenIfDue, wakes, oneTick, turned, ticked, ticks, released, held}
 use Rattle.rules.specs.Effects.{effect}

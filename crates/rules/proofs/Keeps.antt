@@ -19,8 +19,9 @@ use Rattle.slots.specs.Objects.{kindAt}
 use Rattle.rules.specs.Lines.{chosen}
 use Rattle.rules.specs.Sound.{sound}
 use Rattle.rules.specs.Sentences.{Exists, Sound}
-use Rattle.rules.specs.Asking.{is, stops, waits}
-use Rattle.rules.specs.Refusals.{seen, notForIdle, notWithHold, stopsAt, mustWait, laterRow, refusal}
+use Rattle.rows.specs.Asking.{is, stops, waits}
+use Rattle.rows.specs.Applies.{notForIdle, notWithHold, stopsAt, mustWait}
+use Rattle.rules.specs.Refusals.{seen, laterRow, refusal}
 use Rattle.rules.specs.Effects.{effect}
 use Rattle.rules.specs.Step.{accepted, turnedAway, step}
 use Rattle.rules.proofs.Slots.{past-tasks}

@@ -1,4 +1,3 @@
-pub mod Asks
 pub mod Slots
 pub mod Held
 pub mod Leads
@@ -12,7 +11,6 @@ pub mod SaysRuns
 pub mod Says
 pub mod Within
 pub mod Passes
-pub mod Firsts
 pub mod Nearly
 pub mod Slotted
 pub mod Objected

@@ -12,8 +12,10 @@ use Rattle.slots.specs.Places.{isReady}
 use Rattle.rules.specs.Types.{Task, Ring, Kind, Queue, Asked, State}
 use Rattle.slots.specs.Objects.{kindAt}
 use Rattle.rules.specs.Sound.{sound}
-use Rattle.rules.specs.Refusals.{seen, outOfRange, namesNone, sizeDiffers, wrongSize, notForIdle, notWithHold, noSlot, inUse}
-use Rattle.rules.specs.Refusals.{notHis, hisAlready, notSuspended, mustWait, noDepth, noTick, table, laterRow}
+use Rattle.rows.specs.Applies.{outOfRange, namesNone, sizeDiffers, wrongSize, notForIdle, notWithHold, noSlot}
+use Rattle.rules.specs.Refusals.{seen, inUse}
+use Rattle.rows.specs.Applies.{notHis, hisAlready, notSuspended, mustWait, noDepth, noTick, table}
+use Rattle.rules.specs.Refusals.{laterRow}
 use Rattle.rules.specs.Sentences.{Sound, Steady}
 use Rattle.rules.proofs.Slots.{past-tasks}
 use Rattle.rules.proofs.Says.{sound-says}

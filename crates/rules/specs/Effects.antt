@@ -9,7 +9,7 @@ use Rattle.slots.specs.Tasks.{freeTask, readyAt, brokenOff, taskAt}
 use Rattle.rules.specs.Types.{TaskSlot, ObjSlot, Delayed, Nobody, By, Kind, Unused, Queue, Mutex, WaitersOf, Asked, State}
 use Rattle.slots.specs.Objects.{kindAt}
 use Rattle.rules.specs.Tables.{freeSlot, freeObject, withTask, withObject}
-use Rattle.rules.specs.Asking.{is}
+use Rattle.rows.specs.Asking.{is}
 use Rattle.rules.specs.Lines.{first, toTail, leaves}
 use Rattle.rules.specs.Waits.{later, readied, blocked, waitFor}
 use Rattle.rules.specs.Loans.{newPriority, lent, ownAgain}

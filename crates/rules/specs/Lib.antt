@@ -4,7 +4,6 @@ pub mod Tables
 pub mod Lines
 pub mod Sound
 pub mod Sentences
-pub mod Asking
 pub mod Refusals
 pub mod Waits
 pub mod Loans

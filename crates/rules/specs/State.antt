@@ -1,12 +1,9 @@
 -- What the rules speak of: the two tables in words, the one order of the listed tasks, who runs, and three numbers.
 use Prim.Native.Nat.{ℕ}
-use mathlib.Core.Bool.{Bool}
 use mathlib.Core.List.{List}
 use Rattle.numbers.specs.declared.TaskSlot.{TaskSlot}
 use Rattle.order.specs.declared.Order.{Order}
-use Rattle.slots.specs.declared.Place.{Place}
 use Rattle.slots.specs.declared.Task.{Task}
-use Rattle.slots.specs.declared.Kind.{Kind}
 use Rattle.slots.specs.declared.Object.{Object}
 
 pub record State : Type 0 where
@@ -15,17 +12,6 @@ pub record State : Type 0 where
   pub order : Order
   pub running : TaskSlot
   pub tick : ℕ
-  pub hold : ℕ
-  pub pended : ℕ
-
--- what the rows of the refusal table look at: the task and the object that the call names; the slot that a create or make takes, and whether
--- what is to be deleted or removed is in use; the caller, the hold and the pended ticks
-pub record Seen : Type 0 where
-  pub place : Place
-  pub kind : Kind
-  pub new : ℕ
-  pub used : Bool
-  pub running : TaskSlot
   pub hold : ℕ
   pub pended : ℕ
 

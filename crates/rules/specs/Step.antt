@@ -13,7 +13,8 @@ use Rattle.slots.specs.Tasks.{taskAt}
 use Rattle.slots.specs.Objects.{kindAt}
 use Rattle.rules.specs.Lines.{chosen}
 use Rattle.rules.specs.Items.{storeSentTo, storeReceivedFrom}
-use Rattle.rules.specs.Asking.{is, makes, newSlot}
+use Rattle.rows.specs.Asking.{is, makes}
+use Rattle.rules.specs.Refusals.{newSlot}
 use Rattle.rules.specs.Refusals.{refusal}
 use Rattle.rules.specs.Effects.{effect}
 

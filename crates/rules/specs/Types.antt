@@ -7,6 +7,7 @@ pub use Rattle.calls.specs.declared.Call.the-variants.{Create, Delete, Suspend,
 pub use Rattle.calls.specs.declared.Names.{Names}
 pub use Rattle.calls.specs.declared.Names.the-variants.{Nothing, Task as ATask, Object as AnObject, Queue as AQueue, Mutex as AMutex}
 pub use Rattle.calls.specs.declared.Asked.{Asked}
+pub use Rattle.rows.specs.declared.Seen.{Seen}
 pub use Rattle.cuts.specs.declared.Cut.{Cut}
 pub use Rattle.order.specs.declared.Order.{Order}
 pub use Rattle.slots.specs.declared.Wake.{Wake}
@@ -24,4 +25,4 @@ pub use Rattle.slots.specs.declared.Who.{Who}
 pub use Rattle.slots.specs.declared.Who.the-variants.{AllReady, WaitersOf}
 pub use Rattle.slots.specs.declared.Lead.{Lead}
 pub use Rattle.slots.specs.declared.Lead.the-variants.{Open, Best}
-pub use Rattle.rules.specs.State.{State, Seen, Outlet, toWaiter, toQueue, toCaller}
+pub use Rattle.rules.specs.State.{State, Outlet, toWaiter, toQueue, toCaller}

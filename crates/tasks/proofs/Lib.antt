@@ -1,3 +1,4 @@
+pub mod ByNumber
 pub mod Columns
 pub mod Tests
 pub mod Turns

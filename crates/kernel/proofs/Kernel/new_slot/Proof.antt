@@ -1,7 +1,8 @@
 use borrow.Author.Needs.{needs}
 use Rattle.kernel.specs.Stands.{kernelOf}
-use mathlib.Core.Path.{sym, _∙_}
 use Rattle.rules.specs.Tables.{freeSlot, freeObject}
+use borrow.Author.Tests.{ne-eqb}
+use mathlib.Core.Path.{sym, _∙_}
 use Rattle.tasks.proofs.Lists.{free-of}
 use Rattle.objects.proofs.Lists.{free-of as free-object-of}
 use Rattle.kernel.proofs.Kernel.new_slot.Statement.{statement}
@@ -9,12 +10,12 @@ use Rattle.kernel.proofs.Kernel.new_slot.Tie as tie
 
 returns : tie.Need-returns
 unfolding kernelOf freeSlot
-returns c = λ s h. rw (sym (c .before .before .is .ensures) ∙ c .before .if1 .taken) (c .free-slot .ensures ∙ rw h (free-of (s .tasks)))
+returns c = λ s h. rw (c .before .if1 .taken) (c .free-slot .ensures ∙ rw h (free-of (s .tasks)))
 
 returns-2 : tie.Need-returns-2
 unfolding kernelOf freeObject
 returns-2 c = λ s h. rw (sym (c .before .before .makes .ensures) ∙ c .before .if2 .taken)
-    (rw (sym (c .before .before .before .before .is .ensures) ∙ c .before .before .before .if1 .left) (c .free-object .ensures ∙ rw h (free-object-of (s .objects))))
+    (rw (ne-eqb (c .before .before .before .before .before .args .a .number) 1 (c .before .before .before .if1 .left)) (c .free-object .ensures ∙ rw h (free-object-of (s .objects))))
 
 returns-3 : tie.Need-returns-3
 returns-3 c = λ s h. rw (sym (c .before .makes .ensures) ∙ c .if2 .left)
@@ -22,11 +23,4 @@ returns-3 c = λ s h. rw (sym (c .before .makes .ensures) ∙ c .if2 .left)
 pub new-slot-spec : {M : Type 1} → statement M
 new-slot-spec =
     tie.close
-    (tie.spec
-    (λ c κs. search needs)
-    (λ c κs. search needs)
-    returns
-    (λ c κs. search needs)
-    (λ c κs. search needs)
-    returns-2
-    returns-3)
+    (tie.spec (λ c κs. search needs) returns (λ c κs. search needs) (λ c κs. search needs) returns-2 returns-3)

@@ -1,0 +1,29 @@
+use borrow.Author.Needs.{needs}
+use Rattle.rows.specs.Applies.{notWithHold}
+use borrow.Author.Tests.{lt-ltb}
+use mathlib.Core.Path.{_∙_}
+use native.Mathlib.Omega.{arith}
+use Rattle.rows.proofs.Seen.not_with_hold.Statement.{statement}
+use Rattle.rows.proofs.Seen.not_with_hold.Tie as tie
+
+returns : tie.Need-returns
+unfolding notWithHold
+returns c = rw (c .if1 .taken)
+
+returns-2 : tie.Need-returns-2
+unfolding notWithHold
+returns-2 c = rw (lt-ltb 0 (c .before .before .before .before .before .before .before .before .before .before .before .before .before .args .self .hold) (omega (arith, c .before .before .before .before .before .before .before .before .before .before .before .if1 .left)))
+    (c .either3 .ensures ∙ rw (c .before .either2 .ensures, c .before .before .before .before .either .ensures, c .before .before .before .before .before .before .both .ensures, c .before .before .before .before .before .before .before .same .ensures, c .before .before .before .before .before .before .before .before .stops .ensures))
+
+pub not-with-hold-spec : {M : Type 1} → statement M
+not-with-hold-spec =
+    tie.close
+    (tie.spec
+    returns
+    (λ c κs. search needs)
+    (λ c κs. search needs)
+    (λ c κs. search needs)
+    (λ c κs. search needs)
+    (λ c κs. search needs)
+    (λ c κs. search needs)
+    returns-2)
