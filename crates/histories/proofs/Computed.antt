@@ -21,7 +21,7 @@ use Rattle.slots.specs.Objects.{kindAt}
 use Rattle.rules.specs.Tables.{fresh, holds, freeSlot, freeObject}
 use Rattle.numbers.specs.Numbers.{byNumber}
 use Rattle.rules.specs.Ticks.{wokenIfDue, wakes, oneTick, turned, ticked, ticks, released, held}
-use Rattle.rules.specs.Waits.{readied, blocked, waitFor}
+use Rattle.rules.specs.Waits.{arrives, waitFor}
 use Rattle.histories.specs.Moments.{tasksBelow}
 use Rattle.histories.specs.Borrowed.{largest, givenAt, lastGiven, lentAt, counted, due}
 use Rattle.histories.specs.Tales.{shownAfter, shownBy, twoGives, setWithLoan, timeRunsOut, handedWithWaiter, lendsBorrowed, refusedChange, slotUsedAgain}
@@ -49,7 +49,7 @@ unfolding trace shownAfter twoGives setWithLoan timeRunsOut handedWithWaiter len
     those highest leader first chosen toTail toHead leaves moved movedIf prioritized newPriority lent ownAgain outOfRange namesNone wrongSize
     notForIdle notWithHold noSlot heldOrWaited inUse notHis hisAlready notSuspended mustWait noDepth noTick table laterRow refusal noHigher
     runsFine tablesFine levelsFine listingFine clockFine sound stored answered accepted step fresh taskAt kindAt holds freeSlot freeObject wokenIfDue wakes byNumber oneTick turned ticked
-    ticks released held readied blocked waitFor
+    ticks released held arrives waitFor
 tales-fit = record {
   kept-over-first-give = refl;
   set-below-loan = refl;

@@ -20,7 +20,7 @@ use Rattle.rules.specs.Tables.{holds}
 use Rattle.rules.specs.Lines.{level, toTail}
 use Rattle.rules.specs.Sentences.{Holds, Sound}
 use Rattle.rows.specs.Applies.{hisAlready}
-use Rattle.rules.specs.Waits.{wakeOf, blocked, waitFor}
+use Rattle.rules.specs.Waits.{wakeOf, arrives, waitFor}
 use Rattle.rules.specs.Loans.{prioritized, lent, ownAgain}
 use Rattle.rules.specs.Effects.{takenFrom, taken, handedOn, given}
 use Rattle.rules.proofs.Held.{some-holds}
@@ -90,11 +90,11 @@ module _ (k : State) (S : Sound k) (n : ℕ) (a : Saying) where
 
     -- the tables afterwards
     tables : waitFor j o w .tasks ≡ set (j .tasks) (r .0) (placed (taskAt (j .tasks) r) place 0)
-    unfolding waitFor blocked toTail
+    unfolding waitFor arrives toTail
     tables = ap (λ (v : TaskSlot). set (j .tasks) (v .0) (placed (taskAt (j .tasks) v) place 0)) (s .running)
 
     same-objects : waitFor j o w .objects ≡ k .objects
-    unfolding waitFor blocked toTail
+    unfolding waitFor arrives toTail
     same-objects = s .objects
 
     still-his : Holds (waitFor j o w .objects) h o

@@ -27,11 +27,11 @@ use Rattle.rules.proofs.Says.{sound-says}
 use Rattle.rules.proofs.Passes.{Passed, passed}
 use Rattle.rules.specs.Trace.{Moment, momentOf, CallMade, stepMade}
 use Rattle.histories.specs.Types.{TaskSlot, Call, Create, Delete, Suspend, Resume, SetPriority, Delay, Yield, Hold, Release, MakeQueue, MakeMutex, Remove, Send, Receive}
-use Rattle.histories.specs.Types.{Take, Give, Tick, AllReady, State}
+use Rattle.histories.specs.Types.{Take, Give, Tick, Ready, AllReady, State}
 use Rattle.histories.specs.Moments.{exists, isRefusal}
 use Rattle.histories.specs.Borrowed.{givenAt, lentAt}
 use Rattle.histories.proofs.Quiet.{still}
-use Rattle.histories.proofs.QuietCalls.{readied-quiet, suspended-quiet, delayed-quiet, send-quiet, receive-quiet, ticked-quiet, released-quiet}
+use Rattle.histories.proofs.QuietCalls.{arrives-quiet, suspended-quiet, delayed-quiet, send-quiet, receive-quiet, ticked-quiet, released-quiet}
 use Rattle.histories.proofs.Fair.{Fair, none-given, quiet-fair}
 use Rattle.histories.proofs.FairTasks.{moment, create-fair, delete-fair, change-fair}
 use Rattle.histories.proofs.FairMutexes.{take-fair, give-fair}
@@ -41,7 +41,7 @@ unfolding effect asked namesNone resumed yielded held queueMade mutexMade remove
 effect-fair k S n a ok t (Create p) P = create-fair k S n a p P t
 effect-fair k S n a ok t (Delete u) P = delete-fair k S n a u P t
 effect-fair k S n a ok t (Suspend u) P = quiet-fair _ t (none-given t _ refl refl) (suspended-quiet k S t (taskSlot u) (P .named))
-effect-fair k S n a ok t (Resume u) P = quiet-fair _ t (none-given t _ refl refl) (readied-quiet t (resumed k (taskSlot u) .objects) k (taskSlot u) _ (P .named))
+effect-fair k S n a ok t (Resume u) P = quiet-fair _ t (none-given t _ refl refl) (arrives-quiet t _ k (taskSlot u) Ready _ refl (P .named) (λ o h. refl))
 effect-fair k S n a ok t (SetPriority u p) P = change-fair k S n a ok u p P t
 effect-fair k S n a ok t (Delay d) P = quiet-fair _ t (none-given t _ refl refl) (delayed-quiet k S t d)
 effect-fair k S n a ok t Yield P = quiet-fair _ t (none-given t _ refl refl) still

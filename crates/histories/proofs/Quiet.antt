@@ -1,7 +1,7 @@
 -- Quiet changes of the task table: a task is there as before with the priorities as before, and nobody began to wait on a mutex that it holds at the end.
 use Prim.Native.Nat.{ℕ}
 use mathlib.Core.Path.{_≡_, refl, sym, _∙_}
-use mathlib.Core.Bool.{Bool, true, false}
+use mathlib.Core.Bool.{Bool, true, false, false≢true}
 use mathlib.Core.List.{List}
 use lib.Dec.{ltb}
 use lib.ListN.{length, set}
@@ -60,8 +60,8 @@ module _ (t : TaskSlot) (os : List Object) (ts : List Task) (u : TaskSlot) (x : 
 
 -- an existing task placed elsewhere, but not to wait on a mutex of t
 pub placed-quiet : (t : TaskSlot) (os : List Object) (ts : List Task) (u : TaskSlot) (p : Place) (n : ℕ) → isFree p ≡ false → isFree (taskAt ts u .place) ≡ false
-    → ((o : ObjSlot) → Holds os t o → waitsOn o p ≡ true → ⊥) → Quiet t os ts (set ts (u .0) (placed (taskAt ts u) p n))
-placed-quiet t os ts u p n a b c = slot-quiet t os ts u (placed (taskAt ts u) p n) (λ e. (a ∙ sym b, refl, refl)) (λ o h e. absurd (c o h e))
+    → ((o : ObjSlot) → Holds os t o → waitsOn o p ≡ false) → Quiet t os ts (set ts (u .0) (placed (taskAt ts u) p n))
+placed-quiet t os ts u p n a b c = slot-quiet t os ts u (placed (taskAt ts u) p n) (λ e. (a ∙ sym b, refl, refl)) (λ o h e. absurd (false≢true (sym (c o h) ∙ e)))
 
 -- the priorities of another task changed
 pub ranked-quiet : (t : TaskSlot) (os : List Object) (ts : List Task) (u : TaskSlot) (own eff : ℕ) → (u .0 ≡ t .0 → ⊥) → Quiet t os ts (set ts (u .0) (ranked (taskAt ts u) own eff))

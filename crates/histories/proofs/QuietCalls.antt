@@ -5,7 +5,7 @@ use mathlib.Core.Bool.{Bool, true, false, false≢true}
 use mathlib.Core.List.{List, [], _∷_}
 use native.Mathlib.Omega.{arith}
 use lib.Dec.{eqb, ltb}
-use borrow.Author.Tests.{eqb-true}
+use borrow.Author.Tests.{ne-eqb}
 use Rattle.lists.specs.Choice.{if_then_else_}
 use Rattle.lists.specs.Lists.{foldl, upTo}
 use Rattle.numbers.specs.Numbers.{byNumber}
@@ -17,7 +17,7 @@ use Rattle.rules.specs.Tables.{withTask, withTick, withHold}
 use Rattle.rules.specs.Lines.{level, first, toTail, leaves}
 use Rattle.rules.specs.Sound.{noHigher}
 use Rattle.rules.specs.Sentences.{Holds, Sound}
-use Rattle.rules.specs.Waits.{later, wakeOf, readied, blocked, waitFor}
+use Rattle.rules.specs.Waits.{later, wakeOf, arrives, waitFor}
 use Rattle.rules.specs.Ticks.{wokenIfDue, wakes, oneTick, turned, ticked, ticks, released}
 use Rattle.rules.specs.Items.{oneLess, sentBy, sent, sentTo, refilledBy, received, receivedFrom}
 use Rattle.rules.specs.Effects.{suspended, yielded, delayed, handedTo, handedOn}
@@ -43,23 +43,24 @@ one-object x y e = λ i. record { 0 = e i }
 
 -- ── the building blocks
 module _ (t : TaskSlot) (os : List Object) where
-  pub readied-quiet : (j : State) (u : TaskSlot) (n : ℕ) → isFree (taskAt (j .tasks) u .place) ≡ false → Quiet t os (j .tasks) (readied j u n .tasks)
-  unfolding readied toTail
-  readied-quiet j u n e = placed-quiet t os (j .tasks) u Ready n refl e (λ o h w. false≢true w)
+  pub arrives-quiet : (j : State) (u : TaskSlot) (p : Place) (n : ℕ) → isFree p ≡ false → isFree (taskAt (j .tasks) u .place) ≡ false
+      → ((o : ObjSlot) → Holds os t o → waitsOn o p ≡ false) → Quiet t os (j .tasks) (arrives j u p n .tasks)
+  unfolding arrives toTail
+  arrives-quiet j u p n f e c = placed-quiet t os (j .tasks) u p n f e c
 
   -- the caller waits on what is no mutex of t
   pub wait-quiet : (j : State) (o : ObjSlot) (w : ℕ) → isFree (taskAt (j .tasks) (j .running) .place) ≡ false → (Holds os t o → ⊥) → Quiet t os (j .tasks) (waitFor j o w .tasks)
-  unfolding waitFor blocked toTail
+  unfolding waitFor
   wait-quiet j o w e n =
-      placed-quiet t os (j .tasks) (j .running) (Waiting o (wakeOf (j .tick) w)) 0 refl e (λ p h q. n (subst (λ x. Holds os t x) (one-object p o (sym (eqb-true (o .0) (p .0) q))) h))
+      arrives-quiet j (j .running) (Waiting o (wakeOf (j .tick) w)) 0 refl e (λ p h. ne-eqb (o .0) (p .0) (λ q. n (subst (λ x. Holds os t x) (one-object p o (sym q)) h)))
 
   woken-quiet : (j : State) (u : TaskSlot) → Quiet t os (j .tasks) (wokenIfDue j u .tasks)
   unfolding wokenIfDue
   woken-quiet j u = go (wakesAt (j .tick) (taskAt (j .tasks) u .place)) refl
     where
       go : (b : Bool) → wakesAt (j .tick) (taskAt (j .tasks) u .place) ≡ b
-          → Quiet t os (j .tasks) ((if b then readied j u (outcomeDue (taskAt (j .tasks) u .place)) else j) .tasks)
-      go true e = readied-quiet j u _ (due-there (j .tick) (taskAt (j .tasks) u .place) e)
+          → Quiet t os (j .tasks) ((if b then arrives j u Ready (outcomeDue (taskAt (j .tasks) u .place)) else j) .tasks)
+      go true e = arrives-quiet j u Ready _ refl (due-there (j .tick) (taskAt (j .tasks) u .place) e) (λ o h. refl)
       go false e = still
 
   wakes-quiet : (l : List TaskSlot) (j : State) → Quiet t os (j .tasks) (foldl wokenIfDue j l .tasks)
@@ -108,35 +109,35 @@ module _ (k : State) (S : Sound k) (t : TaskSlot) where
     where
       go : (f : List TaskSlot) → first k (WaitersOf o) ≡ f → Quietly t k (handedTo k o f)
       go [] e = still
-      go (u ∷ r) e = readied-quiet t (handedTo k o (u ∷ r) .objects) k u 1 (first-there o u r e)
+      go (u ∷ r) e = arrives-quiet t _ k u Ready 1 refl (first-there o u r e) (λ p h. refl)
 
   pub delayed-quiet : (n : ℕ) → Quietly t k (delayed k n)
-  unfolding delayed yielded blocked toTail
+  unfolding delayed yielded toTail
   delayed-quiet n = go (eqb n 0)
     where
-      go : (b : Bool) → Quietly t k (if b then yielded k else blocked k (Delayed (later (k .tick) n)))
+      go : (b : Bool) → Quietly t k (if b then yielded k else arrives k (k .running) (Delayed (later (k .tick) n)) 0)
       go true = still
-      go false = placed-quiet t (k .objects) (k .tasks) (k .running) (Delayed (later (k .tick) n)) 0 refl caller-there (λ o h w. false≢true w)
+      go false = arrives-quiet t _ k (k .running) (Delayed (later (k .tick) n)) 0 refl caller-there (λ o h. refl)
 
   pub suspended-quiet : (u : TaskSlot) → isFree (taskAt (k .tasks) u .place) ≡ false → Quietly t k (suspended k u)
   unfolding suspended leaves
   suspended-quiet u e = go (isListed (taskAt (k .tasks) u .place))
     where
       go : (b : Bool) → Quietly t k (if b then leaves (withTask k u (brokenOff (taskAt (k .tasks) u))) u else k)
-      go true = placed-quiet t (k .objects) (k .tasks) u Suspended (if isBlocked (taskAt (k .tasks) u .place) then 3 else taskAt (k .tasks) u .outcome) refl e (λ o h w. false≢true w)
+      go true = placed-quiet t (k .objects) (k .tasks) u Suspended (if isBlocked (taskAt (k .tasks) u .place) then 3 else taskAt (k .tasks) u .outcome) refl e (λ o h. refl)
       go false = still
 
   -- a queue is no mutex of t
   module _ (o : ObjSlot) (q : Ring) (w : ℕ) (kind : kindAt (k .objects) o ≡ Queue q) where
     caller-waits : Quietly t k (waitFor k o w)
-    unfolding waitFor blocked toTail
+    unfolding waitFor arrives toTail
     caller-waits = wait-quiet t (k .objects) k o w caller-there (λ h. let z : _≡_ {A = ℕ} 0 1 = cc in omega arith)
 
     sent-quiet : Quietly t k (sent k o q w)
     unfolding sent
     sent-quiet =
         by-outlet k o q (λ x. Quietly t k (sentBy k o q w x))
-        (λ u e. readied-quiet t (readied k u 1 .objects) k u 1 (first-there o u [] e))
+        (λ u e. arrives-quiet t _ k u Ready 1 refl (first-there o u [] e) (λ p h. refl))
         still
         caller-waits
 
@@ -147,7 +148,7 @@ module _ (k : State) (S : Sound k) (t : TaskSlot) where
         go : (b : Bool) (f : List TaskSlot) → first k (WaitersOf o) ≡ f → Quietly t k (if b then waitFor k o w else refilledBy k o (oneLess q) f)
         go true f e = caller-waits
         go false [] e = still
-        go false (u ∷ r) e = readied-quiet t (refilledBy k o (oneLess q) (u ∷ r) .objects) _ u 1 (first-there o u r e)
+        go false (u ∷ r) e = arrives-quiet t _ _ u Ready 1 refl (first-there o u r e) (λ p h. refl)
 
   pub send-quiet : (o : ObjSlot) (w : ℕ) → Quietly t k (sentTo k o (kindAt (k .objects) o) w)
   send-quiet o w = go (kindAt (k .objects) o) refl

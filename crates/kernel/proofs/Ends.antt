@@ -11,6 +11,7 @@ use Rattle.lists.specs.Lists.{foldl, any, kept, isNone}
 use Rattle.numbers.specs.declared.TaskSlot.{TaskSlot}
 use Rattle.order.specs.Order.{listed}
 use Rattle.slots.specs.declared.Task.{Task}
+use Rattle.slots.specs.declared.Place.the-variants.{Ready}
 use Rattle.slots.specs.declared.Who.{Who}
 use Rattle.slots.specs.declared.Who.the-variants.{AllReady}
 use Rattle.slots.specs.declared.Lead.{Lead}
@@ -28,7 +29,7 @@ use Rattle.rules.specs.State.{State}
 use Rattle.rules.specs.Tables.{withRunning}
 use Rattle.rules.specs.Lines.{level, first, runsIf, chosen, toTail}
 use Rattle.rules.specs.Sound.{noHigher}
-use Rattle.rules.specs.Waits.{readied}
+use Rattle.rules.specs.Waits.{arrives}
 use Rattle.rules.specs.Ticks.{wokenIfDue, wakes, turned}
 use Rattle.rules.proofs.Leads.{finds}
 use Rattle.kernel.specs.Types.{Kernel}
@@ -92,16 +93,16 @@ module _ {A : Type 0} (f : State → A) (same : (s : State) (t : TaskSlot) → f
   all-same s [] = refl
   all-same s (t ∷ l) = all-same (wokenIfDue s t) l ∙ same s t
 
-woke : {A : Type 0} (f : State → A) (s : State) (t : TaskSlot) → f (readied s t (outcomeDue (taskAt (s .tasks) t .place))) ≡ f s → f (wokenIfDue s t) ≡ f s
+woke : {A : Type 0} (f : State → A) (s : State) (t : TaskSlot) → f (arrives s t Ready (outcomeDue (taskAt (s .tasks) t .place))) ≡ f s → f (wokenIfDue s t) ≡ f s
 unfolding wokenIfDue
 woke f s t e = go (wakesAt (s .tick) (taskAt (s .tasks) t .place))
   where
-    go : (b : Bool) → f (if b then readied s t (outcomeDue (taskAt (s .tasks) t .place)) else s) ≡ f s
+    go : (b : Bool) → f (if b then arrives s t Ready (outcomeDue (taskAt (s .tasks) t .place)) else s) ≡ f s
     go true = e
     go false = refl
 
 wakes-columns : (s : State) (l : List TaskSlot) → wakesIn (s .tick) (woken (tasksOf (s .tasks)) (s .order)) l ≡ woken (tasksOf (wakes s l .tasks)) (wakes s l .order)
-unfolding wakes wokenIfDue readied toTail
+unfolding wakes wokenIfDue arrives toTail
 wakes-columns s l =
     wakes-by (λ z. z .tasks) (λ z. z .order) (λ z. z .tick) wokenIfDue
     (λ z t. ticks z t (wakesAt (z .tick) (taskAt (z .tasks) t .place)))
@@ -109,7 +110,7 @@ wakes-columns s l =
     (λ z t. tails z t (wakesAt (z .tick) (taskAt (z .tasks) t .place))) s l
   where
     ready : State → TaskSlot → State
-    ready z t = readied z t (outcomeDue (taskAt (z .tasks) t .place))
+    ready z t = arrives z t Ready (outcomeDue (taskAt (z .tasks) t .place))
 
     ticks : (z : State) (t : TaskSlot) (b : Bool) → (if b then ready z t else z) .tick ≡ z .tick
     ticks z t true = refl
@@ -126,7 +127,7 @@ wakes-columns s l =
 pub wakes-done : (s : State) (l : List TaskSlot) (w : Woken) → w ≡ wakesIn (s .tick) (woken (tasksOf (s .tasks)) (s .order)) l
     → _≡_ {A = Kernel} (record { tasks = w .tasks; objects = objectsOf (s .objects); order = w .order; running = s .running; tick = s .tick; hold = s .hold; pended = s .pended })
     (kernelOf (wakes s l))
-unfolding kernelOf wakes readied toTail
+unfolding kernelOf wakes arrives toTail
 wakes-done s l w e = λ i. record {
   tasks = (e ∙ wakes-columns s l) i .tasks;
   objects = objectsOf (sym (all-same (λ z. z .objects) (λ z t. woke (λ y. y .objects) z t refl) s l) i);

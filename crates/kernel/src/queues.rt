@@ -18,6 +18,7 @@ use crate::rings;
 use numbers::ObjSlot;
 use slots::Found;
 use slots::Kind;
+use slots::Place;
 use slots::Ring;
 
 impl Kernel {
@@ -51,7 +52,7 @@ impl Kernel {
         match self.outlet(o, q) {
             Outlet::Waiter(t) => {
                 parts::to_slip(t, item, n, store);
-                self.readied(t, 1)
+                self.arrives(t, Place::Ready, 1)
             }
             Outlet::Ring => {
                 parts::to_ring(o, q, q.count, item, store);
@@ -71,7 +72,7 @@ impl Kernel {
         match f {
             Found::NoOne => self.with_object(o, Kind::Queue(q)),
             Found::Someone(t) => self.with_object(o, Kind::Queue(rings::one_more(q)))
-                .readied(t, 1),
+                .arrives(t, Place::Ready, 1),
         }
     }
 

@@ -57,7 +57,7 @@ impl Kernel {
         ensures { λ r. ⌜ Does self (λ s. resumed s t) r ⌝ }
     {
         let x = self.task(t);
-        self.readied(t, x.outcome)
+        self.arrives(t, Place::Ready, x.outcome)
     }
 
     fn delay(self, n: u32) -> Kernel
@@ -66,7 +66,11 @@ impl Kernel {
         if n == 0 {
             self.to_tail(self.running)
         } else {
-            self.blocked(Place::Delayed(std::num::wrapping_add_u32(self.tick, n)))
+            self.arrives(
+                self.running,
+                Place::Delayed(std::num::wrapping_add_u32(self.tick, n)),
+                0,
+            )
         }
     }
 
@@ -151,7 +155,7 @@ impl Kernel {
     {
         match self.first_waiter(o) {
             Found::NoOne => self.with_object(o, Kind::Mutex(Holder::Nobody)),
-            Found::Someone(t) => self.readied(t, 1)
+            Found::Someone(t) => self.arrives(t, Place::Ready, 1)
                 .with_object(o, Kind::Mutex(Holder::By(t))),
         }
     }

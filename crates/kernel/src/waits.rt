@@ -1,6 +1,6 @@
 // How a task is made ready, and how the caller begins to wait.
 ghost use mathlib.Core.Path.{_≡_};
-ghost use Rattle.rules.specs.Waits.{wakeOf, readied, blocked, waitFor};
+ghost use Rattle.rules.specs.Waits.{wakeOf, arrives, waitFor};
 ghost use Rattle.kernel.specs.Does.{Does};
 use crate::Kernel;
 use numbers::ObjSlot;
@@ -20,24 +20,16 @@ fn wake_of(now: u32, w: u32) -> Wake
 }
 
 impl Kernel {
-    // Made ready, at the tail of its line.
-    pub(crate) fn readied(self, t: TaskSlot, n: u8) -> Kernel
-        ensures { λ r. ⌜ Does self (λ s. readied s t n) r ⌝ }
+    // Made ready, or begins a delay or a wait: at the tail of its line, last in the list.
+    pub(crate) fn arrives(self, t: TaskSlot, p: Place, n: u8) -> Kernel
+        ensures { λ r. ⌜ Does self (λ s. arrives s t p n) r ⌝ }
     {
-        self.placed(t, Place::Ready, n).to_tail(t)
-    }
-
-    // The caller begins a delay or a wait.
-    pub(crate) fn blocked(self, p: Place) -> Kernel
-        ensures { λ r. ⌜ Does self (λ s. blocked s p) r ⌝ }
-    {
-        let t = self.running;
-        self.placed(t, p, 0).to_tail(t)
+        self.placed(t, p, n).to_tail(t)
     }
 
     pub(crate) fn wait_for(self, o: ObjSlot, w: u32) -> Kernel
         ensures { λ r. ⌜ Does self (λ s. waitFor s o w) r ⌝ }
     {
-        self.blocked(Place::Waiting(o, wake_of(self.tick, w)))
+        self.arrives(self.running, Place::Waiting(o, wake_of(self.tick, w)), 0)
     }
 }

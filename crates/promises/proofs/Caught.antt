@@ -29,7 +29,7 @@ use Rattle.slots.specs.Objects.{kindAt}
 use Rattle.rules.specs.Tables.{fresh, holds, freeSlot, freeObject}
 use Rattle.numbers.specs.Numbers.{byNumber}
 use Rattle.rules.specs.Ticks.{wokenIfDue, wakes, oneTick, turned, ticked, ticks, released, held}
-use Rattle.rules.specs.Waits.{readied, blocked, waitFor}
+use Rattle.rules.specs.Waits.{arrives, waitFor}
 
 -- what is changed is changed in the step itself: with the kernel's own parts the frame is the step
 pub frame : (k : State) (c : Call) (i s : List ℕ) → stepOf refusal effect chosen stored k c i s ≡ step k c i s
@@ -42,7 +42,7 @@ unfolding wrongs idlePrograms easyMistakes stepOf turnsAllAway alwaysDone change
     removed taken handedOn given effect itemAt outlet sent storeSent received storeReceived line those highest leader first chosen toTail toHead
     leaves moved movedIf prioritized newPriority lent ownAgain outOfRange namesNone wrongSize notForIdle notWithHold noSlot heldOrWaited inUse
     notHis hisAlready notSuspended mustWait noDepth noTick table laterRow refusal noHigher runsFine tablesFine levelsFine listingFine clockFine sound stored answered accepted step fresh
-    taskAt kindAt holds freeSlot freeObject wokenIfDue wakes byNumber oneTick turned ticked ticks released held readied blocked waitFor
+    taskAt kindAt holds freeSlot freeObject wokenIfDue wakes byNumber oneTick turned ticked ticks released held arrives waitFor
 caught number n = refl
 
 same-number : (n : ℕ) → sameNumber n n ≡ true

@@ -18,7 +18,7 @@ use Rattle.slots.specs.Objects.{kindAt}
 use Rattle.rules.specs.Tables.{fresh, holds, withTask, withTick, withHold}
 use Rattle.rules.specs.Lines.{level, first, runsIf, chosen, toTail, leaves}
 use Rattle.rules.specs.Sound.{noHigher}
-use Rattle.rules.specs.Waits.{later, readied, blocked, waitFor}
+use Rattle.rules.specs.Waits.{later, arrives, waitFor}
 use Rattle.rules.specs.Loans.{prioritized, newPriority, lent, ownAgain}
 use Rattle.numbers.specs.Numbers.{byNumber}
 use Rattle.rules.specs.Ticks.{wokenIfDue, wakes, oneTick, turned, ticked, ticks, released, held}
@@ -30,16 +30,16 @@ use Rattle.rules.specs.Trace.{momentOf, trace, stateAfter, CallMade, stepMade}
 use Rattle.rules.proofs.Within.{by-outlet}
 use Rattle.rules.proofs.Blocks.{prioritized-same}
 use Rattle.promises.specs.Types.{TaskSlot, ObjSlot, Call, Create, Delete, Suspend, Resume, SetPriority, Delay, Yield, Hold, Release, MakeQueue, MakeMutex, Remove, Send}
-use Rattle.promises.specs.Types.{Receive, Take, Give, Tick, Delayed, AllReady, WaitersOf, Nobody, By, Kind, Unused, Queue, Mutex, State}
+use Rattle.promises.specs.Types.{Receive, Take, Give, Tick, Ready, Delayed, AllReady, WaitersOf, Nobody, By, Kind, Unused, Queue, Mutex, State}
 use Rattle.promises.specs.History.{reached}
 use Rattle.promises.specs.Depth.{deeper, isAccepted, depthAt, depth}
 
 -- ── what leaves the depth as it was
 woken-hold : (k : State) (t : TaskSlot) → wokenIfDue k t .hold ≡ k .hold
-unfolding wokenIfDue readied toTail
+unfolding wokenIfDue arrives toTail
 woken-hold k t = go (wakesAt (k .tick) (taskAt (k .tasks) t .place))
   where
-    go : (b : Bool) → (if b then readied k t (outcomeDue (taskAt (k .tasks) t .place)) else k) .hold ≡ k .hold
+    go : (b : Bool) → (if b then arrives k t Ready (outcomeDue (taskAt (k .tasks) t .place)) else k) .hold ≡ k .hold
     go true = refl
     go false = refl
 
@@ -83,21 +83,21 @@ module _ (k : State) where
       go false = refl
 
   delayed-hold : (n : ℕ) → delayed k n .hold ≡ k .hold
-  unfolding delayed yielded blocked toTail
+  unfolding delayed yielded arrives toTail
   delayed-hold n = go (eqb n 0)
     where
-      go : (b : Bool) → (if b then yielded k else blocked k (Delayed (later (k .tick) n))) .hold ≡ k .hold
+      go : (b : Bool) → (if b then yielded k else arrives k (k .running) (Delayed (later (k .tick) n)) 0) .hold ≡ k .hold
       go true = refl
       go false = refl
 
   sent-hold : (o : ObjSlot) (x : Kind) (w : ℕ) → sentTo k o x w .hold ≡ k .hold
-  unfolding sent readied waitFor blocked toTail
+  unfolding sent arrives waitFor toTail
   sent-hold o Unused w = refl
   sent-hold o (Queue q) w = by-outlet k o q (λ x. sentBy k o q w x .hold ≡ k .hold) (λ t e. refl) refl refl
   sent-hold o (Mutex h) w = refl
 
   received-hold : (o : ObjSlot) (x : Kind) (w : ℕ) → receivedFrom k o x w .hold ≡ k .hold
-  unfolding received readied waitFor blocked toTail
+  unfolding received arrives waitFor toTail
   received-hold o Unused w = refl
   received-hold o (Queue q) w = go (eqb (q .count) 0) (first k (WaitersOf o))
     where
@@ -108,14 +108,14 @@ module _ (k : State) where
   received-hold o (Mutex h) w = refl
 
   taken-hold : (o : ObjSlot) (x : Kind) (w : ℕ) → takenFrom k o x w .hold ≡ k .hold
-  unfolding lent waitFor blocked toTail
+  unfolding lent waitFor arrives toTail
   taken-hold o Unused w = refl
   taken-hold o (Queue q) w = refl
   taken-hold o (Mutex Nobody) w = refl
   taken-hold o (Mutex (By h)) w = prioritized-same k h _ _ .hold
 
   given-hold : (o : ObjSlot) → given k o .hold ≡ k .hold
-  unfolding given ownAgain handedOn readied toTail
+  unfolding given ownAgain handedOn arrives toTail
   given-hold o = again (handedOn k o) (holds (handedOn k o .objects) (k .running)) ∙ hand (first k (WaitersOf o))
     where
       again : (j : State) (b : Bool) → (if b then j else prioritized j (k .running) (taskAt (j .tasks) (k .running) .own) (taskAt (j .tasks) (k .running) .own)) .hold ≡ j .hold
@@ -135,7 +135,7 @@ module _ (k : State) where
       go false e = refl
 
   effect-hold : (c : Call) → effect k (asked c) .hold ≡ deeper (asked c) (k .hold)
-  unfolding effect asked created deleted resumed yielded queueMade mutexMade removed taken newPriority held readied leaves toTail
+  unfolding effect asked created deleted resumed yielded queueMade mutexMade removed taken newPriority held arrives leaves toTail
   effect-hold (Create p) = refl
   effect-hold (Delete t) = refl
   effect-hold (Suspend t) = suspended-hold (taskSlot t)

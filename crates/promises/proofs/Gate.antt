@@ -22,7 +22,7 @@ use Rattle.slots.specs.Objects.{kindAt}
 use Rattle.rules.specs.Tables.{fresh, holds, freeSlot, freeObject}
 use Rattle.numbers.specs.Numbers.{byNumber}
 use Rattle.rules.specs.Ticks.{wokenIfDue, wakes, oneTick, turned, ticked, ticks, released, held}
-use Rattle.rules.specs.Waits.{readied, blocked, waitFor}
+use Rattle.rules.specs.Waits.{arrives, waitFor}
 use Rattle.promises.specs.Cases.{Case, ran, p1, p2, p3, p4, p5, p6, p7, p8, p9, p10, p11, p12, cases}
 
 pub both-sides-of-the-gate : map ran cases ≡ map (λ (c : Case). c .expected) cases
@@ -31,5 +31,5 @@ unfolding cases p1 p2 p3 p4 p5 p6 p7 p8 p9 p10 p11 p12 trace every allBelow fold
     storeReceived line those highest leader first chosen toTail toHead leaves moved movedIf prioritized newPriority lent ownAgain outOfRange
     namesNone wrongSize notForIdle notWithHold noSlot heldOrWaited inUse notHis hisAlready notSuspended mustWait noDepth noTick table laterRow
     refusal noHigher runsFine tablesFine levelsFine listingFine clockFine sound stored answered accepted step fresh taskAt kindAt holds freeSlot freeObject wokenIfDue wakes byNumber
-    oneTick turned ticked ticks released held readied blocked waitFor
+    oneTick turned ticked ticks released held arrives waitFor
 both-sides-of-the-gate = refl

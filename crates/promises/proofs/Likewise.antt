@@ -30,7 +30,7 @@ use Rattle.slots.specs.Objects.{kindAt}
 use Rattle.rules.specs.Tables.{holds, freeSlot, freeObject, withTask, withObject, withOrder, withHold}
 use Rattle.rules.specs.Lines.{level, first, toTail, toHead, leaves}
 use Rattle.rules.specs.Sound.{noHigher}
-use Rattle.rules.specs.Waits.{later, wakeOf, readied, blocked, waitFor}
+use Rattle.rules.specs.Waits.{later, wakeOf, arrives, waitFor}
 use Rattle.rules.specs.Loans.{moved, movedIf, prioritized, newPriority, lent, ownAgain}
 use Rattle.rules.specs.Ticks.{wokenIfDue, wakes, oneTick, turned, ticked, ticks, released, held}
 use Rattle.rules.specs.Items.{oneLess, oneMore, outlet, outletFor, sentBy, sent, refilledBy, received, sentTo, receivedFrom}
@@ -59,17 +59,13 @@ first-low : (k : State) (o : ObjSlot) (t : TaskSlot) (r : List TaskSlot) → len
 first-low k o t r h e = omega (arith, first-within k (WaitersOf o) t (first-single k (WaitersOf o) t r e))
 
 -- ── waits
-pub readied-too : {k j : State} (t : TaskSlot) (n : ℕ) → t .0 < 16 → Twins k j → Twins (readied k t n) (readied j t n)
-unfolding readied toTail
-readied-too {k} t n h w = twice (λ z. readied z t n) w (λ o v. changed k o v (to-tail t h) (placed (taskAt (k .tasks) t) Ready n))
-
-blocked-too : {k j : State} (p : Place) → Twins k j → Twins (blocked k p) (blocked j p)
-unfolding blocked toTail
-blocked-too {k} p w = twice (λ z. blocked z p) w (λ o v. changed k o v (to-tail (k .running) (w .runs)) (placed (taskAt (k .tasks) (k .running)) p 0))
+pub arrives-too : {k j : State} (t : TaskSlot) (p : Place) (n : ℕ) → t .0 < 16 → Twins k j → Twins (arrives k t p n) (arrives j t p n)
+unfolding arrives toTail
+arrives-too {k} t p n h w = twice (λ z. arrives z t p n) w (λ o v. changed k o v (to-tail t h) (placed (taskAt (k .tasks) t) p n))
 
 wait-too : {k j : State} (o : ObjSlot) (n : ℕ) → Twins k j → Twins (waitFor k o n) (waitFor j o n)
 unfolding waitFor
-wait-too {k} o n w = twice (λ z. waitFor z o n) w (λ m v. blocked-too (Waiting o (wakeOf (k .tick) n)) v)
+wait-too {k} o n w = twice (λ z. waitFor z o n) w (λ m v. arrives-too (k .running) (Waiting o (wakeOf (k .tick) n)) 0 (v .runs) v)
 
 -- ── priorities
 prioritized-too : {k j : State} (t : TaskSlot) (own eff : ℕ) → Twins k j → Twins (prioritized k t own eff) (prioritized j t own eff)
@@ -135,7 +131,7 @@ suspended-too {k} t w = twice (λ z. suspended z t) w (λ o v. go o v (isListed 
 
 pub resumed-too : {k j : State} (t : TaskSlot) → t .0 < 16 → Twins k j → Twins (resumed k t) (resumed j t)
 unfolding resumed
-resumed-too {k} t h w = twice (λ z. resumed z t) w (λ o v. readied-too t (taskAt (k .tasks) t .outcome) h v)
+resumed-too {k} t h w = twice (λ z. resumed z t) w (λ o v. arrives-too t Ready (taskAt (k .tasks) t .outcome) h v)
 
 runner-to-tail : {k j : State} → Twins k j → Twins (toTail k (k .running)) (toTail j (j .running))
 unfolding toTail
@@ -150,9 +146,10 @@ unfolding delayed
 delayed-too {k} n w = twice (λ z. delayed z n) w (λ o v. go o v (eqb n 0))
   where
     go : (o : Order) → Twins k (withOrder k o) → (b : Bool)
-        → Twins (if b then yielded k else blocked k (Delayed (later (k .tick) n))) (if b then yielded (withOrder k o) else blocked (withOrder k o) (Delayed (later (k .tick) n)))
+        → Twins (if b then yielded k else arrives k (k .running) (Delayed (later (k .tick) n)) 0)
+        (if b then yielded (withOrder k o) else arrives (withOrder k o) (k .running) (Delayed (later (k .tick) n)) 0)
     go o v true = yielded-too v
-    go o v false = blocked-too (Delayed (later (k .tick) n)) v
+    go o v false = arrives-too (k .running) (Delayed (later (k .tick) n)) 0 (v .runs) v
 
 -- ── objects
 object-too : {k j : State} (o : ObjSlot) (x : Kind) → Twins k j → Twins (withObject k o x) (withObject j o x)
@@ -182,8 +179,8 @@ woken-too {k} t w = twice (λ z. wokenIfDue z t) w (λ o v. go o v (wakesAt (k .
     p = taskAt (k .tasks) t .place
 
     go : (o : Order) → Twins k (withOrder k o) → (b : Bool) → wakesAt (k .tick) p ≡ b
-        → Twins (if b then readied k t (outcomeDue p) else k) (if b then readied (withOrder k o) t (outcomeDue p) else withOrder k o)
-    go o v true e = readied-too t (outcomeDue p) (slot-low (wakesAt (k .tick)) refl (k .tasks) t (v .slots) e) v
+        → Twins (if b then arrives k t Ready (outcomeDue p) else k) (if b then arrives (withOrder k o) t Ready (outcomeDue p) else withOrder k o)
+    go o v true e = arrives-too t Ready (outcomeDue p) (slot-low (wakesAt (k .tick)) refl (k .tasks) t (v .slots) e) v
     go o v false e = v
 
 wakes-too : {k j : State} (l : List TaskSlot) → Twins k j → Twins (foldl wokenIfDue k l) (foldl wokenIfDue j l)
@@ -246,7 +243,7 @@ sent-too {k} o q n w = twice (λ z. sent z o q n) w (λ m v. rw (← outlet-same
     go : (m : Order) → Twins k (withOrder k m) → Twins (sentBy k o q n (outlet k o q)) (sentBy (withOrder k m) o q n (outlet k o q))
     go m v =
         by-outlet k o q (λ x. Twins (sentBy k o q n x) (sentBy (withOrder k m) o q n x))
-        (λ t e. readied-too t 1 (first-low k o t [] (v .slots) e) v)
+        (λ t e. arrives-too t Ready 1 (first-low k o t [] (v .slots) e) v)
         (object-too o (Queue (oneMore q)) v)
         (wait-too o n v)
 
@@ -258,7 +255,7 @@ received-too {k} o q n w = twice (λ z. received z o q n) w (λ m v. rw (← fir
         → Twins (if b then waitFor k o n else refilledBy k o (oneLess q) f) (if b then waitFor (withOrder k m) o n else refilledBy (withOrder k m) o (oneLess q) f)
     go m v f e true = wait-too o n v
     go m v [] e false = object-too o (Queue (oneLess q)) v
-    go m v (t ∷ r) e false = readied-too t 1 (first-low k o t r (v .slots) e) (object-too o (Queue (oneMore (oneLess q))) v)
+    go m v (t ∷ r) e false = arrives-too t Ready 1 (first-low k o t r (v .slots) e) (object-too o (Queue (oneMore (oneLess q))) v)
 
 pub sent-to-too : {k j : State} (o : ObjSlot) (x : Kind) (n : ℕ) → Twins k j → Twins (sentTo k o x n) (sentTo j o x n)
 sent-to-too o Unused n w = w
@@ -286,7 +283,7 @@ handed-on-too {k} o w = twice (λ z. handedOn z o) w (λ m v. rw (← first-same
   where
     go : (m : Order) → Twins k (withOrder k m) → (f : List TaskSlot) → first k (WaitersOf o) ≡ f → Twins (handedTo k o f) (handedTo (withOrder k m) o f)
     go m v [] e = object-too o (Mutex Nobody) v
-    go m v (t ∷ r) e = object-too o (Mutex (By t)) (readied-too t 1 (first-low k o t r (v .slots) e) v)
+    go m v (t ∷ r) e = object-too o (Mutex (By t)) (arrives-too t Ready 1 (first-low k o t r (v .slots) e) v)
 
 pub given-too : {k j : State} (o : ObjSlot) → Twins k j → Twins (given k o) (given j o)
 unfolding given

@@ -18,7 +18,7 @@ use Rattle.rules.specs.Trace.{trace}
 use Rattle.slots.specs.Tasks.{taskAt}
 use Rattle.slots.specs.Objects.{kindAt}
 use Rattle.rules.specs.Tables.{fresh, holds, freeSlot, freeObject}
-use Rattle.rules.specs.Waits.{readied, blocked, waitFor}
+use Rattle.rules.specs.Waits.{arrives, waitFor}
 use Rattle.fields.specs.Decimal.{digits, dec}
 use Rattle.fields.specs.Digit.{among}
 use Rattle.fields.specs.Number.{grow}
@@ -36,7 +36,7 @@ unfolding bytesOf typed written linesOf readLine stepOfLine trace answering flat
     allBelow foldl upTo index any kept asked ordered without count tidy created mutexMade taken handedOn given effect line those highest leader
     first chosen toTail toHead leaves moved movedIf prioritized lent ownAgain outOfRange namesNone wrongSize notForIdle notWithHold noSlot inUse
     notHis hisAlready notSuspended mustWait noDepth noTick table laterRow refusal noHigher runsFine tablesFine levelsFine listingFine clockFine sound stored answered accepted step fresh
-    taskAt kindAt holds freeSlot freeObject readied blocked waitFor
+    taskAt kindAt holds freeSlot freeObject arrives waitFor
 p1-as-bytes = refl
 
 pub p1-in-any-blocks : (ts : List Turn) → cameIn ts ≡ typed → afterTurns atStart ts .waits ≡ [] → (n : ℕ) → 256 ≤ n → afterEnd (afterTurns atStart ts) n .answers ≡ written

@@ -20,7 +20,7 @@ use Rattle.promises.specs.Types.{Never, At, Place, Free, Ready, Delayed,
 use Rattle.promises.specs.Cases.{View, view, viewOf}
 use Rattle.rules.specs.Tables.{fresh, withTask, withTick, withHold}
 use Rattle.rules.specs.Lines.{level, leader, chosen, toTail}
-use Rattle.rules.specs.Waits.{later, readied}
+use Rattle.rules.specs.Waits.{later, arrives}
 use Rattle.rules.specs.Loans.{prioritized}
 use Rattle.rules.specs.Ticks.{wokenIfDue, oneTick, turned, ticked, released}
 use Rattle.rules.specs.Items.{slipOf}
@@ -105,7 +105,7 @@ isPast n Suspended = false
 abbrev pub wokenIfPast : State → ℕ → State
 wokenIfPast k n =
     let p = taskAt (k .tasks) (task n) .place in
-    if isPast (k .tick) p then readied k (task n) (outcomeDue p) else k
+    if isPast (k .tick) p then arrives k (task n) Ready (outcomeDue p) else k
 
 abbrev pub wakesThePast : State → Asked → State
 wakesThePast = changed 17 (λ k a. tickedBy (upTo wokenIfPast 16) k)
@@ -144,7 +144,7 @@ foundBy k a = if is 13 a && isEmpty (kindAt (k .objects) (a .object)) then still
 -- it gets the item in its slip and is made ready, outcome 1; with none all is done as it should be, but for a suspend
 abbrev pub wokenOr : State → Asked → List TaskSlot → State
 wokenOr k a [] = changed 3 (λ k a. staysIfWaiting k (a .task)) k a
-wokenOr k a (t ∷ l) = readied k t 1
+wokenOr k a (t ∷ l) = arrives k t Ready 1
 
 abbrev pub slipOr : State → Asked → List ℕ → List ℕ → List TaskSlot → List ℕ
 slipOr k a item s [] = stored k a item s

@@ -5,80 +5,77 @@ use mathlib.Core.Bool.{Bool, true, false, _&&_}
 use mathlib.Core.List.{_∷_}
 use native.Mathlib.Omega.{arith}
 use lib.Dec.{eqb}
-use lib.ListN.{set}
+use lib.ListN.{length, set}
 use borrow.Author.Tests.{eqb-true, eqb-false}
 use Rattle.lists.specs.Choice.{if_then_else_}
+use Rattle.lists.proofs.Bools.{or-right}
 use Rattle.numbers.specs.Numbers.{idle, sameTask}
 use Rattle.order.specs.Order.{listed, without}
 use Rattle.order.proofs.Lines.{one-number}
 use Rattle.slots.specs.Places.{isReady, isBlocked, isListed}
 use Rattle.slots.specs.Tasks.{placed, ranked, inLine, taskAt}
-use Rattle.rules.specs.Types.{TaskSlot, ObjSlot, Wake, Place, Free, Ready, Delayed, Waiting, Suspended, Task, State}
+use Rattle.rules.specs.Types.{TaskSlot, ObjSlot, Wake, Place, Free, Ready, Waiting, Task, State}
 use Rattle.slots.specs.Objects.{kindAt}
 use Rattle.rules.specs.Tables.{withTask}
 use Rattle.rules.specs.Lines.{level, toTail, toHead}
-use Rattle.rules.specs.Sentences.{Holds, Exists, MayWait, AsIdle}
-use Rattle.rules.specs.Waits.{readied, blocked}
+use Rattle.rules.specs.Sentences.{Holds, Exists, MayWait, AsIdle, TaskFits}
+use Rattle.rules.specs.Waits.{arrives}
 use Rattle.rules.specs.Loans.{moved, movedIf, prioritized}
 use Rattle.rules.proofs.Slots.{is-ready}
-use Rattle.rules.proofs.Nearly.{Owing, TaskFine, Nearly, unblocked-fits, RunsIn}
+use Rattle.rules.proofs.Nearly.{Owing, Clear, TaskFine, Nearly, unblocked-fits, RunsIn}
 use Rattle.rules.proofs.Slotted.{at-same, at-other, tail-nearly, tail-listed, head-nearly, head-listed, stay-nearly}
 use Rattle.rules.proofs.Heads.{runs-tail, runs-stay, runs-head}
 
 true-not-false : true ≡ false → ⊥
 true-not-false e = let z : _≡_ {A = ℕ} 0 1 = cc in omega arith
 
-ready-not-waiting : {o : ObjSlot} {v : Wake} → Ready ≡ Waiting o v → ⊥
-ready-not-waiting e = let z : _≡_ {A = ℕ} 0 1 = cc in omega arith
+-- the task t may go to the place p, with the outcome n
+pub record Arrival (w : Owing) (k : State) (t : TaskSlot) (p : Place) (n : ℕ) : Type 0 where
+  pub fits : TaskFits (k .objects) t (placed (taskAt (k .tasks) t) p n)
+  pub due : w .due t p ≡ true
+  pub stands : isListed p ≡ true
+  pub idle-ready : t .0 ≡ 0 → p ≡ Ready
 
-ready-not-free : Ready ≡ Free → ⊥
-ready-not-free e = let z : _≡_ {A = ℕ} 0 1 = cc in omega arith
+-- made ready
+pub to-ready : {w : Owing} {k : State} {t : TaskSlot} {n : ℕ} → n ≤ 3 → w .due t Ready ≡ true → Arrival w k t Ready n
+to-ready few D = record { fits = unblocked-fits _ _ _ refl refl few; due = D; stands = refl; idle-ready = λ z. refl }
 
-module _ {w : Owing} (k : State) (N : Nearly w k) (t : TaskSlot) (low : t .0 < 16) where
-  abbrev old : Task
-  old = taskAt (k .tasks) t
+-- begins a delay or a wait
+pub to-wait : {w : Owing} {k : State} {t : TaskSlot} {p : Place} → isBlocked p ≡ true → (t .0 ≡ 0 → ⊥)
+    → ((o : ObjSlot) (v : Wake) → p ≡ Waiting o v → MayWait t (kindAt (k .objects) o)) → w .due t p ≡ true → Arrival w k t p 0
+to-wait {p = p} b busy W D =
+    record {
+      fits = record { waits = W; outcome-range = omega arith; delay-outcome = λ v e. refl; wait-outcome = λ o v e. refl; free = λ e. absurd (true-not-false (sym b ∙ ap isBlocked e)) };
+      due = D;
+      stands = or-right (isReady p) _ b;
+      idle-ready = λ z. absurd (busy z);
+    }
+
+module _ {w : Owing} (k : State) (N : Nearly w k) (t : TaskSlot) (low : t .0 < 16) {p : Place} {n : ℕ} (A : Arrival w k t p n) where
+  abbrev there : Task
+  there = placed (taskAt (k .tasks) t) p n
+
+  there-fine : TaskFine w (k .objects) t there
+  there-fine = record { fits = A .fits; levels = N .levels t; due = A .due }
+
+  not-free : (o : ObjSlot) → Holds (k .objects) t o → p ≡ Free → ⊥
+  not-free o h e = true-not-false (sym (A .stands) ∙ ap isListed e)
 
   -- idle has its priorities
-  idle-still : (n : ℕ) → t .0 ≡ 0 → AsIdle (placed old Ready n)
-  idle-still n z = rw (one-number t idle z) record { ready = refl; own = N .tables .as-idle .own; effective = N .tables .as-idle .effective }
+  idle-still : t .0 ≡ 0 → AsIdle there
+  idle-still z = rw (one-number t idle z) record { ready = A .idle-ready z; own = N .tables .as-idle .own; effective = N .tables .as-idle .effective }
 
-  -- made ready, with an outcome
-  module _ (n : ℕ) (few : n ≤ 3) (D : w .due t Ready ≡ true) where
-    ready-fine : TaskFine w (k .objects) t (placed old Ready n)
-    ready-fine = record { fits = unblocked-fits (k .objects) t (placed old Ready n) refl refl few; levels = N .levels t; due = D }
+  pub arrives-nearly : Nearly w (arrives k t p n)
+  unfolding arrives
+  arrives-nearly = tail-nearly k N t there low there-fine not-free idle-still (A .stands)
 
-    pub readied-nearly : Nearly w (readied k t n)
-    unfolding readied
-    readied-nearly = tail-nearly k N t (placed old Ready n) low ready-fine (λ o h e. ready-not-free e) (idle-still n) refl
-
-    pub readied-runs : RunsIn k → (k .running .0 ≡ t .0 → ⊥) → RunsIn (readied k t n)
-    unfolding readied toTail
-    readied-runs R d = runs-tail k R t (placed old Ready n) (readied k t n) refl refl d (tail-listed k N t (placed old Ready n) low ready-fine (λ o h e. ready-not-free e) (idle-still n) refl)
-
--- the caller begins a delay or a wait
-pub blocked-nearly : {w : Owing} (k : State) → Nearly w k → k .running .0 < 16 → (k .running .0 ≡ 0 → ⊥) → (p : Place) → isBlocked p ≡ true
-    → ((o : ObjSlot) (v : Wake) → p ≡ Waiting o v → MayWait (k .running) (kindAt (k .objects) o)) → w .due (k .running) p ≡ true → Nearly w (blocked k p)
-unfolding blocked
-blocked-nearly {w} k N low busy p b W D =
-    tail-nearly k N (k .running) (placed (taskAt (k .tasks) (k .running)) p 0) low (record {
-      fits = record { waits = W; outcome-range = omega arith; delay-outcome = λ v e. refl; wait-outcome = λ o v e. refl; free = λ e. absurd (blocked-not-free p b e) };
-      levels = N .levels (k .running);
-      due = D;
-    }) (λ o h e. blocked-not-free p b e) (λ z. absurd (busy z)) (blocked-listed p b)
-  where
-    blocked-not-free : (p : Place) → isBlocked p ≡ true → p ≡ Free → ⊥
-    blocked-not-free p b e = true-not-false (sym b ∙ ap isBlocked e)
-
-    blocked-listed : (p : Place) → isBlocked p ≡ true → isListed p ≡ true
-    blocked-listed Free b = b
-    blocked-listed Ready b = refl
-    blocked-listed (Delayed w) b = refl
-    blocked-listed (Waiting o w) b = refl
-    blocked-listed Suspended b = b
+  pub arrives-runs : RunsIn k → (k .running .0 ≡ t .0 → ⊥) → RunsIn (arrives k t p n)
+  unfolding arrives toTail
+  arrives-runs R d = runs-tail k R t there (arrives k t p n) refl refl d (tail-listed k N t there low there-fine not-free idle-still (A .stands))
 
 -- a priority changed
 module _ {w : Owing} (k : State) (N : Nearly w k) (t : TaskSlot) (low : t .0 < 16) (own eff : ℕ) (least : own ≤ eff) (high : eff ≤ 31)
-    (P : w .owes t ≡ false → ((o : ObjSlot) → Holds (k .objects) t o → ⊥) → own ≡ eff)
+    (P : Clear w (k .objects) t → own ≡ eff)
     (X : Exists (k .tasks) t) (Z : t .0 ≡ 0 → (own ≡ 0) × (eff ≡ 0)) where
   abbrev new : Task
   new = ranked (taskAt (k .tasks) t) own eff
@@ -185,12 +182,20 @@ module _ {w : Owing} (k : State) (N : Nearly w k) (t : TaskSlot) (low : t .0 < 1
         go true e false q = runs-moved e
         go false e b q = runs-unready e
 
--- a priority changed leaves the counts and who runs
+-- the counts, who runs and the objects are as they were
 pub record Same (j k : State) : Type 0 where
   pub tick : j .tick ≡ k .tick
   pub hold : j .hold ≡ k .hold
   pub running : j .running ≡ k .running
   pub objects : j .objects ≡ k .objects
+
+pub arrives-same : (k : State) (t : TaskSlot) (p : Place) (n : ℕ) → Same (arrives k t p n) k
+unfolding arrives toTail
+arrives-same k t p n = record { tick = refl; hold = refl; running = refl; objects = refl }
+
+pub arrives-at : (k : State) (t : TaskSlot) (p : Place) (n : ℕ) → t .0 < length (k .tasks) → taskAt (arrives k t p n .tasks) t ≡ placed (taskAt (k .tasks) t) p n
+unfolding arrives toTail
+arrives-at k t p n h = at-same (k .tasks) t (placed (taskAt (k .tasks) t) p n) h
 
 -- the task's slot, and no other
 pub prioritized-tasks : (k : State) (t : TaskSlot) (own eff : ℕ) → prioritized k t own eff .tasks ≡ set (k .tasks) (t .0) (ranked (taskAt (k .tasks) t) own eff)

@@ -23,14 +23,14 @@ use Rattle.rules.proofs.Leads.{leader-none, first-heads-highest}
 use Rattle.rules.proofs.Within.{first-meant, kept-head, first-single}
 use Rattle.rules.proofs.Slots.{is-ready}
 use Rattle.rules.proofs.SaysClock.{wake-says, says-wake}
-use Rattle.rules.proofs.Nearly.{Owing, settled, Nearly, RunsIn}
+use Rattle.rules.proofs.Nearly.{Owing, settled, level-as, Nearly, RunsIn}
 
 -- ── from nearly sound to sound, and back
 pub nearly-sound : (k : State) → Nearly (settled (k .tick)) k → Running (k .tasks) (listed (k .order)) (k .running) (k .hold) → Sound k
 nearly-sound k N R =
     record {
       tables = N .tables;
-      levels = λ t. record { at-least = N .levels t .at-least; equal = N .levels t .equal refl; range = N .levels t .range };
+      levels = λ t. level-as (N .levels t) (λ n. N .levels t .equal (refl, n));
       listing = N .listing;
       clock = record { wakes = λ t. wake-says (k .tick) (taskAt (k .tasks) t .place) (N .due t); counts = N .counts };
       running = R;
@@ -40,7 +40,7 @@ pub sound-nearly : (k : State) → Sound k → Nearly (settled (k .tick)) k
 sound-nearly k S =
     record {
       tables = S .tables;
-      levels = λ t. record { at-least = S .levels t .at-least; equal = λ e. S .levels t .equal; range = S .levels t .range };
+      levels = λ t. level-as (S .levels t) (λ c. S .levels t .equal (c .1));
       listing = S .listing;
       due = λ t. says-wake (k .tick) (taskAt (k .tasks) t .place) (S .clock .wakes t);
       counts = S .clock .counts;

@@ -11,7 +11,7 @@ use Rattle.order.proofs.Lines.{one-number}
 use Rattle.slots.specs.Objects.{unused, heldBy, kindAt}
 use Rattle.rules.specs.Types.{TaskSlot, ObjSlot, Nobody, By, Kind, Unused, Queue, Mutex, Object}
 use Rattle.rules.specs.Tables.{holds}
-use Rattle.rules.specs.Sentences.{Holds}
+use Rattle.rules.specs.Sentences.{Holds, HoldsNothing}
 
 pub held-one : (t : TaskSlot) (x : Kind) → heldBy t x ≡ true → x ≡ Mutex (By t)
 held-one t Unused e = absurd (false≢true e)
@@ -23,10 +23,10 @@ pub some-holds : (os : List Object) (t : TaskSlot) (o : ObjSlot) → Holds os t 
 unfolding holds kindAt
 some-holds os t o h = any-at (λ (x : Object). heldBy t (x .kind)) os (o .0) unused refl (rw h (eq-eqb (t .0) (t .0) refl))
 
-pub none-holds : (os : List Object) (t : TaskSlot) → ((o : ObjSlot) → Holds os t o → ⊥) → holds os t ≡ false
+pub none-holds : (os : List Object) (t : TaskSlot) → HoldsNothing os t → holds os t ≡ false
 unfolding holds kindAt
 none-holds os t h =
     any-none (λ (x : Object). heldBy t (x .kind)) os unused (λ i. untrue _ (λ e. h (object i) (held-one t (getD os i unused .kind) e)))
 
-pub not-held : (os : List Object) (t : TaskSlot) → holds os t ≡ false → (o : ObjSlot) → Holds os t o → ⊥
+pub not-held : (os : List Object) (t : TaskSlot) → holds os t ≡ false → HoldsNothing os t
 not-held os t e o h = false≢true (sym e ∙ some-holds os t o h)

@@ -15,7 +15,7 @@ use Rattle.slots.specs.Places.{wakesAt, outcomeDue, ahead, away}
 use Rattle.slots.specs.Tasks.{freeTask, taskAt}
 use Rattle.rules.specs.Types.{TaskSlot, Never, At, Place, Free, Ready, Delayed, Waiting, Suspended, Task, State}
 use Rattle.rules.specs.Tables.{withTick}
-use Rattle.rules.specs.Waits.{later, readied}
+use Rattle.rules.specs.Waits.{later, arrives}
 use Rattle.rules.specs.Ticks.{wokenIfDue, wakes, oneTick, untilDue, ticks}
 
 -- ── one task: it is not due before its wake tick
@@ -34,7 +34,7 @@ not-yet now d i Suspended n h l = refl
 none-woken : (k : State) → ((t : TaskSlot) → wakesAt (k .tick) (taskAt (k .tasks) t .place) ≡ false) → (l : List TaskSlot) → wakes k l ≡ k
 unfolding wakes foldl wokenIfDue
 none-woken k f [] = refl
-none-woken k f (t ∷ l) = ap (λ (b : Bool). foldl wokenIfDue (if b then readied k t (outcomeDue (taskAt (k .tasks) t .place)) else k) l) (f t) ∙ none-woken k f l
+none-woken k f (t ∷ l) = ap (λ (b : Bool). foldl wokenIfDue (if b then arrives k t Ready (outcomeDue (taskAt (k .tasks) t .place)) else k) l) (f t) ∙ none-woken k f l
 
 -- within the next d ticks nobody is due
 pub record Quiet (d : ℕ) (k : State) : Type 0 where

@@ -20,32 +20,28 @@ use Rattle.slots.specs.Fine.{notDue}
 use Rattle.rules.specs.Types.{TaskSlot, ObjSlot, Wake, Place, Free, Ready, Waiting, Task, Nobody, By, Kind, Unused, Queue, Mutex, WaitersOf, State, AMutex}
 use Rattle.rules.specs.Tables.{holds, withObject}
 use Rattle.rules.specs.Lines.{level, first, toTail}
-use Rattle.rules.specs.Sentences.{Holds, Exists, MayWait, taker, Sound}
+use Rattle.rules.specs.Sentences.{Holds, HoldsNothing, Exists, MayWait, taker, Sound}
 use Rattle.rows.specs.Applies.{namesNone, notForIdle, hisAlready, notHis}
-use Rattle.rules.specs.Waits.{wakeOf, readied, blocked, waitFor}
+use Rattle.rules.specs.Waits.{wakeOf, arrives, waitFor}
 use Rattle.rules.specs.Loans.{prioritized, lent, ownAgain}
 use Rattle.rules.specs.Effects.{takenFrom, taken, handedTo, handedOn, given, effect}
 use Rattle.rules.proofs.Slots.{past-tasks}
 use Rattle.rules.proofs.Held.{held-one, none-holds}
 use Rattle.rules.proofs.Passes.{Passed}
 use Rattle.rules.proofs.Within.{first-meant, first-within, first-single}
-use Rattle.rules.proofs.Nearly.{Owing, settled, Nearly, RunsIn}
+use Rattle.rules.proofs.Nearly.{Owing, settled, level-as, Nearly, RunsIn}
 use Rattle.rules.proofs.Slotted.{at-same}
 use Rattle.rules.proofs.Objected.{object-nearly}
 use Rattle.rules.proofs.Chosen.{sound-nearly}
-use Rattle.rules.proofs.Blocks.{Same, prioritized-same, prioritized-tasks, prioritized-nearly, prioritized-runs, readied-nearly, readied-runs, blocked-nearly}
+use Rattle.rules.proofs.Blocks.{to-ready, to-wait, arrives-nearly, arrives-runs, Same, arrives-same, arrives-at, prioritized-same, prioritized-tasks, prioritized-nearly, prioritized-runs}
 use Rattle.rules.proofs.Keeps.{Keeps, wait-free, must-wait, some-wait, ready-low, apart}
-use Rattle.rules.proofs.KeepTicks.{at-tick, readied-at, reopen}
+use Rattle.rules.proofs.KeepTicks.{at-tick, reopen}
 use Rattle.rules.proofs.KeepObjects.{no-wait-free, object-low, first-none, wake-ahead}
 
 mutex-used : (x : Kind) → isMutex x ≡ true → isUnused x ≡ false
 mutex-used Unused e = absurd (false≢true e)
 mutex-used (Queue q) e = refl
 mutex-used (Mutex h) e = refl
-
-blocked-same : (j : State) (p : Place) → Same (blocked j p) j
-unfolding blocked toTail
-blocked-same j p = record { tick = refl; hold = refl; running = refl; objects = refl }
 
 larger-both : (a b : ℕ) → (a ≤ larger a b) × (b ≤ larger a b)
 larger-both a b = go (ltb a b) refl
@@ -100,7 +96,7 @@ module _ (k : State) (S : Sound k) (store : ℕ) where
         record {
           nearly = object-nearly k N o (Mutex (By (k .running))) low (λ t v p. absurd (no-wait-free (S .tables .tasks t .waits o v p) e)) (λ q z. absurd (let y : _≡_ {A = ℕ} 0 1 = cc in omega arith))
               (λ t q. let u : k .running ≡ t = cc in (subst (λ v. Exists (k .tasks) v) u (λ z. let y : _≡_ {A = ℕ} 0 1 = cc in omega arith), subst (λ (v : TaskSlot). v .0 ≡ 0 → ⊥) u not-idle))
-              (λ t h a n. absurd (let y : _≡_ {A = ℕ} 0 1 = cc in omega arith));
+              (λ t h c. absurd (let y : _≡_ {A = ℕ} 0 1 = cc in omega arith));
           runs = λ h. R;
         }
 
@@ -108,8 +104,9 @@ module _ (k : State) (S : Sound k) (store : ℕ) where
     unfolding waitFor lent
     held-waited h e =
         record {
-          nearly = at-tick (blocked j place) (blocked-same j place .tick ∙ s .tick) (blocked-nearly j lent-nearly (rw (s .running) caller-low) (rw (s .running) not-idle) place refl may-wait ahead);
-          runs = λ q. absurd (no-hold wait (rw (blocked-same j place .hold ∙ s .hold) at q));
+          nearly = at-tick (arrives j (j .running) place 0) (same .tick ∙ s .tick)
+              (arrives-nearly j lent-nearly (j .running) (rw (s .running) caller-low) (to-wait refl (rw (s .running) not-idle) may-wait ahead));
+          runs = λ q. absurd (no-hold wait (rw (same .hold ∙ s .hold) at q));
         }
       where
         eff : ℕ
@@ -120,6 +117,9 @@ module _ (k : State) (S : Sound k) (store : ℕ) where
 
         place : Place
         place = Waiting o (wakeOf (j .tick) w)
+
+        same : Same (arrives j (j .running) place 0) j
+        same = arrives-same j (j .running) place 0
 
         s : Same j k
         s = prioritized-same k h (taskAt (k .tasks) h .own) eff
@@ -140,12 +140,12 @@ module _ (k : State) (S : Sound k) (store : ℕ) where
         lent-nearly =
             prioritized-nearly k N h holder-low (taskAt (k .tasks) h .own) eff (omega (arith, S .levels h .at-least, larger-both (level (k .tasks) h) (level (k .tasks) (k .running)) .0))
             (larger-within (level (k .tasks) h) (level (k .tasks) (k .running)) 31 (S .levels h .range) (S .levels (k .running) .range))
-            (λ a n. absurd (n o e)) (S .tables .holders h o e) (λ z. absurd (S .tables .idle-holds o (e ∙ ap (λ v. Mutex (By v)) (one-number h idle z))))
+            (λ c. absurd (c .1 o e)) (S .tables .holders h o e) (λ z. absurd (S .tables .idle-holds o (e ∙ ap (λ v. Mutex (By v)) (one-number h idle z))))
 
         may-wait : (p : ObjSlot) (v : Wake) → place ≡ Waiting p v → MayWait (j .running) (kindAt (j .objects) p)
         may-wait p v q =
-            let same : o ≡ p = cc in
-            subst (λ x. MayWait (j .running) (kindAt (j .objects) x)) same
+            let z : o ≡ p = cc in
+            subst (λ x. MayWait (j .running) (kindAt (j .objects) x)) z
             (subst (λ (x : Kind). MayWait (j .running) x) (sym (ap (λ os. kindAt os o) (s .objects) ∙ e))
             (taker (λ z. false≢true (sym not-his ∙ (ap (heldBy (k .running)) e ∙ eq-eqb (h .0) (k .running .0) (z ∙ ap (λ (v : TaskSlot). v .0) (s .running)))))))
 
@@ -198,19 +198,20 @@ module _ (k : State) (S : Sound k) (store : ℕ) where
     freed e =
         record {
           nearly = object-nearly k owing-nearly o (Mutex Nobody) give-low (λ t v p. absurd (first-none k N o e t v p)) (λ q z. absurd (let y : _≡_ {A = ℕ} 0 1 = cc in omega arith))
-              (λ t z. absurd (let y : _≡_ {A = ℕ} 0 1 = cc in omega arith)) (λ t h a n. absurd (giver-owes t h a));
+              (λ t z. absurd (let y : _≡_ {A = ℕ} 0 1 = cc in omega arith)) (λ t h c. absurd (giver-owes t h (c .0)));
           runs = R;
           tick = refl;
           hold = refl;
           running = refl;
         }
 
-    passed-on : (t : TaskSlot) → first k (WaitersOf o) ≡ t ∷ [] → Handed (withObject (readied k t 1) o (Mutex (By t)))
-    unfolding readied toTail
+    passed-on : (t : TaskSlot) → first k (WaitersOf o) ≡ t ∷ [] → Handed (withObject (arrives k t Ready 1) o (Mutex (By t)))
+    unfolding arrives toTail
     passed-on t e =
         record {
-          nearly = object-nearly (readied k t 1) woken o (Mutex (By t)) give-low others (λ q z. absurd (let y : _≡_ {A = ℕ} 0 1 = cc in omega arith)) new-holder (λ v h a n. absurd (giver-owes v h a));
-          runs = readied-runs k owing-nearly t low 1 (omega arith) refl R not-caller;
+          nearly = object-nearly (arrives k t Ready 1) woken o (Mutex (By t)) give-low others (λ q z. absurd (let y : _≡_ {A = ℕ} 0 1 = cc in omega arith))
+              new-holder (λ v h c. absurd (giver-owes v h (c .0)));
+          runs = arrives-runs k owing-nearly t low (to-ready (omega arith) refl) R not-caller;
           tick = refl;
           hold = refl;
           running = refl;
@@ -228,23 +229,23 @@ module _ (k : State) (S : Sound k) (store : ℕ) where
         not-idle-one : t .0 ≡ 0 → ⊥
         not-idle-one z = apart (k .tasks) t idle (waitsOn o) waits-here (ap (waitsOn o) (S .tables .as-idle .ready)) z
 
-        woken : Nearly owing (readied k t 1)
-        woken = readied-nearly k owing-nearly t low 1 (omega arith) refl
+        woken : Nearly owing (arrives k t Ready 1)
+        woken = arrives-nearly k owing-nearly t low (to-ready (omega arith) refl)
 
-        now-ready : taskAt (readied k t 1 .tasks) t .place ≡ Ready
-        now-ready = ap (λ (x : Task). x .place) (readied-at k t 1 (omega (arith, S .tables .task-slots, low)))
+        now-ready : taskAt (arrives k t Ready 1 .tasks) t .place ≡ Ready
+        now-ready = ap (λ (x : Task). x .place) (arrives-at k t Ready 1 (omega (arith, S .tables .task-slots, low)))
 
-        others : (v : TaskSlot) (w : Wake) → taskAt (readied k t 1 .tasks) v .place ≡ Waiting o w → MayWait v (Mutex (By t))
+        others : (v : TaskSlot) (w : Wake) → taskAt (arrives k t Ready 1 .tasks) v .place ≡ Waiting o w → MayWait v (Mutex (By t))
         others v w q =
             taker (λ z.
-            let p : Ready ≡ Waiting o w = sym now-ready ∙ ap (λ (y : TaskSlot). taskAt (readied k t 1 .tasks) y .place) (one-number t v z) ∙ q in
+            let p : Ready ≡ Waiting o w = sym now-ready ∙ ap (λ (y : TaskSlot). taskAt (arrives k t Ready 1 .tasks) y .place) (one-number t v z) ∙ q in
             let y : _≡_ {A = ℕ} 0 1 = cc in
             omega arith)
 
-        new-holder : (v : TaskSlot) → Mutex (By t) ≡ Mutex (By v) → Exists (readied k t 1 .tasks) v × (v .0 ≡ 0 → ⊥)
+        new-holder : (v : TaskSlot) → Mutex (By t) ≡ Mutex (By v) → Exists (arrives k t Ready 1 .tasks) v × (v .0 ≡ 0 → ⊥)
         new-holder v q =
             let p : t ≡ v = cc in (
-              subst (λ x. Exists (readied k t 1 .tasks) x) p (λ z. let r : Ready ≡ Free = sym now-ready ∙ z in let y : _≡_ {A = ℕ} 0 1 = cc in omega arith),
+              subst (λ x. Exists (arrives k t Ready 1 .tasks) x) p (λ z. let r : Ready ≡ Free = sym now-ready ∙ z in let y : _≡_ {A = ℕ} 0 1 = cc in omega arith),
               subst (λ (x : TaskSlot). x .0 ≡ 0 → ⊥) p not-idle-one,
             )
 
@@ -257,20 +258,20 @@ module _ (k : State) (S : Sound k) (store : ℕ) where
         go (t ∷ r) e = passed-on t (first-single k (WaitersOf o) t r e)
 
     -- paid back: everyone without a mutex has its own priority
-    settle : (j : State) → Nearly owing j → ((t : TaskSlot) → sameTask t u ≡ true → ((p : ObjSlot) → Holds (j .objects) t p → ⊥) → taskAt (j .tasks) t .own ≡ taskAt (j .tasks) t .effective)
+    settle : (j : State) → Nearly owing j → ((t : TaskSlot) → sameTask t u ≡ true → HoldsNothing (j .objects) t → taskAt (j .tasks) t .own ≡ taskAt (j .tasks) t .effective)
         → Nearly (settled (k .tick)) j
     settle j M E =
         record {
           tables = M .tables;
-          levels = λ t. record { at-least = M .levels t .at-least; equal = λ e n. both t (sameTask t u) refl n; range = M .levels t .range };
+          levels = λ t. level-as (M .levels t) (λ c. both t (sameTask t u) refl (c .1));
           listing = M .listing;
           due = M .due;
           counts = M .counts;
         }
       where
-        both : (t : TaskSlot) (b : Bool) → sameTask t u ≡ b → ((p : ObjSlot) → Holds (j .objects) t p → ⊥) → taskAt (j .tasks) t .own ≡ taskAt (j .tasks) t .effective
+        both : (t : TaskSlot) (b : Bool) → sameTask t u ≡ b → HoldsNothing (j .objects) t → taskAt (j .tasks) t .own ≡ taskAt (j .tasks) t .effective
         both t true e n = E t e n
-        both t false e n = M .levels t .equal e n
+        both t false e n = M .levels t .equal (e, n)
 
     repaid : (j : State) → Handed j → Keeps (ownAgain j u)
     unfolding ownAgain
@@ -289,7 +290,7 @@ module _ (k : State) (S : Sound k) (store : ℕ) where
         own-least = omega (arith, H .nearly .levels u .at-least, H .nearly .levels u .range)
 
         paid : Nearly owing (prioritized j u own own)
-        paid = prioritized-nearly j (H .nearly) u caller-low own own (omega arith) own-least (λ a n. refl) exists (λ z. absurd (giver-not-idle z))
+        paid = prioritized-nearly j (H .nearly) u caller-low own own (omega arith) own-least (λ c. refl) exists (λ z. absurd (giver-not-idle z))
 
         same : Same (prioritized j u own own) j
         same = prioritized-same j u own own
@@ -314,7 +315,7 @@ module _ (k : State) (S : Sound k) (store : ℕ) where
         go false e =
             record {
               nearly = at-tick (prioritized j u own own) (same .tick ∙ H .tick) (settle (prioritized j u own own) paid (λ t q n. is-own t q));
-              runs = λ h. prioritized-runs j (H .nearly) u caller-low own own (omega arith) own-least (λ a n. refl) exists (λ z. absurd (giver-not-idle z)) (H .runs);
+              runs = λ h. prioritized-runs j (H .nearly) u caller-low own own (omega arith) own-least (λ c. refl) exists (λ z. absurd (giver-not-idle z)) (H .runs);
             }
 
     pub give-keeps : Keeps (effect k (onObject 16 AMutex o 0))

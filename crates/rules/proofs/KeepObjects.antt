@@ -93,7 +93,7 @@ module _ (k : State) (S : Sound k) (store : ℕ) where
   new-object : (o : ObjSlot) (y : Kind) → o .0 < 16 → kindAt (k .objects) o ≡ Unused → ((q : Ring) → y ≡ Queue q → RingFits q) → ((t : TaskSlot) → y ≡ Mutex (By t) → ⊥) → Keeps (withObject k o y)
   new-object o y low e Q H =
       record {
-        nearly = object-nearly k N o y low (λ t v p. absurd (no-wait (S .tables .tasks t .waits o v p) e)) Q (λ t q. absurd (H t q)) (λ t h a n. absurd (let z : _≡_ {A = ℕ} 0 1 = cc in omega arith));
+        nearly = object-nearly k N o y low (λ t v p. absurd (no-wait (S .tables .tasks t .waits o v p) e)) Q (λ t q. absurd (H t q)) (λ t h c. absurd (let z : _≡_ {A = ℕ} 0 1 = cc in omega arith));
         runs = λ h. R;
       }
 
@@ -166,6 +166,6 @@ module _ (k : State) (S : Sound k) (store : ℕ) where
           nearly =
               object-nearly k N o Unused (object-low (k .objects) o (S .tables .object-slots) named) (λ t v p. absurd (nobody-waits k N o unwaited t v p))
               (λ q e. absurd (let z : _≡_ {A = ℕ} 0 1 = cc in omega arith))
-              (λ t e. absurd (let z : _≡_ {A = ℕ} 0 1 = cc in omega arith)) (λ t h a n. absurd (false≢true (sym unheld ∙ ap isHeld h)));
+              (λ t e. absurd (let z : _≡_ {A = ℕ} 0 1 = cc in omega arith)) (λ t h c. absurd (false≢true (sym unheld ∙ ap isHeld h)));
           runs = λ h. R;
         }

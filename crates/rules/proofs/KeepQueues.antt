@@ -17,7 +17,7 @@ use Rattle.rules.specs.Tables.{withObject}
 use Rattle.rules.specs.Lines.{first, toTail}
 use Rattle.rules.specs.Sentences.{MayWait, receiver, sender, taker, RingFits, Sound}
 use Rattle.rows.specs.Applies.{namesNone}
-use Rattle.rules.specs.Waits.{wakeOf, readied, blocked, waitFor}
+use Rattle.rules.specs.Waits.{arrives, waitFor}
 use Rattle.rules.specs.Items.{oneMore, oneLess, roomOr, outletFor, outlet, sentBy, sent, sentTo, refilledBy, received, receivedFrom}
 use Rattle.rules.specs.Effects.{effect}
 use Rattle.rules.proofs.Passes.{Passed}
@@ -25,7 +25,7 @@ use Rattle.rules.proofs.Within.{less-fits, first-meant, first-within, f
 use Rattle.rules.proofs.Nearly.{settled, Nearly, RunsIn}
 use Rattle.rules.proofs.Objected.{object-nearly}
 use Rattle.rules.proofs.Chosen.{sound-nearly}
-use Rattle.rules.proofs.Blocks.{readied-nearly, readied-runs, blocked-nearly}
+use Rattle.rules.proofs.Blocks.{to-ready, to-wait, arrives-nearly, arrives-runs}
 use Rattle.rules.proofs.Keeps.{Keeps, wait-busy, wait-free, must-wait, some-wait, ready-low, apart}
 use Rattle.rules.proofs.KeepObjects.{not-by, object-low, first-none, wake-ahead}
 
@@ -62,16 +62,16 @@ module _ (k : State) (S : Sound k) (o : ObjSlot) (q : Ring) (kind : kindAt (k .o
   ring-keeps : (r : Ring) → RingFits r → ((t : TaskSlot) (v : Wake) → taskAt (k .tasks) t .place ≡ Waiting o v → MayWait t (Queue r)) → Nearly (settled (k .tick)) (withObject k o (Queue r))
   ring-keeps r f W =
       object-nearly k N o (Queue r) low W (λ p e. let z : r ≡ p = cc in subst RingFits z f) (λ t e. absurd (let z : _≡_ {A = ℕ} 0 1 = cc in omega arith))
-      (λ t h a n. absurd (not-by (ap isMutex kind) h))
+      (λ t h c. absurd (not-by (ap isMutex kind) h))
 
   -- the caller waits
   caller-waits : (w : ℕ) → 0 < w → (k .running .0 ≡ 0 → ⊥) → (0 < k .hold → ⊥) → MayWait (k .running) (Queue q) → Keeps (waitFor k o w)
-  unfolding waitFor blocked toTail
+  unfolding waitFor arrives toTail
   caller-waits w s busy no-hold m =
       record {
-        nearly = blocked-nearly k N caller-low busy (Waiting o (wakeOf (k .tick) w)) refl
+        nearly = arrives-nearly k N (k .running) caller-low (to-wait refl busy
             (λ p v e. let z : o ≡ p = cc in subst (λ x. MayWait (k .running) (kindAt (k .objects) x)) z (subst (λ (x : Kind). MayWait (k .running) x) (sym kind) m))
-            (wake-ahead (k .tick) w o (S .clock .counts .tick-range) s);
+            (wake-ahead (k .tick) w o (S .clock .counts .tick-range) s));
         runs = λ h. absurd (no-hold h);
       }
 
@@ -86,23 +86,23 @@ module _ (k : State) (S : Sound k) (o : ObjSlot) (q : Ring) (kind : kindAt (k .o
     not-caller : k .running .0 ≡ t .0 → ⊥
     not-caller z = apart (k .tasks) t (k .running) (waitsOn o) waits-here (ap (waitsOn o) (R .ready)) (sym z)
 
-    waiter-keeps : Keeps (readied k t 1)
-    unfolding readied toTail
-    waiter-keeps = record { nearly = readied-nearly k N t waiter-low 1 (omega arith) refl; runs = λ h. readied-runs k N t waiter-low 1 (omega arith) refl R not-caller }
+    waiter-keeps : Keeps (arrives k t Ready 1)
+    unfolding arrives toTail
+    waiter-keeps = record { nearly = arrives-nearly k N t waiter-low (to-ready (omega arith) refl); runs = λ h. arrives-runs k N t waiter-low (to-ready (omega arith) refl) R not-caller }
 
     full-then : 0 < q .count → q .count ≡ q .capacity
     full-then h = waiting-as o (taskAt (k .tasks) t .place) waits-here _ (λ v p. empty-or-full (S .tables .tasks t .waits o v p) q kind h)
 
-    refilled-keeps : 0 < q .count → Keeps (readied (withObject k o (Queue (oneMore (oneLess q)))) t 1)
-    unfolding readied toTail
+    refilled-keeps : 0 < q .count → Keeps (arrives (withObject k o (Queue (oneMore (oneLess q)))) t Ready 1)
+    unfolding arrives toTail
     refilled-keeps h =
         let full = full-then h in
         let less = less-fits q ring in
         let M = ring-keeps (oneMore (oneLess q)) (record { some = ring .some; few = ring .few; small = ring .small; whole = ring .whole; starts = less .starts; counts = omega arith })
         (λ u v p. sender (omega arith)) in
         record {
-          nearly = readied-nearly (withObject k o (Queue (oneMore (oneLess q)))) M t waiter-low 1 (omega arith) refl;
-          runs = λ z. readied-runs (withObject k o (Queue (oneMore (oneLess q)))) M t waiter-low 1 (omega arith) refl R not-caller;
+          nearly = arrives-nearly (withObject k o (Queue (oneMore (oneLess q)))) M t waiter-low (to-ready (omega arith) refl);
+          runs = λ z. arrives-runs (withObject k o (Queue (oneMore (oneLess q)))) M t waiter-low (to-ready (omega arith) refl) R not-caller;
         }
 
   -- 13: send

@@ -16,10 +16,10 @@ use Rattle.slots.specs.Tasks.{freeTask, readyAt, brokenOff, taskAt}
 use Rattle.rules.specs.Types.{TaskSlot, ObjSlot, Free, Ready, Delayed, Suspended, Task, State}
 use Rattle.rules.specs.Tables.{holds, freeSlot, withTask}
 use Rattle.rules.specs.Lines.{level, toTail, leaves}
-use Rattle.rules.specs.Sentences.{Holds, AsIdle, Sound}
+use Rattle.rules.specs.Sentences.{Holds, HoldsNothing, AsIdle, Sound}
 use Rattle.rows.specs.Applies.{outOfRange, namesNone, notForIdle, notWithHold, noSlot, notSuspended}
 use Rattle.rules.specs.Refusals.{inUse}
-use Rattle.rules.specs.Waits.{later, readied, blocked}
+use Rattle.rules.specs.Waits.{later, arrives}
 use Rattle.rules.specs.Loans.{prioritized, movedIf, newPriority}
 use Rattle.rules.specs.Effects.{created, deleted, suspended, resumed, yielded, delayed, effect}
 use Rattle.rules.proofs.Held.{none-holds, not-held}
@@ -28,7 +28,7 @@ use Rattle.rules.proofs.Nearly.{settled, TaskFine, Nearly, unblocked-fi
 use Rattle.rules.proofs.Slotted.{tail-nearly, tail-listed, leave-nearly, leave-listed, moved-nearly}
 use Rattle.rules.proofs.Chosen.{sound-nearly}
 use Rattle.rules.proofs.Heads.{runs-tail, runs-leave}
-use Rattle.rules.proofs.Blocks.{prioritized-same, readied-nearly, readied-runs, blocked-nearly, prioritized-nearly, prioritized-runs}
+use Rattle.rules.proofs.Blocks.{to-ready, to-wait, arrives-nearly, arrives-runs, prioritized-same, prioritized-nearly, prioritized-runs}
 use Rattle.rules.proofs.Keeps.{Keeps, exists-low, not-free, ready-low, apart, index-most, index-passes}
 
 -- a wake tick that many ticks ahead is none of now
@@ -69,7 +69,7 @@ module _ (k : State) (S : Sound k) (store : ℕ) where
     fine =
         record {
           fits = unblocked-fits (k .objects) t (readyAt p) refl refl (omega arith);
-          levels = record { at-least = omega arith; equal = λ e n. refl; range = small };
+          levels = record { at-least = omega arith; equal = λ c. refl; range = small };
           due = refl;
         }
 
@@ -97,7 +97,7 @@ module _ (k : State) (S : Sound k) (store : ℕ) where
     unfolding notForIdle
     busy = eqb-false (t .0) 0 (or-off (isIdle t) _ (P .idle) .0)
 
-    free-hands : (o : ObjSlot) → Holds (k .objects) t o → ⊥
+    free-hands : HoldsNothing (k .objects) t
     unfolding inUse
     free-hands = not-held (k .objects) t (or-off (holds (k .objects) t) _ (P .unused) .0)
 
@@ -115,7 +115,7 @@ module _ (k : State) (S : Sound k) (store : ℕ) where
             wait-outcome = λ o v e. refl;
             free = λ e. refl;
           };
-          levels = record { at-least = omega arith; equal = λ e n. refl; range = omega arith };
+          levels = record { at-least = omega arith; equal = λ c. refl; range = omega arith };
           due = refl;
         }
 
@@ -185,12 +185,12 @@ module _ (k : State) (S : Sound k) (store : ℕ) where
     was-suspended = on (isSuspended (taskAt (k .tasks) t .place)) (P .suspended)
 
     pub resume-keeps : Keeps (effect k (onTask 4 t 0))
-    unfolding effect resumed readied toTail
+    unfolding effect resumed arrives toTail
     resume-keeps =
         let low = exists-low (k .tasks) t (S .tables .task-slots) known in
         record {
-          nearly = readied-nearly k N t low (taskAt (k .tasks) t .outcome) (S .tables .tasks t .outcome-range) refl;
-          runs = λ h. readied-runs k N t low (taskAt (k .tasks) t .outcome) (S .tables .tasks t .outcome-range) refl R
+          nearly = arrives-nearly k N t low (to-ready (S .tables .tasks t .outcome-range) refl);
+          runs = λ h. arrives-runs k N t low (to-ready (S .tables .tasks t .outcome-range) refl) R
               (λ e. apart (k .tasks) t (k .running) isSuspended was-suspended (ap isSuspended (R .ready)) (sym e));
         }
 
@@ -224,7 +224,7 @@ module _ (k : State) (S : Sound k) (store : ℕ) where
     abbrev eff : Bool → ℕ
     eff h = if h then larger (level (k .tasks) t) p else p
 
-    given : (b : Bool) → holds (k .objects) t ≡ b → (p ≤ eff b) × (eff b ≤ 31) × (((o : ObjSlot) → Holds (k .objects) t o → ⊥) → p ≡ eff b) × (t .0 ≡ 0 → eff b ≡ 0)
+    given : (b : Bool) → holds (k .objects) t ≡ b → (p ≤ eff b) × (eff b ≤ 31) × (HoldsNothing (k .objects) t → p ≡ eff b) × (t .0 ≡ 0 → eff b ≡ 0)
     given true e = (
       larger-least (level (k .tasks) t) p .0,
       larger-most (level (k .tasks) t) p 31 (S .levels t .range) in-range,
@@ -240,8 +240,8 @@ module _ (k : State) (S : Sound k) (store : ℕ) where
         let low = exists-low (k .tasks) t (S .tables .task-slots) exists in
         record {
           nearly = rw (prioritized-same k t p (eff (holds (k .objects) t)) .tick)
-              (prioritized-nearly k N t low p (eff (holds (k .objects) t)) (g .0) (g .1) (λ e n. g .2 n) (not-free (k .tasks) t exists) (λ z. (idle-to-0 z, g .3 z)));
-          runs = λ h. prioritized-runs k N t low p (eff (holds (k .objects) t)) (g .0) (g .1) (λ e n. g .2 n) (not-free (k .tasks) t exists) (λ z. (idle-to-0 z, g .3 z)) R;
+              (prioritized-nearly k N t low p (eff (holds (k .objects) t)) (g .0) (g .1) (λ c. g .2 (c .1)) (not-free (k .tasks) t exists) (λ z. (idle-to-0 z, g .3 z)));
+          runs = λ h. prioritized-runs k N t low p (eff (holds (k .objects) t)) (g .0) (g .1) (λ c. g .2 (c .1)) (not-free (k .tasks) t exists) (λ z. (idle-to-0 z, g .3 z)) R;
         }
 
   -- 7: yield
@@ -275,15 +275,15 @@ module _ (k : State) (S : Sound k) (store : ℕ) where
     few = omega (arith, leb-false 4294967295 n (or-off (leb 4294967295 n) _ (P .in-range) .0))
 
     pub delay-keeps : Keeps (effect k (nothing 6 0 n 1 0))
-    unfolding effect delayed blocked toTail
+    unfolding effect delayed arrives toTail
     delay-keeps = go (eqb n 0) refl
       where
-        go : (b : Bool) → eqb n 0 ≡ b → Keeps (if b then yielded k else blocked k (Delayed (later (k .tick) n)))
+        go : (b : Bool) → eqb n 0 ≡ b → Keeps (if b then yielded k else arrives k (k .running) (Delayed (later (k .tick) n)) 0)
         go true e = yields no-hold-now
         go false e =
             let some : 0 < n = omega (arith, eqb-false n 0 e) in
             let a = later-ahead (k .tick) n (S .clock .counts .tick-range) some few in
             record {
-              nearly = blocked-nearly k N caller-low not-idle-now (Delayed (later (k .tick) n)) refl (λ o v q. absurd (let z : _≡_ {A = ℕ} 0 1 = cc in omega arith)) a;
+              nearly = arrives-nearly k N (k .running) caller-low (to-wait refl not-idle-now (λ o v q. absurd (let z : _≡_ {A = ℕ} 0 1 = cc in omega arith)) a);
               runs = λ h. absurd (no-hold-now h);
             }

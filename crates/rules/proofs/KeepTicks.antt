@@ -15,7 +15,7 @@ use Rattle.calls.specs.Asked.{asked, nothing}
 use Rattle.order.specs.Order.{listed}
 use Rattle.order.proofs.Lines.{one-number}
 use Rattle.slots.specs.Places.{isFree, wakesAt, outcomeDue}
-use Rattle.slots.specs.Tasks.{placed, taskAt}
+use Rattle.slots.specs.Tasks.{taskAt}
 use Rattle.slots.specs.Fine.{wakesInRange, notDue}
 use Rattle.rules.specs.Types.{TaskSlot, Place, Free, Ready, Delayed, Waiting, Suspended, Task, State}
 use Rattle.rules.specs.Tables.{withTick, withHold}
@@ -23,15 +23,15 @@ use Rattle.rules.specs.Lines.{level, toTail}
 use Rattle.rules.specs.Sound.{noHigher}
 use Rattle.rules.specs.Sentences.{Counts, Sound}
 use Rattle.rows.specs.Applies.{noDepth, noTick}
-use Rattle.rules.specs.Waits.{later, readied}
+use Rattle.rules.specs.Waits.{later, arrives}
 use Rattle.rules.specs.Ticks.{wokenIfDue, wakes, oneTick, turned, ticked, ticks, released, held}
 use Rattle.rules.specs.Effects.{effect}
 use Rattle.rules.proofs.Slots.{past-tasks}
 use Rattle.rules.proofs.Passes.{Passed}
-use Rattle.rules.proofs.Nearly.{Owing, settled, Nearly, RunsIn}
-use Rattle.rules.proofs.Slotted.{at-same, at-other, moved-nearly}
+use Rattle.rules.proofs.Nearly.{Owing, settled, level-as, Nearly, RunsIn}
+use Rattle.rules.proofs.Slotted.{at-other, moved-nearly}
 use Rattle.rules.proofs.Chosen.{sound-nearly}
-use Rattle.rules.proofs.Blocks.{Same, readied-nearly}
+use Rattle.rules.proofs.Blocks.{to-ready, arrives-nearly, arrives-same, arrives-at}
 use Rattle.rules.proofs.Keeps.{Keeps, exists-low, ready-low}
 
 -- ── the counts changed, and what is open told anew
@@ -42,7 +42,7 @@ pub reopen : {w : Owing} (v : Owing) (k : State) → Nearly w k → ((t : TaskSl
 reopen v k N D O =
     record {
       tables = N .tables;
-      levels = λ t. record { at-least = N .levels t .at-least; equal = λ e n. N .levels t .equal (O t e) n; range = N .levels t .range };
+      levels = λ t. level-as (N .levels t) (λ c. N .levels t .equal (O t (c .0), c .1));
       listing = N .listing;
       due = D;
       counts = N .counts;
@@ -59,14 +59,6 @@ waking tick asked = record { due = λ t p. if asked t then notDue tick p else wa
 record Woken (tick : ℕ) (asked : TaskSlot → Bool) (j : State) : Type 0 where
   nearly : Nearly (waking tick asked) j
   ticks : j .tick ≡ tick
-
-readied-ticks : (j : State) (t : TaskSlot) (n : ℕ) → Same (readied j t n) j
-unfolding readied toTail
-readied-ticks j t n = record { tick = refl; hold = refl; running = refl; objects = refl }
-
-pub readied-at : (j : State) (t : TaskSlot) (n : ℕ) → t .0 < length (j .tasks) → taskAt (readied j t n .tasks) t ≡ placed (taskAt (j .tasks) t) Ready n
-unfolding readied toTail
-readied-at j t n h = at-same (j .tasks) t (placed (taskAt (j .tasks) t) Ready n) h
 
 -- who is due exists
 pub due-there : (n : ℕ) (p : Place) → wakesAt n p ≡ true → isFree p ≡ false
@@ -112,14 +104,14 @@ module _ (tick : ℕ) (asked : TaskSlot → Bool) (x : TaskSlot) (j : State) (W 
       low : wakesAt (j .tick) (taskAt (j .tasks) x .place) ≡ true → x .0 < 16
       low e = exists-low (j .tasks) x (W .nearly .tables .task-slots) (due-there (j .tick) (taskAt (j .tasks) x .place) e)
 
-      ready-now : (m : ℕ) → x .0 < 16 → notDue tick (taskAt (readied j x m .tasks) x .place) ≡ true
-      ready-now m l = ap (λ (y : Task). notDue tick (y .place)) (readied-at j x m (omega (arith, W .nearly .tables .task-slots)))
+      ready-now : (m : ℕ) → x .0 < 16 → notDue tick (taskAt (arrives j x Ready m .tasks) x .place) ≡ true
+      ready-now m l = ap (λ (y : Task). notDue tick (y .place)) (arrives-at j x Ready m (omega (arith, W .nearly .tables .task-slots)))
 
-      go : (b : Bool) → wakesAt (j .tick) (taskAt (j .tasks) x .place) ≡ b → Woken tick askedToo (if b then readied j x (outcomeDue (taskAt (j .tasks) x .place)) else j)
+      go : (b : Bool) → wakesAt (j .tick) (taskAt (j .tasks) x .place) ≡ b → Woken tick askedToo (if b then arrives j x Ready (outcomeDue (taskAt (j .tasks) x .place)) else j)
       go true e =
           let m = outcomeDue (taskAt (j .tasks) x .place) in
-          let M = readied-nearly j (W .nearly) x (low e) m (due-outcome (taskAt (j .tasks) x .place)) (ready-due (asked x)) in
-          record { nearly = reopen (waking tick askedToo) (readied j x m) M (next-due _ (M .due) (ready-now m (low e))) (λ t q. refl); ticks = readied-ticks j x m .tick ∙ W .ticks }
+          let M = arrives-nearly j (W .nearly) x (low e) (to-ready (due-outcome (taskAt (j .tasks) x .place)) (ready-due (asked x))) in
+          record { nearly = reopen (waking tick askedToo) (arrives j x Ready m) M (next-due _ (M .due) (ready-now m (low e))) (λ t q. refl); ticks = arrives-same j x Ready m .tick ∙ W .ticks }
       go false e =
           let p = taskAt (j .tasks) x .place in
           let h = and-intro (wakesInRange p) _ (in-range (asked x) p (W .nearly .due x)) (not-off _ (rw (W .ticks) at e)) in
@@ -160,10 +152,10 @@ after-trans : {k j i : State} → After k j → After j i → After k i
 after-trans a b = record { hold = b .hold ∙ a .hold; running = b .running ∙ a .running; ready = λ t e. b .ready t (a .ready t e) }
 
 woken-after : (j : State) (u : TaskSlot) → After j (wokenIfDue j u)
-unfolding wokenIfDue readied toTail
+unfolding wokenIfDue arrives toTail
 woken-after j u = go (wakesAt (j .tick) (taskAt (j .tasks) u .place)) refl
   where
-    go : (b : Bool) → wakesAt (j .tick) (taskAt (j .tasks) u .place) ≡ b → After j (if b then readied j u (outcomeDue (taskAt (j .tasks) u .place)) else j)
+    go : (b : Bool) → wakesAt (j .tick) (taskAt (j .tasks) u .place) ≡ b → After j (if b then arrives j u Ready (outcomeDue (taskAt (j .tasks) u .place)) else j)
     go true e = record { hold = refl; running = refl; ready = λ t q. ap (λ (x : Task). x .place) (at-other (j .tasks) u _ t (other t q)) ∙ q }
       where
         other : (t : TaskSlot) → taskAt (j .tasks) t .place ≡ Ready → t .0 ≡ u .0 → ⊥

@@ -15,9 +15,9 @@ use Rattle.order.proofs.Rooms.{tidy-few, tidy-zeros, exactly-room, exactly-tidy
 use Rattle.slots.specs.Places.{isFree, isBlocked, isListed}
 use Rattle.slots.specs.Tasks.{taskAt}
 use Rattle.slots.specs.Fine.{notDue}
-use Rattle.rules.specs.Types.{TaskSlot, ObjSlot, Place, Task, Object, State}
+use Rattle.rules.specs.Types.{TaskSlot, Place, Task, Object, State}
 use Rattle.rules.specs.Lines.{level}
-use Rattle.rules.specs.Sentences.{Holds, TaskFits, Tables, Listing, Counts, Runs}
+use Rattle.rules.specs.Sentences.{HoldsNothing, TaskFits, LevelFits, Tables, Listing, Counts, Runs}
 use Rattle.rules.proofs.Slots.{past-tasks}
 use Rattle.rules.proofs.Listings.{listing-of}
 
@@ -30,15 +30,17 @@ pub record Owing : Type 0 where
 abbrev pub settled : ℕ → Owing
 settled tick = record { due = λ t p. notDue tick p; owes = λ t. false }
 
--- the priorities of the task t, where it may have one to pay back
-pub record LevelBut (owes : Bool) (os : List Object) (t : TaskSlot) (own effective : ℕ) : Type 0 where
-  pub at-least : own ≤ effective
-  pub equal : owes ≡ false → ((o : ObjSlot) → Holds os t o → ⊥) → own ≡ effective
-  pub range : effective ≤ 31
+-- the task t holds nothing, and has no priority to pay back
+abbrev pub Clear : Owing → List Object → TaskSlot → Type 0
+Clear w os t = (w .owes t ≡ false) × HoldsNothing os t
+
+-- the same priorities, where something else says that it holds nothing
+pub level-as : {a b : Type 0} {own effective : ℕ} → LevelFits a own effective → (b → own ≡ effective) → LevelFits b own effective
+level-as F e = record { at-least = F .at-least; equal = e; range = F .range }
 
 pub record Nearly (w : Owing) (k : State) : Type 0 where
   pub tables : Tables (k .tasks) (k .objects)
-  pub levels : (t : TaskSlot) → LevelBut (w .owes t) (k .objects) t (taskAt (k .tasks) t .own) (level (k .tasks) t)
+  pub levels : (t : TaskSlot) → LevelFits (Clear w (k .objects) t) (taskAt (k .tasks) t .own) (level (k .tasks) t)
   pub listing : Listing (k .tasks) (k .order)
   pub due : (t : TaskSlot) → w .due t (taskAt (k .tasks) t .place) ≡ true
   pub counts : Counts (k .tick) (k .hold) (k .pended)
@@ -46,7 +48,7 @@ pub record Nearly (w : Owing) (k : State) : Type 0 where
 -- what is asked of one task alone: t, whose slot holds x
 pub record TaskFine (w : Owing) (os : List Object) (t : TaskSlot) (x : Task) : Type 0 where
   pub fits : TaskFits os t x
-  pub levels : LevelBut (w .owes t) os t (x .own) (x .effective)
+  pub levels : LevelFits (Clear w os t) (x .own) (x .effective)
   pub due : w .due t (x .place) ≡ true
 
 -- one that is neither free nor delayed nor waiting

@@ -12,9 +12,9 @@ use Rattle.slots.specs.Objects.{unused, heldBy, kindAt}
 use Rattle.rules.specs.Types.{TaskSlot, ObjSlot, Wake, Waiting, Ring, Kind, Queue, Mutex, By, Object, State}
 use Rattle.slots.specs.Tasks.{taskAt}
 use Rattle.rules.specs.Tables.{withObject}
-use Rattle.rules.specs.Sentences.{Holds, Exists, MayWait, RingFits, Tables}
+use Rattle.rules.specs.Sentences.{Holds, HoldsNothing, Exists, MayWait, RingFits, Tables}
 use Rattle.rules.proofs.Held.{held-one}
-use Rattle.rules.proofs.Nearly.{Owing, Nearly}
+use Rattle.rules.proofs.Nearly.{Owing, Clear, level-as, Nearly}
 
 module _ (os : List Object) (o : ObjSlot) (y : Kind) where
   abbrev pub kinds : List Object
@@ -35,8 +35,7 @@ module _ {w : Owing} (k : State) (N : Nearly w k) (o : ObjSlot) (y : Kind) (low 
     (W : (t : TaskSlot) (v : Wake) → taskAt (k .tasks) t .place ≡ Waiting o v → MayWait t y)
     (Q : (q : Ring) → y ≡ Queue q → RingFits q)
     (H : (t : TaskSlot) → y ≡ Mutex (By t) → Exists (k .tasks) t × (t .0 ≡ 0 → ⊥))
-    (G : (t : TaskSlot) → Holds (k .objects) t o → w .owes t ≡ false → ((p : ObjSlot) → Holds (kinds (k .objects) o y) t p → ⊥)
-    → taskAt (k .tasks) t .own ≡ taskAt (k .tasks) t .effective) where
+    (G : (t : TaskSlot) → Holds (k .objects) t o → Clear w (kinds (k .objects) o y) t → taskAt (k .tasks) t .own ≡ taskAt (k .tasks) t .effective) where
   abbrev qs : List Object
   qs = kinds (k .objects) o y
 
@@ -49,22 +48,22 @@ module _ {w : Owing} (k : State) (N : Nearly w k) (o : ObjSlot) (y : Kind) (low 
       go false e = rw (kind-other (k .objects) o y p (eqb-false (p .0) (o .0) e)) (f p (eqb-false (p .0) (o .0) e))
 
   -- who held it has its own priority; of everyone else nothing changed
-  equal-now : (t : TaskSlot) → w .owes t ≡ false → ((p : ObjSlot) → Holds qs t p → ⊥) → taskAt (k .tasks) t .own ≡ taskAt (k .tasks) t .effective
-  equal-now t e n = go (heldBy t (kindAt (k .objects) o)) refl
+  equal-now : (t : TaskSlot) → Clear w qs t → taskAt (k .tasks) t .own ≡ taskAt (k .tasks) t .effective
+  equal-now t c = go (heldBy t (kindAt (k .objects) o)) refl
     where
       held-as : (p : ObjSlot) → Holds (k .objects) t p → heldBy t (kindAt (k .objects) p) ≡ true
       held-as p h = rw h (eq-eqb (t .0) (t .0) refl)
 
-      none : heldBy t (kindAt (k .objects) o) ≡ false → (p : ObjSlot) → Holds (k .objects) t p → ⊥
+      none : heldBy t (kindAt (k .objects) o) ≡ false → HoldsNothing (k .objects) t
       none f p h = cases (sameObject p o) refl
         where
           cases : (b : Bool) → sameObject p o ≡ b → ⊥
           cases true q = false≢true (sym f ∙ (rw (one-object p o (eqb-true (p .0) (o .0) q)) at (held-as p h)))
-          cases false q = n p (kind-other (k .objects) o y p (eqb-false (p .0) (o .0) q) ∙ h)
+          cases false q = c .1 p (kind-other (k .objects) o y p (eqb-false (p .0) (o .0) q) ∙ h)
 
       go : (b : Bool) → heldBy t (kindAt (k .objects) o) ≡ b → taskAt (k .tasks) t .own ≡ taskAt (k .tasks) t .effective
-      go true f = G t (held-one t (kindAt (k .objects) o) f) e n
-      go false f = N .levels t .equal e (none f)
+      go true f = G t (held-one t (kindAt (k .objects) o) f) c
+      go false f = N .levels t .equal (c .0, none f)
 
   tables-now : Tables (k .tasks) qs
   tables-now =
@@ -88,7 +87,7 @@ module _ {w : Owing} (k : State) (N : Nearly w k) (o : ObjSlot) (y : Kind) (low 
   object-nearly =
       record {
         tables = tables-now;
-        levels = λ t. record { at-least = N .levels t .at-least; equal = equal-now t; range = N .levels t .range };
+        levels = λ t. level-as (N .levels t) (equal-now t);
         listing = N .listing;
         due = N .due;
         counts = N .counts;

@@ -12,11 +12,11 @@ use Rattle.slots.specs.Fine.{prioritiesFine}
 use Rattle.rules.specs.Types.{TaskSlot, Task, Object}
 use Rattle.rules.specs.Tables.{holds}
 use Rattle.rules.specs.Sound.{levelsFine}
-use Rattle.rules.specs.Sentences.{LevelFits, Levels}
+use Rattle.rules.specs.Sentences.{HoldsNothing, LevelFits, Levels}
 use Rattle.rules.proofs.Slots.{any-task}
 use Rattle.rules.proofs.Held.{none-holds, not-held}
 
-level-says : (os : List Object) (t : TaskSlot) (x : Task) → prioritiesFine (holds os t) x ≡ true → LevelFits os t (x .own) (x .effective)
+level-says : (os : List Object) (t : TaskSlot) (x : Task) → prioritiesFine (holds os t) x ≡ true → LevelFits (HoldsNothing os t) (x .own) (x .effective)
 level-says os t x e =
     let more = and-right (leb (x .own) (x .effective)) _ e in
     record {
@@ -25,7 +25,7 @@ level-says os t x e =
       range = leb-true _ _ (and-left (leb (x .effective) 31) _ more);
     }
 
-says-level : (os : List Object) (t : TaskSlot) (x : Task) → LevelFits os t (x .own) (x .effective) → prioritiesFine (holds os t) x ≡ true
+says-level : (os : List Object) (t : TaskSlot) (x : Task) → LevelFits (HoldsNothing os t) (x .own) (x .effective) → prioritiesFine (holds os t) x ≡ true
 says-level os t x F = and-intro _ _ (le-leb _ _ (F .at-least)) (and-intro _ _ (le-leb _ _ (F .range)) (go (holds os t) refl))
   where
     go : (b : Bool) → holds os t ≡ b → b || eqb (x .own) (x .effective) ≡ true

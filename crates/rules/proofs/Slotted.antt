@@ -19,9 +19,9 @@ use Rattle.slots.specs.Tasks.{freeTask, taskAt}
 use Rattle.rules.specs.Types.{TaskSlot, ObjSlot, Order, Free, Task, State}
 use Rattle.rules.specs.Tables.{withTask, withOrder}
 use Rattle.rules.specs.Lines.{toTail, toHead, leaves}
-use Rattle.rules.specs.Sentences.{Holds, AsIdle, TaskFits, Tables, Listing}
+use Rattle.rules.specs.Sentences.{Holds, AsIdle, TaskFits, LevelFits, Tables, Listing}
 use Rattle.rules.proofs.Listings.{listing-of}
-use Rattle.rules.proofs.Nearly.{Owing, LevelBut, TaskFine, Nearly, ones, relisted}
+use Rattle.rules.proofs.Nearly.{Owing, Clear, TaskFine, Nearly, ones, relisted}
 
 -- what a slot holds after one is set
 module _ (ts : List Task) (t : TaskSlot) (x : Task) where
@@ -80,7 +80,7 @@ module _ {w : Owing} (k : State) (N : Nearly w k) (t : TaskSlot) (x : Task) (low
   listed-so o l =
       record {
         tables = tables-now;
-        levels = each (λ u y. LevelBut (w .owes u) (k .objects) u (y .own) (y .effective)) (F .levels) (λ u n. N .levels u);
+        levels = each (λ u y. LevelFits (Clear w (k .objects) u) (y .own) (y .effective)) (F .levels) (λ u n. N .levels u);
         listing = l;
         due = each (λ u y. w .due u (y .place) ≡ true) (F .due) (λ u n. N .due u);
         counts = N .counts;

@@ -6,12 +6,12 @@ use Rattle.lists.specs.Choice.{if_then_else_}
 use Rattle.numbers.specs.Numbers.{task, object}
 use Rattle.slots.specs.Places.{isListed}
 use Rattle.slots.specs.Tasks.{freeTask, readyAt, brokenOff, taskAt}
-use Rattle.rules.specs.Types.{TaskSlot, ObjSlot, Delayed, Nobody, By, Kind, Unused, Queue, Mutex, WaitersOf, Asked, State}
+use Rattle.rules.specs.Types.{TaskSlot, ObjSlot, Ready, Delayed, Nobody, By, Kind, Unused, Queue, Mutex, WaitersOf, Asked, State}
 use Rattle.slots.specs.Objects.{kindAt}
 use Rattle.rules.specs.Tables.{freeSlot, freeObject, withTask, withObject}
 use Rattle.rows.specs.Asking.{is}
 use Rattle.rules.specs.Lines.{first, toTail, leaves}
-use Rattle.rules.specs.Waits.{later, readied, blocked, waitFor}
+use Rattle.rules.specs.Waits.{later, arrives, waitFor}
 use Rattle.rules.specs.Loans.{newPriority, lent, ownAgain}
 use Rattle.rules.specs.Ticks.{ticked, held, released}
 use Rattle.rules.specs.Items.{sentTo, receivedFrom}
@@ -31,7 +31,7 @@ suspended k t =
 
 -- 4: "made ready"
 unfoldable pub resumed : State → TaskSlot → State
-resumed k t = readied k t (taskAt (k .tasks) t .outcome)
+resumed k t = arrives k t Ready (taskAt (k .tasks) t .outcome)
 
 -- 7: "the head of its line goes to the tail"
 unfoldable pub yielded : State → State
@@ -39,7 +39,7 @@ yielded k = toTail k (k .running)
 
 -- 6: "0: as yield; else delayed"
 unfoldable pub delayed : State → ℕ → State
-delayed k n = if eqb n 0 then yielded k else blocked k (Delayed (later (k .tick) n))
+delayed k n = if eqb n 0 then yielded k else arrives k (k .running) (Delayed (later (k .tick) n)) 0
 
 -- 10: "lowest free object; empty, first 0"
 unfoldable pub queueMade : State → ℕ → ℕ → State
@@ -66,7 +66,7 @@ taken k o w = takenFrom k o (kindAt (k .objects) o) w
 -- 16: "The first waiter becomes holder and is made ready, outcome 1; with none, the mutex is free. A giver now holding none gets its own priority back."
 abbrev pub handedTo : State → ObjSlot → List TaskSlot → State
 handedTo k o [] = withObject k o (Mutex Nobody)
-handedTo k o (t ∷ l) = withObject (readied k t 1) o (Mutex (By t))
+handedTo k o (t ∷ l) = withObject (arrives k t Ready 1) o (Mutex (By t))
 
 unfoldable pub handedOn : State → ObjSlot → State
 handedOn k o = handedTo k o (first k (WaitersOf o))

@@ -4,10 +4,10 @@ use mathlib.Core.List.{List, [], _∷_}
 use lib.Dec.{eqb, ltb}
 use Rattle.lists.specs.Choice.{if_then_else_}
 use Rattle.items.specs.Bytes.{bytesAt, putAt}
-use Rattle.rules.specs.Types.{TaskSlot, ObjSlot, Ring, Kind, Unused, Queue, Mutex, WaitersOf, Outlet, toWaiter, toQueue, toCaller, State}
+use Rattle.rules.specs.Types.{TaskSlot, ObjSlot, Ready, Ring, Kind, Unused, Queue, Mutex, WaitersOf, Outlet, toWaiter, toQueue, toCaller, State}
 use Rattle.rules.specs.Tables.{withObject}
 use Rattle.rules.specs.Lines.{first}
-use Rattle.rules.specs.Waits.{readied, waitFor}
+use Rattle.rules.specs.Waits.{arrives, waitFor}
 
 -- "Task t has a slip of 64 bytes from 8,192 + 64t."
 abbrev pub slipOf : TaskSlot → ℕ
@@ -36,7 +36,7 @@ unfoldable pub outlet : State → ObjSlot → Ring → Outlet
 outlet k o q = outletFor q (first k (WaitersOf o))
 
 abbrev pub sentBy : State → ObjSlot → Ring → ℕ → Outlet → State
-sentBy k o q w (toWaiter t) = readied k t 1
+sentBy k o q w (toWaiter t) = arrives k t Ready 1
 sentBy k o q w toQueue = withObject k o (Queue (oneMore q))
 sentBy k o q w toCaller = waitFor k o w
 
@@ -55,7 +55,7 @@ storeSent k o q item s = putAt (placeBy k o q (outlet k o q)) item s
 -- "then, if a sender waits, the first waiter's item is appended from its slip and it is made ready, outcome 1"
 abbrev pub refilledBy : State → ObjSlot → Ring → List TaskSlot → State
 refilledBy k o q [] = withObject k o (Queue q)
-refilledBy k o q (t ∷ l) = readied (withObject k o (Queue (oneMore q))) t 1
+refilledBy k o q (t ∷ l) = arrives (withObject k o (Queue (oneMore q))) t Ready 1
 
 abbrev pub storeRefilledBy : ObjSlot → Ring → List TaskSlot → List ℕ → List ℕ
 storeRefilledBy o q [] s = s

@@ -18,6 +18,10 @@ use Rattle.rules.specs.Lines.{line, those, level}
 abbrev pub Holds : List Object → TaskSlot → ObjSlot → Type 0
 Holds os t o = kindAt os o ≡ Mutex (By t)
 
+-- the task t holds nothing
+abbrev pub HoldsNothing : List Object → TaskSlot → Type 0
+HoldsNothing os t = (o : ObjSlot) → Holds os t o → ⊥
+
 -- the task exists
 abbrev pub Exists : List Task → TaskSlot → Type 0
 Exists ts t = taskAt ts t .place ≡ Free → ⊥
@@ -62,23 +66,23 @@ pub record Tables (ts : List Task) (os : List Object) : Type 0 where
   pub as-idle : AsIdle (taskAt ts idle)
   pub tasks : (t : TaskSlot) → TaskFits os t (taskAt ts t)
   -- "idle never waits or holds"; it is ready, so it does not wait
-  pub idle-holds : (o : ObjSlot) → Holds os idle o → ⊥
+  pub idle-holds : HoldsNothing os idle
   -- "holders exist"
   pub holders : (t : TaskSlot) (o : ObjSlot) → Holds os t o → Exists ts t
   -- "counts and places obey the ranges": those of the queues
   pub queue-range : (o : ObjSlot) (q : Ring) → kindAt os o ≡ Queue q → RingFits q
 
 -- ── the priorities
--- of the task t
-pub record LevelFits (os : List Object) (t : TaskSlot) (own effective : ℕ) : Type 0 where
+-- of a task, where `nothing` says that it holds nothing
+pub record LevelFits (nothing : Type 0) (own effective : ℕ) : Type 0 where
   -- "effective is at least own, and equal to it for a task that holds nothing"
   pub at-least : own ≤ effective
-  pub equal : ((o : ObjSlot) → Holds os t o → ⊥) → own ≡ effective
+  pub equal : nothing → own ≡ effective
   -- "Priorities 0 to 31"
   pub range : effective ≤ 31
 
 abbrev pub Levels : List Task → List Object → Type 0
-Levels ts os = (t : TaskSlot) → LevelFits os t (taskAt ts t .own) (level ts t)
+Levels ts os = (t : TaskSlot) → LevelFits (HoldsNothing os t) (taskAt ts t .own) (level ts t)
 
 -- ── the listing: the order and the tasks
 pub record Listing (ts : List Task) (o : Order) : Type 0 where

@@ -7,18 +7,18 @@ use Rattle.lists.specs.Lists.{foldl, upTo}
 use Rattle.numbers.specs.Numbers.{byNumber}
 use Rattle.order.specs.Order.{listed}
 use Rattle.slots.specs.Places.{wakesAt, outcomeDue, away}
-use Rattle.rules.specs.Types.{TaskSlot, Task, State}
+use Rattle.rules.specs.Types.{TaskSlot, Ready, Task, State}
 use Rattle.slots.specs.Tasks.{taskAt}
 use Rattle.rules.specs.Tables.{withTick, withHold}
 use Rattle.rules.specs.Lines.{level, toTail}
 use Rattle.rules.specs.Sound.{noHigher}
-use Rattle.rules.specs.Waits.{later, readied}
+use Rattle.rules.specs.Waits.{later, arrives}
 
 -- the task t, made ready if it is due
 unfoldable pub wokenIfDue : State → TaskSlot → State
 wokenIfDue k t =
     if wakesAt (k .tick) (taskAt (k .tasks) t .place)
-    then readied k t (outcomeDue (taskAt (k .tasks) t .place))
+    then arrives k t Ready (outcomeDue (taskAt (k .tasks) t .place))
     else k
 
 -- of those that l lists the due are made ready, in its order

@@ -3,7 +3,7 @@ use Prim.Native.Nat.{ℕ, _+_, _%_, _^_}
 use lib.Dec.{leb}
 use Rattle.lists.specs.Choice.{if_then_else_}
 use Rattle.slots.specs.Tasks.{placed, taskAt}
-use Rattle.rules.specs.Types.{TaskSlot, ObjSlot, Wake, Never, At, Place, Ready, Waiting, State}
+use Rattle.rules.specs.Types.{TaskSlot, ObjSlot, Wake, Never, At, Place, Waiting, State}
 use Rattle.rules.specs.Tables.{withTask}
 use Rattle.rules.specs.Lines.{toTail}
 
@@ -15,14 +15,10 @@ later now n = (now + n) % 2 ^ 32
 abbrev pub wakeOf : ℕ → ℕ → Wake
 wakeOf now w = if leb 4294967295 w then Never else At (later now w)
 
--- "Made ready means put at the tail of the line", with an outcome
-unfoldable pub readied : State → TaskSlot → ℕ → State
-readied k t n = toTail (withTask k t (placed (taskAt (k .tasks) t) Ready n)) t
-
--- "A delay or wait sets it to 0 as it begins": the caller's outcome; it arrives last
-unfoldable pub blocked : State → Place → State
-blocked k p = toTail (withTask k (k .running) (placed (taskAt (k .tasks) (k .running)) p 0)) (k .running)
+-- "Made ready means put at the tail of the line"; a list is "in order of arrival"; "A delay or wait sets it to 0 as it begins": the task t goes to the place p, with the outcome n, and stands last
+unfoldable pub arrives : State → TaskSlot → Place → ℕ → State
+arrives k t p n = toTail (withTask k t (placed (taskAt (k .tasks) t) p n)) t
 
 -- "the caller waits" on an object
 unfoldable pub waitFor : State → ObjSlot → ℕ → State
-waitFor k o w = blocked k (Waiting o (wakeOf (k .tick) w))
+waitFor k o w = arrives k (k .running) (Waiting o (wakeOf (k .tick) w)) 0

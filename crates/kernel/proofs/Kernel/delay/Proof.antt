@@ -12,7 +12,9 @@ returns c = λ s h. rw (eq-eqb (c .before .before .args .n) 0 (c .before .if1 .t
 
 returns-2 : tie.Need-returns-2
 unfolding delayed
-returns-2 c = λ s h. rw (ne-eqb (c .before .before .before .args .n) 0 (c .before .before .if1 .left)) (c .blocked .ensures s h ∙ rw (c .before .wrapping-add-u32 .ensures, same-tick _ s h))
+returns-2 c = λ s h.
+    rw (ne-eqb (c .before .before .before .args .n) 0 (c .before .before .if1 .left))
+    (c .arrives .ensures s h ∙ rw (c .before .wrapping-add-u32 .ensures, same-tick _ s h, same-running _ s h))
 
 pub delay-spec : {M : Type 1} → statement M
 delay-spec =

@@ -9,7 +9,7 @@ returns c = λ s h. rw (← c .before .before .before .first-waiter .ensures s h
 
 returns-2 : tie.Need-returns-2
 unfolding handedOn
-returns-2 c = λ s h. rw (← c .before .before .before .before .before .first-waiter .ensures s h, c .before .before .before .t .given .1) (c .with-object2 .ensures _ (c .before .readied .ensures s h))
+returns-2 c = λ s h. rw (← c .before .before .before .before .before .first-waiter .ensures s h, c .before .before .before .t .given .1) (c .with-object2 .ensures _ (c .before .arrives .ensures s h))
 
 pub handed-on-spec : {M : Type 1} → statement M
 handed-on-spec =

@@ -7,7 +7,7 @@ returns : tie.Need-returns
 returns c = λ s h. rw (c .before .enum-told .given .1) (c .with-object .ensures s h)
 
 returns-2 : tie.Need-returns-2
-returns-2 c = λ s h. rw (c .before .before .before .before .f .given .1) (c .readied .ensures _ (c .before .with-object2 .ensures s h ∙ rw (c .before .before .one-more .ensures)))
+returns-2 c = λ s h. rw (c .before .before .before .before .f .given .1) (c .arrives .ensures _ (c .before .with-object2 .ensures s h ∙ rw (c .before .before .one-more .ensures)))
 
 pub refilled-by-spec : {M : Type 1} → statement M
 refilled-by-spec =

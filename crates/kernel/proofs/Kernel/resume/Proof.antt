@@ -6,7 +6,7 @@ use Rattle.kernel.proofs.Kernel.resume.Tie as tie
 
 returns : tie.Need-returns
 unfolding resumed
-returns c = λ s h. c .readied .ensures s h ∙ rw (c .before .task .ensures s h)
+returns c = λ s h. c .arrives .ensures s h ∙ rw (c .before .task .ensures s h)
 
 pub resume-spec : {M : Type 1} → statement M
 resume-spec = tie.close (tie.spec (λ c κs. search needs) (λ c κs. search needs) returns)

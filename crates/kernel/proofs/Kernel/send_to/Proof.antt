@@ -24,7 +24,7 @@ unfolding sent storeSent
 returns c =
     let x = c .before .before .before .before .before .before .before .before .outlet .ensures in
     let told = c .before .before .before .before .before .before .t .given .1 in
-    (λ s h. rw (← x s h, told) (c .readied .ensures s h), λ s h. rw (← x s h, told) (c .before .before .before .to-slip .ensures ∙ rw take-length))
+    (λ s h. rw (← x s h, told) (c .arrives .ensures s h), λ s h. rw (← x s h, told) (c .before .before .before .to-slip .ensures ∙ rw take-length))
 
 returns-2 : tie.Need-returns-2
 unfolding sent storeSent
