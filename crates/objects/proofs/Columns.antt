@@ -1,15 +1,14 @@
 -- The columns and the list of objects that they stand for.
-use Prim.Native.Nat.{ℕ, zero, suc, _+_, _<_, _≤_}
+use Prim.Native.Nat.{ℕ, zero, suc, _<_, _≤_}
 use mathlib.Core.Path.{_≡_, refl, ap, _∙_}
 use mathlib.Core.Bool.{false, _&&_, _||_}
 use mathlib.Core.List.{List, map}
-use native.Mathlib.Nat.{not-suc-le-zero, le-of-suc-le-suc}
 use native.Mathlib.Omega.{arith}
 use lib.Dec.{eqb, leb}
 use lib.ListN.{length, getD, set, length-map, List·getD-map, List·getD-eq-default}
-use lib.Seq.{set-out, ext-getD}
+use lib.Seq.{set-out}
 use borrow.Author.Tests.{ne-eqb, le-leb}
-use Rattle.slots.proofs.Sweeps.{map-set, some-row, first-row}
+use Rattle.slots.proofs.Sweeps.{map-set, values-many, value-at, values-of, some-row, first-row}
 use Rattle.lists.specs.Lists.{upTo, index}
 use Rattle.numbers.specs.declared.TaskSlot.{TaskSlot}
 use Rattle.numbers.specs.Numbers.{task}
@@ -20,7 +19,7 @@ use Rattle.slots.specs.declared.Object.{Object}
 use Rattle.slots.specs.Objects.{unused, isUnused, heldBy}
 use Rattle.objects.specs.declared.Cells.{Cells}
 use Rattle.objects.specs.declared.Objects.{Objects}
-use Rattle.objects.specs.Rows.{cellsOf, cellsAt, kindOf, objectsOf, putKind, kindIn, rowsFrom, rowsOf, heldIn, unusedIn}
+use Rattle.objects.specs.Rows.{cellsOf, cellsAt, kindOf, objectsOf, putKind, kindIn, rowAt, rowsOf, heldIn, unusedIn}
 
 -- the numbers of a kind say it
 pub kind-back : (k : Kind) → kindOf (cellsOf k) ≡ k
@@ -76,35 +75,18 @@ module _ (os : Objects) (f : Full os) (n : ℕ) (h : 16 ≤ n) where
       (rw (set-out (os .count) n (cellsOf k .count) (omega arith), set-out (os .holder) n (cellsOf k .holder) (omega arith))))
 
 -- the list has sixteen objects, and each is its row
-pub rows-length : (os : Objects) (i n : ℕ) → length (rowsFrom os i n) ≡ n
-unfolding rowsFrom
-rows-length os i zero = refl
-rows-length os i (suc n) = ap suc (rows-length os (suc i) n)
-
-rows-at : (os : Objects) (i n j : ℕ) → j < n → getD (rowsFrom os i n) j unused .kind ≡ kindIn os (i + j)
-unfolding rowsFrom
-rows-at os i zero j h = absurd (not-suc-le-zero h)
-rows-at os i (suc n) zero h = ap (kindIn os) (omega arith)
-rows-at os i (suc n) (suc j) h = rows-at os (suc i) n j (le-of-suc-le-suc h) ∙ ap (kindIn os) (omega arith)
-
 pub row-at : (os : Objects) (n : ℕ) → n < length (os .state) → getD (rowsOf os) n unused .kind ≡ kindIn os n
 unfolding rowsOf
-row-at os n h = rows-at os 0 (length (os .state)) n h ∙ ap (kindIn os) (omega arith)
+row-at os n h = ap (λ (x : Object). x .kind) (value-at (rowAt os) (length (os .state)) n unused h)
 
 pub rows-many : (os : Objects) → length (rowsOf os) ≡ length (os .state)
 unfolding rowsOf
-rows-many os = rows-length os 0 (length (os .state))
+rows-many os = values-many (rowAt os) (length (os .state))
 
 -- the columns that stand for a list read as that list
 pub rows-of : (xs : List Object) → rowsOf (objectsOf xs) ≡ xs
-unfolding objectsOf
-rows-of xs = ext-getD unused (rowsOf (objectsOf xs)) xs long at
-  where
-    long : length (rowsOf (objectsOf xs)) ≡ length xs
-    long = rows-many (objectsOf xs) ∙ length-map xs (λ x. cellsOf (x .kind) .state)
-
-    at : (i : ℕ) → i < length (rowsOf (objectsOf xs)) → getD (rowsOf (objectsOf xs)) i unused ≡ getD xs i unused
-    at i h = λ j. record { kind = (row-at (objectsOf xs) i (rw (← rows-many (objectsOf xs)) h) ∙ kind-of xs i) j }
+unfolding rowsOf objectsOf
+rows-of xs = rw (length-map xs (λ x. cellsOf (x .kind) .state)) (values-of (rowAt (objectsOf xs)) xs unused (λ n. λ j. record { kind = kind-of xs n j }))
 
 -- the tests in numbers are those in words
 pub by-state : (P : ℕ → Type 0) → P 0 → P 1 → P 2 → ((s : ℕ) → 3 ≤ s → P s) → (s : ℕ) → P s
