@@ -10,6 +10,7 @@ use borrow.Author.Tests.{eqb-true, eqb-false, ne-eqb, ltb-true, ltb-false, lt-lt
 use Rattle.lists.specs.Choice.{if_then_else_}
 use Rattle.lists.specs.Lists.{foldl, any, kept, larger, isNone}
 use Rattle.lists.proofs.Bools.{or-off, and-left}
+use Rattle.lists.proofs.Tests.{larger-max}
 use Rattle.numbers.specs.declared.TaskSlot.{TaskSlot}
 use Rattle.numbers.specs.declared.ObjSlot.{ObjSlot}
 use Rattle.numbers.specs.Numbers.{sameTask, task}
@@ -77,29 +78,15 @@ module _ (ts : Tasks) (full : Full ts) where
     none-waited (t ∷ l) = none-waited l ∙ ap (λ (b : Lead). foldl (λ c u. better (WaitersOf o) c u (rowAt ts (u .0))) b l) (sym (rw (not-waits (t .0))))
 
 -- ── the highest line
-larger-left : (a b : ℕ) → a ≤ larger a b
-larger-left a b = go (ltb a b) refl
-  where
-    go : (c : Bool) → ltb a b ≡ c → a ≤ (if c then b else a)
-    go true e = omega (arith, ltb-true a b e)
-    go false e = omega arith
-
-larger-right : (a b : ℕ) → b ≤ larger a b
-larger-right a b = go (ltb a b) refl
-  where
-    go : (c : Bool) → ltb a b ≡ c → b ≤ (if c then b else a)
-    go true e = omega arith
-    go false e = omega (arith, ltb-false a b e)
-
 top-start : (m : ℕ) (xs : List Task) → m ≤ foldl (λ k x. larger k (readyLevel x)) m xs
 unfolding foldl
 top-start m [] = omega arith
-top-start m (x ∷ xs) = omega (arith, larger-left m (readyLevel x), top-start (larger m (readyLevel x)) xs)
+top-start m (x ∷ xs) = omega (arith, larger-max m (readyLevel x), top-start (larger m (readyLevel x)) xs)
 
 top-row : (m : ℕ) (xs : List Task) (i : ℕ) → i < length xs → readyLevel (getD xs i freeTask) ≤ foldl (λ k x. larger k (readyLevel x)) m xs
 unfolding foldl
 top-row m [] i l = absurd (omega arith)
-top-row m (x ∷ xs) zero l = omega (arith, larger-right m (readyLevel x), top-start (larger m (readyLevel x)) xs)
+top-row m (x ∷ xs) zero l = omega (arith, larger-max m (readyLevel x), top-start (larger m (readyLevel x)) xs)
 top-row m (x ∷ xs) (suc i) l = top-row (larger m (readyLevel x)) xs i (omega arith)
 
 pub row-low : (ts : Tasks) → Full ts → (n : ℕ) → readyLevel (rowAt ts n) ≤ topIn ts
