@@ -1,7 +1,7 @@
 -- The columns and the list of objects that they stand for.
 use Prim.Native.Nat.{ℕ, zero, suc, _<_, _≤_}
 use mathlib.Core.Path.{_≡_, refl, ap, _∙_}
-use mathlib.Core.Bool.{false, _&&_, _||_}
+use mathlib.Core.Bool.{true, false, _&&_, _||_}
 use mathlib.Core.List.{List, map}
 use native.Mathlib.Omega.{arith}
 use lib.Dec.{eqb, leb}
@@ -19,15 +19,15 @@ use Rattle.slots.specs.declared.Object.{Object}
 use Rattle.slots.specs.Objects.{unused, isUnused, heldBy}
 use Rattle.objects.specs.declared.Cells.{Cells}
 use Rattle.objects.specs.declared.Objects.{Objects}
-use Rattle.objects.specs.Rows.{cellsOf, cellsAt, kindOf, objectsOf, putKind, kindIn, rowAt, rowsOf, heldIn, unusedIn}
+use Rattle.objects.specs.Rows.{cellsOf, cellsAt, kindOf, objectsOf, putKind, kindIn, rowAt, rowsOf, heldIn, unusedIn, known}
 
--- the numbers of a kind say it
-pub kind-back : (k : Kind) → kindOf (cellsOf k) ≡ k
+-- the numbers of a kind say it, and one that it does not use is 0
+pub kind-back : (k : Kind) → (kindOf (cellsOf k) ≡ k) × (known (cellsOf k) ≡ true)
 unfolding kindOf
-kind-back Unused = refl
-kind-back (Queue q) = refl
-kind-back (Mutex Nobody) = refl
-kind-back (Mutex (By t)) = refl
+kind-back Unused = (refl, refl)
+kind-back (Queue q) = (refl, refl)
+kind-back (Mutex Nobody) = (refl, refl)
+kind-back (Mutex (By t)) = (refl, refl)
 
 module _ (xs : List Object) (n : ℕ) where
   number : (f : Cells → ℕ) → getD (map (λ (x : Object). f (cellsOf (x .kind))) xs) n (f (cellsOf Unused)) ≡ f (cellsOf (getD xs n unused .kind))
@@ -41,7 +41,7 @@ module _ (xs : List Object) (n : ℕ) where
 
   pub kind-of : kindIn (objectsOf xs) n ≡ getD xs n unused .kind
   unfolding kindIn
-  kind-of = rw cells-of (kind-back (getD xs n unused .kind))
+  kind-of = rw cells-of (kind-back (getD xs n unused .kind) .0)
 
   stored : (k : Kind) (f : Cells → ℕ) → set (map (λ (x : Object). f (cellsOf (x .kind))) xs) n (f (cellsOf k)) ≡ map (λ (x : Object). f (cellsOf (x .kind))) (set xs n (record { kind = k }))
   stored k f = map-set (λ (x : Object). f (cellsOf (x .kind))) xs n (record { kind = k })

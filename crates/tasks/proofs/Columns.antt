@@ -1,6 +1,7 @@
 -- The columns and the list of tasks that they stand for.
 use Prim.Native.Nat.{ℕ, _<_, _≤_}
 use mathlib.Core.Path.{_≡_, refl}
+use mathlib.Core.Bool.{true, _&&_}
 use mathlib.Core.List.{List}
 use native.Mathlib.Omega.{arith}
 use lib.ListN.{length, getD, set, length-map, List·getD-map, List·getD-eq-default}
@@ -13,17 +14,18 @@ use Rattle.slots.specs.declared.Task.{Task}
 use Rattle.slots.specs.Tasks.{freeTask, placed, ranked}
 use Rattle.tasks.specs.declared.Tasks.{Tasks}
 use Rattle.tasks.specs.Cells.{cellsOf, placeOf}
+use Rattle.tasks.specs.Known.{known, wakeKnown}
 use Rattle.tasks.specs.Rows.{stateOf, objectOf, wakeOf, tasksOf, put, placedAt, rankedAt, rowAt, rowsOf}
 
--- the numbers of a place say it
-pub place-back : (p : Place) → placeOf (cellsOf p) ≡ p
+-- the numbers of a place say it, and one that it does not use is 0
+pub place-back : (p : Place) → (placeOf (cellsOf p) ≡ p) × ((known (cellsOf p .state) (cellsOf p .object) && wakeKnown (cellsOf p .state) (cellsOf p .wake)) ≡ true)
 unfolding placeOf
-place-back Free = refl
-place-back Ready = refl
-place-back (Delayed w) = refl
-place-back (Waiting o (At w)) = refl
-place-back (Waiting o Never) = refl
-place-back Suspended = refl
+place-back Free = (refl, refl)
+place-back Ready = (refl, refl)
+place-back (Delayed w) = (refl, refl)
+place-back (Waiting o (At w)) = (refl, refl)
+place-back (Waiting o Never) = (refl, refl)
+place-back Suspended = (refl, refl)
 
 -- a row of the columns that stand for a list is the list's element
 pub row-of : (xs : List Task) (n : ℕ) → rowAt (tasksOf xs) n ≡ getD xs n freeTask
@@ -31,7 +33,7 @@ unfolding rowAt tasksOf
 row-of xs n =
     rw (List·getD-map stateOf xs n freeTask, List·getD-map objectOf xs n freeTask, List·getD-map wakeOf xs n freeTask)
     (rw (List·getD-map (λ (x : Task). x .own) xs n freeTask, List·getD-map (λ (x : Task). x .effective) xs n freeTask)
-    (rw (List·getD-map (λ (x : Task). x .outcome) xs n freeTask, place-back (getD xs n freeTask .place))))
+    (rw (List·getD-map (λ (x : Task). x .outcome) xs n freeTask, place-back (getD xs n freeTask .place) .0)))
 
 -- a store to them is a store to the list
 pub put-of : (xs : List Task) (n : ℕ) (x : Task) → put (tasksOf xs) n x ≡ tasksOf (set xs n x)
