@@ -8,6 +8,7 @@ use lib.ListN.{length, set, length-set}
 use borrow.Author.Tests.{eqb-true, eqb-false, eq-eqb}
 use Rattle.lists.specs.Choice.{if_then_else_}
 use Rattle.lists.specs.Lists.{larger}
+use Rattle.lists.proofs.Tests.{larger-max}
 use Rattle.numbers.specs.Numbers.{sameTask}
 use Rattle.calls.specs.Door.{objSlot}
 use Rattle.calls.specs.Asked.{asked}
@@ -23,17 +24,17 @@ use Rattle.rows.specs.Applies.{hisAlready}
 use Rattle.rules.specs.Waits.{wakeOf, arrives, waitFor}
 use Rattle.rules.specs.Loans.{prioritized, lent, ownAgain}
 use Rattle.rules.specs.Effects.{takenFrom, taken, handedOn, given}
+use Rattle.rules.proofs.Slots.{exists-there, by-kind}
 use Rattle.rules.proofs.Held.{some-holds}
 use Rattle.rules.proofs.Passes.{Passed}
 use Rattle.rules.proofs.Slotted.{at-same, at-other}
 use Rattle.rules.proofs.Blocks.{Same, prioritized-same, prioritized-tasks}
 use Rattle.rules.proofs.Keeps.{exists-low, ready-low}
-use Rattle.promises.proofs.Histories.{exists-there}
 use Rattle.rules.specs.Trace.{Moment, CallMade}
-use Rattle.histories.specs.Types.{TaskSlot, ObjNo, ObjSlot, Wake, Place, Waiting, Task, Nobody, By, Kind, Unused, Queue, Mutex, State, Take, Give}
+use Rattle.histories.specs.Types.{TaskSlot, ObjNo, ObjSlot, Wake, Place, Waiting, Task, By, Mutex, State, Take, Give}
 use Rattle.histories.specs.Moments.{waitsIn}
 use Rattle.histories.specs.Borrowed.{largest, givenAt, lends, lentAt}
-use Rattle.histories.proofs.Largest.{larger-max, one-passes}
+use Rattle.histories.proofs.Largest.{one-passes}
 use Rattle.histories.proofs.Quiet.{Quiet, still, onward, each}
 use Rattle.histories.proofs.QuietCalls.{Quietly, wait-quiet, handed-quiet}
 use Rattle.histories.proofs.Fair.{Fair, Lends, lends-so, on, none-given, quiet-fair, bare-fair}
@@ -169,13 +170,9 @@ module _ (k : State) (S : Sound k) (n : ℕ) (a : Saying) where
 
   pub take-fair : (num : ObjNo) (w : ℕ) → Passed k (asked (Take num w)) n → (t : TaskSlot) → Fair (moment k (Take num w) a (taken k (objSlot num) w)) t
   unfolding taken asked lent
-  take-fair num w P t = go (kindAt (k .objects) (objSlot num)) refl
-    where
-      go : (x : Kind) → kindAt (k .objects) (objSlot num) ≡ x → Fair (moment k (Take num w) a (takenFrom k (objSlot num) x w)) t
-      go Unused e = quiet-fair _ t (none-given t _ refl refl) still
-      go (Queue q) e = quiet-fair _ t (none-given t _ refl refl) still
-      go (Mutex Nobody) e = quiet-fair _ t (none-given t _ refl refl) still
-      go (Mutex (By h)) e = wait-fair num w P h e t
+  take-fair num w P t =
+      by-kind (kindAt (k .objects) (objSlot num)) (λ x. Fair (moment k (Take num w) a (takenFrom k (objSlot num) x w)) t) (quiet-fair _ t (none-given t _ refl refl) still)
+      (λ q e. quiet-fair _ t (none-given t _ refl refl) still) (λ e. quiet-fair _ t (none-given t _ refl refl) still) (λ h e. wait-fair num w P h e t)
 
   -- 16: give
   module _ (num : ObjNo) where

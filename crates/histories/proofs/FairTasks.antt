@@ -9,6 +9,7 @@ use borrow.Author.Tests.{eqb-true, eqb-false, eq-eqb, ne-eqb}
 use Rattle.lists.proofs.Bools.{or-off}
 use Rattle.lists.specs.Choice.{if_then_else_}
 use Rattle.lists.specs.Lists.{larger}
+use Rattle.lists.proofs.Tests.{larger-max}
 use Rattle.numbers.specs.Numbers.{task, sameTask}
 use Rattle.calls.specs.Door.{taskSlot}
 use Rattle.calls.specs.Asked.{asked}
@@ -19,7 +20,7 @@ use Rattle.slots.specs.Tasks.{freeTask, readyAt, ranked, taskAt}
 use Rattle.rules.specs.Tables.{holds, freeSlot}
 use Rattle.rules.specs.Lines.{level, toTail, leaves}
 use Rattle.rules.specs.Sentences.{Sound}
-use Rattle.rows.specs.Applies.{namesNone, noSlot}
+use Rattle.rows.specs.Applies.{namesNone}
 use Rattle.rules.specs.Refusals.{inUse}
 use Rattle.rules.specs.Loans.{prioritized, newPriority}
 use Rattle.rules.specs.Effects.{created, deleted}
@@ -27,12 +28,12 @@ use Rattle.rules.proofs.Held.{none-holds}
 use Rattle.rules.proofs.Passes.{Passed}
 use Rattle.rules.proofs.Slotted.{at-same}
 use Rattle.rules.proofs.Blocks.{prioritized-same, prioritized-tasks}
-use Rattle.rules.proofs.Keeps.{exists-low, index-most, index-passes}
+use Rattle.rules.proofs.Keeps.{exists-low}
+use Rattle.rules.proofs.KeepTasks.{has-slot, is-free}
 use Rattle.rules.specs.Trace.{Moment, CallMade}
 use Rattle.histories.specs.Types.{TaskNo, TaskSlot, Place, Free, Ready, Delayed, Waiting, Suspended, Task, State, Call, Create, Delete, SetPriority}
 use Rattle.histories.specs.Moments.{isRefusal}
 use Rattle.histories.specs.Borrowed.{largest, givenAt}
-use Rattle.histories.proofs.Largest.{larger-max}
 use Rattle.histories.proofs.Quiet.{Quiet, each, slot-quiet, ranked-quiet}
 use Rattle.histories.proofs.QuietCalls.{Quietly}
 use Rattle.histories.proofs.Fair.{Fair, Lends, on, none-given, none-lent, quiet-fair, bare-fair}
@@ -83,28 +84,17 @@ module _ (k : State) (S : Sound k) (n : ℕ) (a : Saying) where
     abbrev creation : Moment CallMade
     creation = moment k (Create p) a (created k p)
 
-    has-slot : new .0 < length (k .tasks)
-    unfolding asked noSlot freeSlot
-    has-slot =
-        let most = index-most (λ (x : Task). isFree (x .place)) freeTask (k .tasks) in
-        let d = eqb-false (freeSlot (k .tasks)) 16 (P .slot) in
-        omega (arith, d, S .tables .task-slots)
-
-    was-free : isFree (taskAt (k .tasks) new .place) ≡ true
-    unfolding freeSlot taskAt
-    was-free = index-passes (λ (x : Task). isFree (x .place)) freeTask (k .tasks) has-slot
-
     now-there : taskAt (created k p .tasks) new ≡ readyAt p
-    unfolding created toTail
-    now-there = at-same (k .tasks) new (readyAt p) has-slot
+    unfolding asked created toTail
+    now-there = at-same (k .tasks) new (readyAt p) (has-slot k S n p P)
 
     holds-none : holds (created k p .objects) new ≡ false
-    unfolding created toTail
-    holds-none = none-holds (k .objects) new (λ o h. S .tables .holders new o h (no-place _ was-free))
+    unfolding asked created toTail
+    holds-none = none-holds (k .objects) new (λ o h. S .tables .holders new o h (no-place _ (is-free k S n p P)))
 
     given-first : givenAt new creation ≡ p ∷ []
     unfolding givenAt asked
-    given-first = rw (now-there, was-free)
+    given-first = rw (now-there, is-free k S n p P)
 
     others : (t : TaskSlot) → (new .0 ≡ t .0 → ⊥) → Quietly t k (created k p)
     unfolding created toTail

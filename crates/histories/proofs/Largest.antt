@@ -1,25 +1,19 @@
 -- The larger of two, the largest of several, and the largest among those tasks that pass a test.
-use Prim.Native.Nat.{ℕ, zero, suc, max, _<_, _≤_}
+use Prim.Native.Nat.{ℕ, zero, suc, _<_, _≤_}
 use mathlib.Core.Path.{_≡_, refl, sym, ap, _∙_}
 use mathlib.Core.Bool.{Bool, true, false, false≢true}
 use mathlib.Core.List.{List, [], _∷_, _++_, map}
 use native.Mathlib.Omega.{arith}
-use lib.Dec.{ltb, eqb}
-use borrow.Author.Tests.{ltb-true, ltb-false, eqb-true, eqb-false}
+use lib.Dec.{eqb}
+use borrow.Author.Tests.{eqb-true, eqb-false}
 use Rattle.lists.specs.Choice.{if_then_else_}
 use Rattle.lists.specs.Lists.{larger, kept}
+use Rattle.lists.proofs.Tests.{larger-max}
 use Rattle.numbers.specs.Numbers.{task}
 use Rattle.order.proofs.Lines.{one-number}
 use Rattle.histories.specs.Types.{TaskSlot}
 use Rattle.histories.specs.Moments.{tasksBelow}
 use Rattle.histories.specs.Borrowed.{largest}
-
-pub larger-max : (a b : ℕ) → larger a b ≡ max a b
-larger-max a b = go (ltb a b) refl
-  where
-    go : (c : Bool) → ltb a b ≡ c → (if c then b else a) ≡ max a b
-    go true e = omega (arith, ltb-true a b e)
-    go false e = omega (arith, ltb-false a b e)
 
 pub largest-append : (xs ys : List ℕ) → largest (xs ++ ys) ≡ larger (largest xs) (largest ys)
 unfolding largest

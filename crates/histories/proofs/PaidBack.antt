@@ -19,7 +19,7 @@ use Rattle.promises.specs.History.{reached}
 use Rattle.promises.specs.Program.{linesOf, answering}
 use Rattle.promises.specs.Turns.{Turn, afterTurns, atStart}
 use Rattle.promises.specs.Reached.{programCalls}
-use Rattle.promises.proofs.Histories.{exists-there}
+use Rattle.rules.proofs.Slots.{exists-there}
 use Rattle.promises.proofs.Reaches.{program-reached, session-so-far}
 use Rattle.rules.specs.Trace.{Moment, momentOf, trace, stateAfter, CallMade, stepMade}
 use Rattle.histories.specs.Types.{TaskSlot, State}

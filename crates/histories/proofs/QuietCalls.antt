@@ -21,22 +21,15 @@ use Rattle.rules.specs.Waits.{later, wakeOf, arrives, waitFor}
 use Rattle.rules.specs.Ticks.{wokenIfDue, wakes, oneTick, turned, ticked, ticks, released}
 use Rattle.rules.specs.Items.{oneLess, sentBy, sent, sentTo, refilledBy, received, receivedFrom}
 use Rattle.rules.specs.Effects.{suspended, yielded, delayed, handedTo, handedOn}
+use Rattle.rules.proofs.Slots.{passes-there, by-kind}
 use Rattle.rules.proofs.Within.{first-meant, first-single, by-outlet}
 use Rattle.rules.proofs.KeepTicks.{due-there}
-use Rattle.histories.specs.Types.{TaskSlot, ObjSlot, Place, Free, Ready, Delayed, Waiting, Suspended, Ring, Kind, Unused, Queue, Mutex, Object, WaitersOf, State}
+use Rattle.histories.specs.Types.{TaskSlot, ObjSlot, Ready, Delayed, Waiting, Suspended, Ring, Queue, Object, WaitersOf, State}
 use Rattle.histories.proofs.Quiet.{Quiet, still, onward, placed-quiet}
 
 -- from a kernel to the next
 abbrev pub Quietly : TaskSlot → State → State → Type 0
 Quietly t k j = Quiet t (j .objects) (k .tasks) (j .tasks)
-
--- who waits, is due or is suspended exists
-waits-there : (o : ObjSlot) (p : Place) → waitsOn o p ≡ true → isFree p ≡ false
-waits-there o Free e = absurd (false≢true e)
-waits-there o Ready e = refl
-waits-there o (Delayed w) e = refl
-waits-there o (Waiting q w) e = refl
-waits-there o Suspended e = refl
 
 one-object : (x y : ObjSlot) → x .0 ≡ y .0 → x ≡ y
 one-object x y e = λ i. record { 0 = e i }
@@ -100,7 +93,7 @@ module _ (k : State) (S : Sound k) (t : TaskSlot) where
   caller-there = ap isFree (S .running .runs .ready)
 
   first-there : (o : ObjSlot) (u : TaskSlot) (r : List TaskSlot) → first k (WaitersOf o) ≡ u ∷ r → isFree (taskAt (k .tasks) u .place) ≡ false
-  first-there o u r e = waits-there o (taskAt (k .tasks) u .place) (first-meant k (WaitersOf o) u (first-single k (WaitersOf o) u r e))
+  first-there o u r e = passes-there (waitsOn o) (taskAt (k .tasks) u .place) refl (first-meant k (WaitersOf o) u (first-single k (WaitersOf o) u r e))
 
   -- the first waiter is made ready, and takes the mutex over
   pub handed-quiet : (o : ObjSlot) → Quietly t k (handedOn k o)
@@ -151,17 +144,7 @@ module _ (k : State) (S : Sound k) (t : TaskSlot) where
         go false (u ∷ r) e = arrives-quiet t _ _ u Ready 1 refl (first-there o u r e) (λ p h. refl)
 
   pub send-quiet : (o : ObjSlot) (w : ℕ) → Quietly t k (sentTo k o (kindAt (k .objects) o) w)
-  send-quiet o w = go (kindAt (k .objects) o) refl
-    where
-      go : (x : Kind) → kindAt (k .objects) o ≡ x → Quietly t k (sentTo k o x w)
-      go Unused e = still
-      go (Queue q) e = sent-quiet o q w e
-      go (Mutex h) e = still
+  send-quiet o w = by-kind (kindAt (k .objects) o) (λ x. Quietly t k (sentTo k o x w)) still (λ q e. sent-quiet o q w e) (λ e. still) (λ h e. still)
 
   pub receive-quiet : (o : ObjSlot) (w : ℕ) → Quietly t k (receivedFrom k o (kindAt (k .objects) o) w)
-  receive-quiet o w = go (kindAt (k .objects) o) refl
-    where
-      go : (x : Kind) → kindAt (k .objects) o ≡ x → Quietly t k (receivedFrom k o x w)
-      go Unused e = still
-      go (Queue q) e = received-quiet o q w e
-      go (Mutex h) e = still
+  receive-quiet o w = by-kind (kindAt (k .objects) o) (λ x. Quietly t k (receivedFrom k o x w)) still (λ q e. received-quiet o q w e) (λ e. still) (λ h e. still)

@@ -6,11 +6,11 @@ use Rattle.lists.specs.Lists.{foldl}
 use Rattle.numbers.specs.Numbers.{task}
 use Rattle.calls.specs.Door.{noObject}
 use Rattle.calls.specs.Said.{Word, done, made, waiting, refused}
-use Rattle.slots.specs.Places.{isFree, waitsOn}
+use Rattle.slots.specs.Places.{isFree, ofBlocked, waitsOn}
 use Rattle.slots.specs.Tasks.{taskAt}
 use Rattle.rules.specs.Tables.{fresh, holds}
 use Rattle.rules.specs.Trace.{Moment, trace, CallMade, stepMade}
-use Rattle.histories.specs.Types.{TaskSlot, ObjSlot, Place, Free, Ready, Delayed, Waiting, Suspended, State}
+use Rattle.histories.specs.Types.{TaskSlot, ObjSlot, Place, State}
 
 -- the latest first, ahead of those of the past
 abbrev pub onto : List (Moment CallMade) → List (Moment CallMade) → List (Moment CallMade)
@@ -37,11 +37,7 @@ appears m t = exists (m .gave .kernel) t && not (exists (m .before) t)
 
 -- the object that a task waits on; one that no table has, where it waits on none
 abbrev pub waited : Place → ObjSlot
-waited Free = noObject
-waited Ready = noObject
-waited (Delayed w) = noObject
-waited (Waiting o w) = o
-waited Suspended = noObject
+waited p = ofBlocked noObject (λ w. noObject) (λ o w. o) p
 
 -- "began to wait": it waits on the object after it, and did not before
 abbrev pub beginsToWait : Moment CallMade → TaskSlot → ObjSlot → Bool

@@ -44,7 +44,7 @@ use Rattle.rules.specs.State.{State}
 use Rattle.rules.specs.Tables.{holds}
 use Rattle.rules.specs.Lines.{line, level}
 use Rattle.rules.specs.Sound.{slotTask, slotKind, levelsFine, heads, noHigher, runsFine, counted, pendsFine, sound}
-use Rattle.rules.proofs.Slots.{past-tasks, past-objects}
+use Rattle.rules.proofs.Slots.{past-tasks, past-objects, is-ready}
 use Rattle.rules.proofs.SaysTables.{TablesTested, tables-tested, tested-tables}
 use Rattle.rules.proofs.SaysListing.{ListingTested, listing-tested, tested-listing}
 use Rattle.rules.proofs.SaysClock.{ClockTested, clock-tested, tested-clock}
@@ -55,11 +55,7 @@ use Rattle.kernel.proofs.Shown.{no-tables}
 
 -- ── small laws
 ready-once : (n : ℕ) (p : Place) → isReady p ≡ true → standsFine n p ≡ true → n ≡ 1
-ready-once n Free e h = absurd (false≢true e)
-ready-once n Ready e h = eqb-true n 1 h
-ready-once n (Delayed w) e h = absurd (false≢true e)
-ready-once n (Waiting o w) e h = absurd (false≢true e)
-ready-once n Suspended e h = absurd (false≢true e)
+ready-once n p e h = eqb-true n 1 (rw (is-ready p e) at h)
 
 off-left : (a b : Bool) → a ≡ false → (a && b) ≡ false
 off-left a b e = ap (λ (c : Bool). c && b) e

@@ -1,15 +1,14 @@
 -- The columns and the list of objects that they stand for.
-use Prim.Native.Nat.{ℕ, zero, suc, _+_, _<_, _≤_}
+use Prim.Native.Nat.{ℕ, zero, suc, _<_, _≤_}
 use mathlib.Core.Path.{_≡_, refl, ap, _∙_}
-use mathlib.Core.Bool.{false, _&&_, _||_}
+use mathlib.Core.Bool.{true, false, _&&_, _||_}
 use mathlib.Core.List.{List, map}
-use native.Mathlib.Nat.{not-suc-le-zero, le-of-suc-le-suc}
 use native.Mathlib.Omega.{arith}
 use lib.Dec.{eqb, leb}
 use lib.ListN.{length, getD, set, length-map, List·getD-map, List·getD-eq-default}
-use lib.Seq.{set-out, ext-getD}
+use lib.Seq.{set-out}
 use borrow.Author.Tests.{ne-eqb, le-leb}
-use Rattle.slots.proofs.Sweeps.{map-set, some-row, first-row}
+use Rattle.slots.proofs.Sweeps.{map-set, values-many, value-at, values-of, some-row, first-row}
 use Rattle.lists.specs.Lists.{upTo, index}
 use Rattle.numbers.specs.declared.TaskSlot.{TaskSlot}
 use Rattle.numbers.specs.Numbers.{task}
@@ -20,15 +19,15 @@ use Rattle.slots.specs.declared.Object.{Object}
 use Rattle.slots.specs.Objects.{unused, isUnused, heldBy}
 use Rattle.objects.specs.declared.Cells.{Cells}
 use Rattle.objects.specs.declared.Objects.{Objects}
-use Rattle.objects.specs.Rows.{cellsOf, cellsAt, kindOf, objectsOf, putKind, kindIn, rowsFrom, rowsOf, heldIn, unusedIn}
+use Rattle.objects.specs.Rows.{cellsOf, cellsAt, kindOf, objectsOf, putKind, kindIn, rowAt, rowsOf, heldIn, unusedIn, known}
 
--- the numbers of a kind say it
-pub kind-back : (k : Kind) → kindOf (cellsOf k) ≡ k
+-- the numbers of a kind say it, and one that it does not use is 0
+pub kind-back : (k : Kind) → (kindOf (cellsOf k) ≡ k) × (known (cellsOf k) ≡ true)
 unfolding kindOf
-kind-back Unused = refl
-kind-back (Queue q) = refl
-kind-back (Mutex Nobody) = refl
-kind-back (Mutex (By t)) = refl
+kind-back Unused = (refl, refl)
+kind-back (Queue q) = (refl, refl)
+kind-back (Mutex Nobody) = (refl, refl)
+kind-back (Mutex (By t)) = (refl, refl)
 
 module _ (xs : List Object) (n : ℕ) where
   number : (f : Cells → ℕ) → getD (map (λ (x : Object). f (cellsOf (x .kind))) xs) n (f (cellsOf Unused)) ≡ f (cellsOf (getD xs n unused .kind))
@@ -42,7 +41,7 @@ module _ (xs : List Object) (n : ℕ) where
 
   pub kind-of : kindIn (objectsOf xs) n ≡ getD xs n unused .kind
   unfolding kindIn
-  kind-of = rw cells-of (kind-back (getD xs n unused .kind))
+  kind-of = rw cells-of (kind-back (getD xs n unused .kind) .0)
 
   stored : (k : Kind) (f : Cells → ℕ) → set (map (λ (x : Object). f (cellsOf (x .kind))) xs) n (f (cellsOf k)) ≡ map (λ (x : Object). f (cellsOf (x .kind))) (set xs n (record { kind = k }))
   stored k f = map-set (λ (x : Object). f (cellsOf (x .kind))) xs n (record { kind = k })
@@ -76,35 +75,18 @@ module _ (os : Objects) (f : Full os) (n : ℕ) (h : 16 ≤ n) where
       (rw (set-out (os .count) n (cellsOf k .count) (omega arith), set-out (os .holder) n (cellsOf k .holder) (omega arith))))
 
 -- the list has sixteen objects, and each is its row
-pub rows-length : (os : Objects) (i n : ℕ) → length (rowsFrom os i n) ≡ n
-unfolding rowsFrom
-rows-length os i zero = refl
-rows-length os i (suc n) = ap suc (rows-length os (suc i) n)
-
-rows-at : (os : Objects) (i n j : ℕ) → j < n → getD (rowsFrom os i n) j unused .kind ≡ kindIn os (i + j)
-unfolding rowsFrom
-rows-at os i zero j h = absurd (not-suc-le-zero h)
-rows-at os i (suc n) zero h = ap (kindIn os) (omega arith)
-rows-at os i (suc n) (suc j) h = rows-at os (suc i) n j (le-of-suc-le-suc h) ∙ ap (kindIn os) (omega arith)
-
 pub row-at : (os : Objects) (n : ℕ) → n < length (os .state) → getD (rowsOf os) n unused .kind ≡ kindIn os n
 unfolding rowsOf
-row-at os n h = rows-at os 0 (length (os .state)) n h ∙ ap (kindIn os) (omega arith)
+row-at os n h = ap (λ (x : Object). x .kind) (value-at (rowAt os) (length (os .state)) n unused h)
 
 pub rows-many : (os : Objects) → length (rowsOf os) ≡ length (os .state)
 unfolding rowsOf
-rows-many os = rows-length os 0 (length (os .state))
+rows-many os = values-many (rowAt os) (length (os .state))
 
 -- the columns that stand for a list read as that list
 pub rows-of : (xs : List Object) → rowsOf (objectsOf xs) ≡ xs
-unfolding objectsOf
-rows-of xs = ext-getD unused (rowsOf (objectsOf xs)) xs long at
-  where
-    long : length (rowsOf (objectsOf xs)) ≡ length xs
-    long = rows-many (objectsOf xs) ∙ length-map xs (λ x. cellsOf (x .kind) .state)
-
-    at : (i : ℕ) → i < length (rowsOf (objectsOf xs)) → getD (rowsOf (objectsOf xs)) i unused ≡ getD xs i unused
-    at i h = λ j. record { kind = (row-at (objectsOf xs) i (rw (← rows-many (objectsOf xs)) h) ∙ kind-of xs i) j }
+unfolding rowsOf objectsOf
+rows-of xs = rw (length-map xs (λ x. cellsOf (x .kind) .state)) (values-of (rowAt (objectsOf xs)) xs unused (λ n. λ j. record { kind = kind-of xs n j }))
 
 -- the tests in numbers are those in words
 pub by-state : (P : ℕ → Type 0) → P 0 → P 1 → P 2 → ((s : ℕ) → 3 ≤ s → P s) → (s : ℕ) → P s

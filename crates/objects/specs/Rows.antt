@@ -1,11 +1,11 @@
 -- The table of objects as a list, in the words of the rules; and as the columns that stand for it.
-use Prim.Native.Nat.{ℕ, zero, suc}
+use Prim.Native.Nat.{ℕ}
 use mathlib.Core.Bool.{Bool, _&&_, _||_}
-use mathlib.Core.List.{List, [], _∷_, map}
+use mathlib.Core.List.{List, map}
 use lib.Dec.{eqb, leb}
 use lib.ListN.{length, getD, set}
 use Rattle.lists.specs.Choice.{if_then_else_}
-use Rattle.lists.specs.Lists.{any, index, allBelow}
+use Rattle.lists.specs.Lists.{any, index, allBelow, values}
 use Rattle.numbers.specs.Numbers.{task}
 use Rattle.numbers.specs.declared.TaskSlot.{TaskSlot}
 use Rattle.slots.specs.declared.Holder.the-variants.{Nobody, By}
@@ -80,13 +80,12 @@ cellsAt os n =
 unfoldable pub kindIn : Objects → ℕ → Kind
 kindIn os n = kindOf (cellsAt os n)
 
--- the rows from `i` on, `n` of them; and the table as a list
-unfoldable pub rowsFrom : Objects → ℕ → ℕ → List Object
-rowsFrom os i zero = []
-rowsFrom os i (suc n) = record { kind = kindIn os i } ∷ rowsFrom os (suc i) n
+-- the object that they say; and the table as a list
+abbrev pub rowAt : Objects → ℕ → Object
+rowAt os n = record { kind = kindIn os n }
 
 unfoldable pub rowsOf : Objects → List Object
-rowsOf os = rowsFrom os 0 (length (os .state))
+rowsOf os = values (rowAt os) (length (os .state))
 
 -- the task holds a mutex
 unfoldable pub heldIn : Objects → TaskSlot → Bool

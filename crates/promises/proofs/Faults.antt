@@ -24,11 +24,11 @@ use Rattle.rules.proofs.Held.{some-holds}
 use Rattle.rules.proofs.Says.{sound-says}
 use Rattle.rules.proofs.Slotted.{at-same}
 use Rattle.rules.proofs.Blocks.{prioritized-tasks}
-use Rattle.rules.proofs.Keeps.{exists-low}
+use Rattle.rules.proofs.Keeps.{there-low}
 use Rattle.promises.specs.Types.{TaskSlot, ObjSlot, SetPriority, Wake, Ready, Waiting, Kind, Unused, State}
 use Rattle.promises.specs.History.{reached}
 use Rattle.promises.specs.Depth.{isAccepted, depth}
-use Rattle.promises.proofs.Histories.{exists-there, reached-sound}
+use Rattle.promises.proofs.Histories.{reached-sound}
 use Rattle.promises.proofs.Depths.{depth-by-calls}
 
 module _ (ms : List CallMade) where
@@ -75,4 +75,4 @@ module _ (ms : List CallMade) where
       both = larger (level (k .tasks) u) p
 
       low : u .0 < length (k .tasks)
-      low = omega (arith, S .tables .task-slots, exists-low (k .tasks) u (S .tables .task-slots) (exists-there (taskAt (k .tasks) u .place) (S .tables .holders u o h)))
+      low = omega (arith, S .tables .task-slots, there-low (k .tasks) u (S .tables .task-slots) (S .tables .holders u o h))

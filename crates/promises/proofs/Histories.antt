@@ -32,14 +32,6 @@ after-sound k ms = trace-keeps stepMade (λ j. sound j ≡ true) (λ j s m. step
 pub reached-sound : (ms : List CallMade) → sound (reached ms) ≡ true
 reached-sound ms = after-sound fresh ms fresh-sound
 
--- a task that exists has a place
-pub exists-there : (p : Place) → (p ≡ Free → ⊥) → isFree p ≡ false
-exists-there Free n = absurd (n refl)
-exists-there Ready n = refl
-exists-there (Delayed w) n = refl
-exists-there (Waiting o w) n = refl
-exists-there Suspended n = refl
-
 one-of-four : (p : Place) → isFree p ≡ false → states p ≡ 1
 one-of-four Free e = absurd (false≢true (sym e))
 one-of-four Ready e = refl

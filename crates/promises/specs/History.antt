@@ -1,7 +1,7 @@
 -- "Start from the fresh kernel and make any calls, refused ones among them."
 use Prim.Native.Nat.{ℕ, _+_, _≤_}
 use mathlib.Core.Path.{_≡_}
-use mathlib.Core.Bool.{Bool, true, false}
+use mathlib.Core.Bool.{Bool, false}
 use mathlib.Core.List.{List, [], _∷_}
 use lib.ListN.{replicate}
 use Rattle.lists.specs.Choice.{if_then_else_}
@@ -11,9 +11,9 @@ use Rattle.numbers.specs.Numbers.{task, idle}
 use Rattle.order.specs.Order.{listed, ordered}
 use Rattle.order.specs.Tidy.{count}
 use Rattle.slots.specs.declared.Place.{Place}
-use Rattle.slots.specs.declared.Place.the-variants.{Free, Ready, Delayed, Waiting, Suspended}
+use Rattle.slots.specs.declared.Place.the-variants.{Ready}
 use Rattle.slots.specs.declared.Who.the-variants.{WaitersOf}
-use Rattle.slots.specs.Places.{isFree, isReady, isSuspended, isListed, waitsOn}
+use Rattle.slots.specs.Places.{isFree, isReady, isDelayed, isWaiting, isSuspended, isListed, waitsOn}
 use Rattle.slots.specs.Tasks.{freeTask, readyAt, brokenOff, inLine, taskAt}
 use Rattle.slots.specs.Objects.{unused}
 use Rattle.rules.specs.State.{State}
@@ -28,21 +28,6 @@ after k ms = stateAfter k (trace stepMade k [] ms)
 -- "from the fresh kernel"
 abbrev pub reached : List CallMade → State
 reached ms = after fresh ms
-
--- delayed; waiting on an object
-abbrev pub isDelayed : Place → Bool
-isDelayed Free = false
-isDelayed Ready = false
-isDelayed (Delayed w) = true
-isDelayed (Waiting o w) = false
-isDelayed Suspended = false
-
-abbrev pub isWaiting : Place → Bool
-isWaiting Free = false
-isWaiting Ready = false
-isWaiting (Delayed w) = false
-isWaiting (Waiting o w) = true
-isWaiting Suspended = false
 
 abbrev pub once : Bool → ℕ
 once b = if b then 1 else 0

@@ -5,9 +5,8 @@ pub use Rattle.calls.specs.declared.Call.{Call}
 pub use Rattle.calls.specs.declared.Call.the-variants.{Create, Delete, Suspend, Resume, SetPriority, Delay, Yield, Hold, Release, MakeQueue, MakeMutex, Remove, Send, Receive, Take, Give, Tick}
 pub use Rattle.calls.specs.declared.Asked.{Asked}
 pub use Rattle.slots.specs.declared.Wake.{Wake}
-pub use Rattle.slots.specs.declared.Wake.the-variants.{Never, At}
 pub use Rattle.slots.specs.declared.Place.{Place}
-pub use Rattle.slots.specs.declared.Place.the-variants.{Free, Ready, Delayed, Waiting, Suspended}
+pub use Rattle.slots.specs.declared.Place.the-variants.{Ready, Delayed, Waiting}
 pub use Rattle.slots.specs.declared.Task.{Task}
 pub use Rattle.slots.specs.declared.Holder.the-variants.{Nobody, By}
 pub use Rattle.slots.specs.declared.Kind.{Kind}

@@ -12,11 +12,11 @@ use Rattle.calls.specs.Asked.{asked}
 use Rattle.calls.specs.Said.{Word, done, made, waiting, refused, says}
 use Rattle.order.specs.Order.{listed}
 use Rattle.items.specs.Bytes.{putAt}
-use Rattle.slots.specs.Places.{isReady, isSuspended, waitsOn, wakesAt, outcomeDue}
+use Rattle.slots.specs.Places.{isReady, isWaiting, isSuspended, waitsOn, ofWake, wakesAt, outcomeDue}
 use Rattle.slots.specs.Tasks.{brokenOff, taskAt}
 use Rattle.slots.specs.Objects.{holderOf, kindAt}
-use Rattle.promises.specs.Types.{TaskSlot, ObjSlot, Asked, Call, Create, Delete, Suspend, Delay, Hold, Release, MakeQueue, MakeMutex, Send, Receive, Take, Give, Tick, Wake}
-use Rattle.promises.specs.Types.{Never, At, Place, Free, Ready, Delayed, Waiting, Suspended, Task, State}
+use Rattle.promises.specs.Types.{TaskSlot, ObjSlot, Asked, Call, Create, Delete, Suspend, Delay, Hold, Release, MakeQueue, MakeMutex, Send, Receive, Take, Give, Tick, Place}
+use Rattle.promises.specs.Types.{Task, State}
 use Rattle.promises.specs.Cases.{View, view, viewOf}
 use Rattle.rules.specs.Tables.{fresh, withTask, withTick, withHold}
 use Rattle.rules.specs.Lines.{level, leader, chosen, toTail}
@@ -91,16 +91,8 @@ abbrev pub dropsGiver : State → Asked → State
 dropsGiver = changed 16 (λ k a. prioritized (handedOn k (a .object)) (k .running) (ownPriority k) (ownPriority k))
 
 -- "Treating a wake tick smaller than the count as past."
-abbrev pub wakePast : ℕ → Wake → Bool
-wakePast n Never = false
-wakePast n (At w) = leb w n
-
 abbrev pub isPast : ℕ → Place → Bool
-isPast n Free = false
-isPast n Ready = false
-isPast n (Delayed w) = leb w n
-isPast n (Waiting o w) = wakePast n w
-isPast n Suspended = false
+isPast n p = ofWake false (λ w. leb w n) p
 
 abbrev pub wokenIfPast : State → ℕ → State
 wokenIfPast k n =
@@ -117,20 +109,12 @@ behind k t = if isReady (taskAt (k .tasks) t .place) then toTail k t else k
 abbrev pub losesTurn : State → State
 losesTurn k = let next = chosen k in if sameTask (next .running) (k .running) then next else behind next (k .running)
 
--- it waits on an object
-abbrev pub onObject : Place → Bool
-onObject Free = false
-onObject Ready = false
-onObject (Delayed w) = false
-onObject (Waiting o w) = true
-onObject Suspended = false
-
 -- "Letting a suspended task stay in an object's list, so an item lands in its slip.": a waiter that is suspended stays in the order, from which the lists are read,
 -- and a send to an empty queue finds it there as if it still waited; a kernel that lists a suspended task is not sound, so this one does not ask that
 abbrev pub staysIfWaiting : State → TaskSlot → State
 staysIfWaiting k t =
     let x = taskAt (k .tasks) t in
-    if onObject (x .place) then withTask k t (brokenOff x) else suspended k t
+    if isWaiting (x .place) then withTask k t (brokenOff x) else suspended k t
 
 -- the first of those who wait on the queue or stand suspended in the order, if it is a suspended one: a list of one, or of none
 abbrev pub stillFirst : State → ObjSlot → List TaskSlot

@@ -4,12 +4,12 @@ use mathlib.Core.Path.{_≡_, refl, sym, ap, _∙_, subst}
 use mathlib.Core.Bool.{Bool, true, false, false≢true}
 use mathlib.Core.List.{List, [], _∷_}
 use native.Mathlib.Omega.{arith}
-use lib.Dec.{eqb, ltb}
-use lib.ListN.{length}
-use borrow.Author.Tests.{eqb-true, eqb-false, eq-eqb, ne-eqb, ltb-true, ltb-false}
+use lib.Dec.{eqb}
+use borrow.Author.Tests.{eqb-true, eqb-false, eq-eqb, ne-eqb}
 use Rattle.lists.specs.Choice.{if_then_else_}
 use Rattle.lists.specs.Lists.{larger}
 use Rattle.lists.proofs.Bools.{on, not-off}
+use Rattle.lists.proofs.Tests.{larger-max}
 use Rattle.numbers.specs.Numbers.{idle, sameTask}
 use Rattle.calls.specs.Asked.{onObject}
 use Rattle.order.proofs.Lines.{one-number}
@@ -25,7 +25,7 @@ use Rattle.rows.specs.Applies.{namesNone, notForIdle, hisAlready, notHis}
 use Rattle.rules.specs.Waits.{wakeOf, arrives, waitFor}
 use Rattle.rules.specs.Loans.{prioritized, lent, ownAgain}
 use Rattle.rules.specs.Effects.{takenFrom, taken, handedTo, handedOn, given, effect}
-use Rattle.rules.proofs.Slots.{past-tasks}
+use Rattle.rules.proofs.Slots.{by-kind}
 use Rattle.rules.proofs.Held.{held-one, none-holds}
 use Rattle.rules.proofs.Passes.{Passed}
 use Rattle.rules.proofs.Within.{first-meant, first-within, first-single}
@@ -34,7 +34,7 @@ use Rattle.rules.proofs.Slotted.{at-same}
 use Rattle.rules.proofs.Objected.{object-nearly}
 use Rattle.rules.proofs.Chosen.{sound-nearly}
 use Rattle.rules.proofs.Blocks.{to-ready, to-wait, arrives-nearly, arrives-runs, Same, arrives-same, arrives-at, prioritized-same, prioritized-tasks, prioritized-nearly, prioritized-runs}
-use Rattle.rules.proofs.Keeps.{Keeps, wait-free, must-wait, some-wait, ready-low, apart}
+use Rattle.rules.proofs.Keeps.{Keeps, wait-free, must-wait, some-wait, there-low, ready-low, apart}
 use Rattle.rules.proofs.KeepTicks.{at-tick, reopen}
 use Rattle.rules.proofs.KeepObjects.{no-wait-free, object-low, first-none, wake-ahead}
 
@@ -43,19 +43,6 @@ mutex-used Unused e = absurd (false≢true e)
 mutex-used (Queue q) e = refl
 mutex-used (Mutex h) e = refl
 
-larger-both : (a b : ℕ) → (a ≤ larger a b) × (b ≤ larger a b)
-larger-both a b = go (ltb a b) refl
-  where
-    go : (c : Bool) → ltb a b ≡ c → (a ≤ (if c then b else a)) × (b ≤ (if c then b else a))
-    go true e = (omega (arith, ltb-true a b e), omega arith)
-    go false e = (omega arith, ltb-false a b e)
-
-larger-within : (a b n : ℕ) → a ≤ n → b ≤ n → larger a b ≤ n
-larger-within a b n h l = go (ltb a b)
-  where
-    go : (c : Bool) → (if c then b else a) ≤ n
-    go true = l
-    go false = h
 
 module _ (k : State) (S : Sound k) (store : ℕ) where
   N : Nearly (settled (k .tick)) k
@@ -128,18 +115,12 @@ module _ (k : State) (S : Sound k) (store : ℕ) where
         wait = some (ap isHeld e)
 
         holder-low : h .0 < 16
-        holder-low = go (ltb (h .0) 16) refl
-          where
-            go : (b : Bool) → ltb (h .0) 16 ≡ b → h .0 < 16
-            go true q = ltb-true (h .0) 16 q
-            go false q =
-                let past : length (k .tasks) ≤ h .0 = omega (arith, ltb-false (h .0) 16 q, S .tables .task-slots) in
-                absurd (S .tables .holders h o e (ap (λ (x : Task). x .place) (past-tasks (k .tasks) h past)))
+        holder-low = there-low (k .tasks) h (S .tables .task-slots) (S .tables .holders h o e)
 
         lent-nearly : Nearly (settled (k .tick)) j
         lent-nearly =
-            prioritized-nearly k N h holder-low (taskAt (k .tasks) h .own) eff (omega (arith, S .levels h .at-least, larger-both (level (k .tasks) h) (level (k .tasks) (k .running)) .0))
-            (larger-within (level (k .tasks) h) (level (k .tasks) (k .running)) 31 (S .levels h .range) (S .levels (k .running) .range))
+            let most = larger-max (level (k .tasks) h) (level (k .tasks) (k .running)) in
+            prioritized-nearly k N h holder-low (taskAt (k .tasks) h .own) eff (omega (arith, S .levels h .at-least)) (omega (arith, S .levels h .range, S .levels (k .running) .range))
             (λ c. absurd (c .1 o e)) (S .tables .holders h o e) (λ z. absurd (S .tables .idle-holds o (e ∙ ap (λ v. Mutex (By v)) (one-number h idle z))))
 
         may-wait : (p : ObjSlot) (v : Wake) → place ≡ Waiting p v → MayWait (j .running) (kindAt (j .objects) p)
@@ -154,13 +135,8 @@ module _ (k : State) (S : Sound k) (store : ℕ) where
 
     pub take-keeps : Keeps (effect k (onObject 15 AMutex o w))
     unfolding effect taken
-    take-keeps = go (kindAt (k .objects) o) refl is-mutex
-      where
-        go : (x : Kind) → kindAt (k .objects) o ≡ x → isMutex x ≡ true → Keeps (takenFrom k o x w)
-        go Unused e m = absurd (false≢true m)
-        go (Queue q) e m = absurd (false≢true m)
-        go (Mutex Nobody) e m = free-taken e
-        go (Mutex (By h)) e m = held-waited h e
+    take-keeps = by-kind (kindAt (k .objects) o) (λ x. isMutex x ≡ true → Keeps (takenFrom k o x w)) (λ m. absurd (false≢true m)) (λ q e m. absurd (false≢true m)) (λ e m. free-taken e)
+        (λ h e m. held-waited h e) is-mutex
 
   -- 16: give. On the way the giver may have a priority that it has to pay back
   module _ (o : ObjSlot) (P : Passed k (onObject 16 AMutex o 0) store) where

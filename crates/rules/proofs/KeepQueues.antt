@@ -11,7 +11,7 @@ use Rattle.lists.proofs.Bools.{on, not-off}
 use Rattle.calls.specs.Asked.{onObject}
 use Rattle.slots.specs.Places.{waitsOn}
 use Rattle.slots.specs.Objects.{isUnused, isQueue, isMutex, kindAt}
-use Rattle.rules.specs.Types.{TaskSlot, ObjSlot, Wake, Place, Free, Ready, Delayed, Waiting, Suspended, Ring, Kind, Unused, Queue, Mutex, WaitersOf, toWaiter, toQueue, toCaller, State, AQueue}
+use Rattle.rules.specs.Types.{TaskSlot, ObjSlot, Wake, Place, Free, Ready, Delayed, Waiting, Suspended, Ring, Kind, Queue, WaitersOf, toWaiter, toQueue, toCaller, State, AQueue}
 use Rattle.slots.specs.Tasks.{taskAt}
 use Rattle.rules.specs.Tables.{withObject}
 use Rattle.rules.specs.Lines.{first, toTail}
@@ -21,6 +21,7 @@ use Rattle.rules.specs.Waits.{arrives, waitFor}
 use Rattle.rules.specs.Items.{oneMore, oneLess, roomOr, outletFor, outlet, sentBy, sent, sentTo, refilledBy, received, receivedFrom}
 use Rattle.rules.specs.Effects.{effect}
 use Rattle.rules.proofs.Passes.{Passed}
+use Rattle.rules.proofs.Slots.{by-kind}
 use Rattle.rules.proofs.Within.{less-fits, first-meant, first-within, first-single}
 use Rattle.rules.proofs.Nearly.{settled, Nearly, RunsIn}
 use Rattle.rules.proofs.Objected.{object-nearly}
@@ -169,12 +170,10 @@ module _ (k : State) (S : Sound k) (store : ℕ) (o : ObjSlot) (w : ℕ) where
 
     pub send-keeps : Keeps (effect k (onObject 13 AQueue o w))
     unfolding effect
-    send-keeps = go (kindAt (k .objects) o) refl sends-queue
-      where
-        go : (x : Kind) → kindAt (k .objects) o ≡ x → isQueue x ≡ true → Keeps (sentTo k o x w)
-        go Unused e m = absurd (false≢true m)
-        go (Queue q) e m = sent-keeps k S o q e w (send-waits q e) (λ s. wait-busy k (onObject 13 AQueue o w) (P .idle) (waiting s)) (λ s. wait-free k (onObject 13 AQueue o w) (P .held) (waiting s))
-        go (Mutex h) e m = absurd (false≢true m)
+    send-keeps =
+        by-kind (kindAt (k .objects) o) (λ x. isQueue x ≡ true → Keeps (sentTo k o x w)) (λ m. absurd (false≢true m))
+        (λ q e m. sent-keeps k S o q e w (send-waits q e) (λ s. wait-busy k (onObject 13 AQueue o w) (P .idle) (waiting s)) (λ s. wait-free k (onObject 13 AQueue o w) (P .held) (waiting s)))
+        (λ e m. absurd (false≢true m)) (λ h e m. absurd (false≢true m)) sends-queue
 
   module _ (P : Passed k (onObject 14 AQueue o w) store) where
     receives-queue : isQueue (kindAt (k .objects) o) ≡ true
@@ -186,10 +185,7 @@ module _ (k : State) (S : Sound k) (store : ℕ) (o : ObjSlot) (w : ℕ) where
 
     pub receive-keeps : Keeps (effect k (onObject 14 AQueue o w))
     unfolding effect
-    receive-keeps = go (kindAt (k .objects) o) refl receives-queue
-      where
-        go : (x : Kind) → kindAt (k .objects) o ≡ x → isQueue x ≡ true → Keeps (receivedFrom k o x w)
-        go Unused e m = absurd (false≢true m)
-        go (Queue q) e m =
-            received-keeps k S o q e w (receive-waits q e) (λ s. wait-busy k (onObject 14 AQueue o w) (P .idle) (waiting s)) (λ s. wait-free k (onObject 14 AQueue o w) (P .held) (waiting s))
-        go (Mutex h) e m = absurd (false≢true m)
+    receive-keeps =
+        by-kind (kindAt (k .objects) o) (λ x. isQueue x ≡ true → Keeps (receivedFrom k o x w)) (λ m. absurd (false≢true m))
+        (λ q e m. received-keeps k S o q e w (receive-waits q e) (λ s. wait-busy k (onObject 14 AQueue o w) (P .idle) (waiting s)) (λ s. wait-free k (onObject 14 AQueue o w) (P .held) (waiting s)))
+        (λ e m. absurd (false≢true m)) (λ h e m. absurd (false≢true m)) receives-queue

@@ -1,13 +1,15 @@
 -- Calls 1 to 7 keep soundness: create, delete, suspend, resume, set priority, delay, yield.
-use Prim.Native.Nat.{ℕ, _+_, _<_, _≤_}
+use Prim.Native.Nat.{ℕ, _<_, _≤_}
 use mathlib.Core.Path.{_≡_, refl, sym, ap, _∙_}
 use mathlib.Core.Bool.{Bool, true, false, not, _&&_, false≢true}
 use native.Mathlib.Omega.{arith}
-use lib.Dec.{eqb, ltb, leb}
-use borrow.Author.Tests.{ne-eqb, leb-false, eqb-true, eqb-false, eq-eqb, ltb-false, lt-ltb, le-leb}
+use lib.ListN.{length}
+use lib.Dec.{eqb, leb}
+use borrow.Author.Tests.{ne-eqb, leb-false, eqb-true, eqb-false, eq-eqb, lt-ltb, le-leb}
 use Rattle.lists.specs.Choice.{if_then_else_}
 use Rattle.lists.specs.Lists.{larger}
 use Rattle.lists.proofs.Bools.{and-intro, on, not-off, or-off}
+use Rattle.lists.proofs.Tests.{larger-max}
 use Rattle.numbers.specs.Numbers.{task, idle, isIdle}
 use Rattle.calls.specs.Asked.{nothing, onTask}
 use Rattle.order.proofs.Lines.{one-number}
@@ -45,22 +47,25 @@ module _ (k : State) (S : Sound k) (store : ℕ) where
 
   -- 1: create
   module _ (p : ℕ) (P : Passed k (nothing 1 p 0 1 0) store) where
-    t : TaskSlot
+    abbrev t : TaskSlot
     t = task (freeSlot (k .tasks))
 
     small : p ≤ 31
     small = range (nothing 1 p 0 1 0) (P .in-range) .low
 
-    has-slot : t .0 < 16
-    unfolding noSlot freeSlot t
+    pub has-slot : t .0 < length (k .tasks)
+    unfolding noSlot freeSlot
     has-slot =
         let most = index-most (λ (x : Task). isFree (x .place)) freeTask (k .tasks) in
         let d = eqb-false (freeSlot (k .tasks)) 16 (P .slot) in
         omega (arith, d, S .tables .task-slots)
 
-    is-free : isFree (taskAt (k .tasks) t .place) ≡ true
-    unfolding t freeSlot taskAt has-slot
-    is-free = index-passes (λ (x : Task). isFree (x .place)) freeTask (k .tasks) (omega (arith, has-slot, S .tables .task-slots))
+    pub is-free : isFree (taskAt (k .tasks) t .place) ≡ true
+    unfolding freeSlot taskAt
+    is-free = index-passes (λ (x : Task). isFree (x .place)) freeTask (k .tasks) has-slot
+
+    low : t .0 < 16
+    low = omega (arith, has-slot, S .tables .task-slots)
 
     not-ready : (u : TaskSlot) → taskAt (k .tasks) u .place ≡ Ready → u .0 ≡ t .0 → ⊥
     not-ready u e q = apart (k .tasks) t u isFree is-free (ap isFree e) (sym q)
@@ -80,11 +85,11 @@ module _ (k : State) (S : Sound k) (store : ℕ) where
     no-hold o h e = let z : _≡_ {A = ℕ} 0 1 = cc in omega arith
 
     pub create-keeps : Keeps (effect k (nothing 1 p 0 1 0))
-    unfolding effect created t toTail
+    unfolding effect created toTail
     create-keeps =
         record {
-          nearly = tail-nearly k N t (readyAt p) has-slot fine no-hold not-idle refl;
-          runs = λ h. runs-tail k R t (readyAt p) (created k p) refl refl (not-ready (k .running) (R .ready)) (tail-listed k N t (readyAt p) has-slot fine no-hold not-idle refl);
+          nearly = tail-nearly k N t (readyAt p) low fine no-hold not-idle refl;
+          runs = λ h. runs-tail k R t (readyAt p) (created k p) refl refl (not-ready (k .running) (R .ready)) (tail-listed k N t (readyAt p) low fine no-hold not-idle refl);
         }
 
   -- 2: delete
@@ -207,27 +212,13 @@ module _ (k : State) (S : Sound k) (store : ℕ) where
     unfolding notForIdle
     idle-to-0 e = eqb-true p 0 (on (eqb p 0) (rw (eq-eqb (t .0) 0 e) at (or-off (isIdle t && not (eqb p 0)) _ (P .idle) .0)))
 
-    larger-least : (a b : ℕ) → (b ≤ larger a b) × (larger a b ≤ a + b)
-    larger-least a b = go (ltb a b) refl
-      where
-        go : (c : Bool) → ltb a b ≡ c → (b ≤ (if c then b else a)) × ((if c then b else a) ≤ a + b)
-        go true e = (omega arith, omega arith)
-        go false e = (omega (arith, ltb-false a b e), omega arith)
-
-    larger-most : (a b n : ℕ) → a ≤ n → b ≤ n → larger a b ≤ n
-    larger-most a b n h l = go (ltb a b)
-      where
-        go : (c : Bool) → (if c then b else a) ≤ n
-        go true = l
-        go false = h
-
     abbrev eff : Bool → ℕ
     eff h = if h then larger (level (k .tasks) t) p else p
 
     given : (b : Bool) → holds (k .objects) t ≡ b → (p ≤ eff b) × (eff b ≤ 31) × (HoldsNothing (k .objects) t → p ≡ eff b) × (t .0 ≡ 0 → eff b ≡ 0)
     given true e = (
-      larger-least (level (k .tasks) t) p .0,
-      larger-most (level (k .tasks) t) p 31 (S .levels t .range) in-range,
+      omega (arith, larger-max (level (k .tasks) t) p),
+      omega (arith, larger-max (level (k .tasks) t) p, S .levels t .range, in-range),
       (λ n. absurd (false≢true (sym (none-holds (k .objects) t n) ∙ e))),
       (λ z. absurd (false≢true (sym (none-holds (k .objects) t (λ o. rw (one-number t idle z) (S .tables .idle-holds o))) ∙ e))),
     )

@@ -26,7 +26,7 @@ use Rattle.rows.specs.Applies.{noDepth, noTick}
 use Rattle.rules.specs.Waits.{later, arrives}
 use Rattle.rules.specs.Ticks.{wokenIfDue, wakes, oneTick, turned, ticked, ticks, released, held}
 use Rattle.rules.specs.Effects.{effect}
-use Rattle.rules.proofs.Slots.{past-tasks}
+use Rattle.rules.proofs.Slots.{past-tasks, passes-there}
 use Rattle.rules.proofs.Passes.{Passed}
 use Rattle.rules.proofs.Nearly.{Owing, settled, level-as, Nearly, RunsIn}
 use Rattle.rules.proofs.Slotted.{at-other, moved-nearly}
@@ -62,11 +62,7 @@ record Woken (tick : ℕ) (asked : TaskSlot → Bool) (j : State) : Type 0 where
 
 -- who is due exists
 pub due-there : (n : ℕ) (p : Place) → wakesAt n p ≡ true → isFree p ≡ false
-due-there n Free e = absurd (false≢true e)
-due-there n Ready e = refl
-due-there n (Delayed w) e = refl
-due-there n (Waiting q w) e = refl
-due-there n Suspended e = refl
+due-there n p e = passes-there (wakesAt n) p refl e
 
 -- who is due is delayed or waits, and its outcome is 1 or 2
 due-outcome : (p : Place) → outcomeDue p ≤ 3

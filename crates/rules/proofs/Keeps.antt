@@ -9,7 +9,7 @@ use lib.ListN.{length, getD}
 use borrow.Author.Tests.{ltb-true, ltb-false, lt-ltb, eqb-true, eqb-false}
 use Rattle.lists.specs.Choice.{if_then_else_}
 use Rattle.lists.specs.Lists.{index}
-use Rattle.lists.proofs.Bools.{off, or-off}
+use Rattle.lists.proofs.Bools.{off, or-off, or-right}
 use Rattle.numbers.specs.Numbers.{sameTask, isIdle}
 use Rattle.calls.specs.Asked.{asked}
 use Rattle.slots.specs.Places.{isFree}
@@ -49,15 +49,11 @@ kept k c item s e f = rw e (go (eqb (laterRow k (asked c) (length item) (length 
 
 -- ── small laws that the calls share
 -- a call with a wait is not idle's, and not made with a hold
-or-true : (a b : Bool) → b ≡ true → (a || b) ≡ true
-or-true true b e = refl
-or-true false b e = e
-
 pub wait-busy : (k : State) (a : Asked) → notForIdle (seen k a) a ≡ false → waits a ≡ true → k .running .0 ≡ 0 → ⊥
 unfolding notForIdle
 wait-busy k a e w =
     let f : ((is 6 a || (is 15 a || waits a)) && isIdle (k .running)) ≡ false = or-off (is 5 a && (isIdle (a .task) && not (eqb (a .priority) 0))) _ (or-off (stops a && isIdle (a .task)) _ e .1) .1 in
-    let g : (is 6 a || (is 15 a || waits a)) ≡ true = or-true (is 6 a) (is 15 a || waits a) (or-true (is 15 a) (waits a) w) in
+    let g : (is 6 a || (is 15 a || waits a)) ≡ true = or-right (is 6 a) (is 15 a || waits a) (or-right (is 15 a) (waits a) w) in
     eqb-false (k .running .0) 0 (rw g at f)
 
 pub wait-free : (k : State) (a : Asked) → notWithHold (seen k a) a ≡ false → waits a ≡ true → 0 < k .hold → ⊥
@@ -79,17 +75,18 @@ pub some-wait : (a : Asked) → waits a ≡ true → 0 < a .wait
 some-wait a e = omega (arith, eqb-false (a .wait) 0 (off (eqb (a .wait) 0) e))
 
 -- a task that exists has a slot
-pub exists-low : (ts : List Task) (t : TaskSlot) → length ts ≡ 16 → isFree (taskAt ts t .place) ≡ false → t .0 < 16
-exists-low ts t l e = go (ltb (t .0) 16) refl
+pub there-low : (ts : List Task) (t : TaskSlot) → length ts ≡ 16 → Exists ts t → t .0 < 16
+there-low ts t l e = go (ltb (t .0) 16) refl
   where
     go : (b : Bool) → ltb (t .0) 16 ≡ b → t .0 < 16
     go true q = ltb-true (t .0) 16 q
-    go false q =
-        let past : length ts ≤ t .0 = omega (arith, ltb-false (t .0) 16 q) in
-        absurd (false≢true (sym e ∙ ap (λ (x : Task). isFree (x .place)) (past-tasks ts t past)))
+    go false q = let past : length ts ≤ t .0 = omega (arith, ltb-false (t .0) 16 q) in absurd (e (ap (λ (x : Task). x .place) (past-tasks ts t past)))
 
 pub not-free : (ts : List Task) (t : TaskSlot) → isFree (taskAt ts t .place) ≡ false → Exists ts t
 not-free ts t e q = false≢true (sym e ∙ ap isFree q)
+
+pub exists-low : (ts : List Task) (t : TaskSlot) → length ts ≡ 16 → isFree (taskAt ts t .place) ≡ false → t .0 < 16
+exists-low ts t l e = there-low ts t l (not-free ts t e)
 
 pub ready-low : (ts : List Task) (t : TaskSlot) → length ts ≡ 16 → taskAt ts t .place ≡ Ready → t .0 < 16
 ready-low ts t l e = exists-low ts t l (ap isFree e)

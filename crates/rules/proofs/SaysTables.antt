@@ -16,7 +16,7 @@ use Rattle.rules.specs.Types.{TaskSlot, ObjSlot, Place, Free, Ready, Del
 use Rattle.rules.specs.Tables.{holds}
 use Rattle.rules.specs.Sound.{slotTask, sixteen, waitersFine, holdersThere, ringsInRange, outcomesFine, freshSlots, tablesFine}
 use Rattle.rules.specs.Sentences.{MayWait, receiver, sender, taker, RingFits, TaskFits, Tables}
-use Rattle.rules.proofs.Slots.{any-task, any-kind, is-ready}
+use Rattle.rules.proofs.Slots.{any-task, any-kind, is-ready, exists-there}
 use Rattle.rules.proofs.Held.{none-holds, not-held}
 
 -- ── the tests by their names
@@ -165,19 +165,12 @@ module _ (os : List Object) (t : TaskSlot) (x : Task) (F : TaskFits os t x) wher
   fresh-fine (Waiting o w) e = refl
   fresh-fine Suspended e = refl
 
-not-free : (p : Place) → (p ≡ Free → ⊥) → not (isFree p) ≡ true
-not-free Free n = absurd (n refl)
-not-free Ready n = refl
-not-free (Delayed w) n = refl
-not-free (Waiting o w) n = refl
-not-free Suspended n = refl
-
 module _ (ts : List Task) (os : List Object) (S : Tables ts os) where
   holder-fine : (o : ObjSlot) (x : Kind) → kindAt os o ≡ x → holderThere ts x ≡ true
   holder-fine o Unused e = refl
   holder-fine o (Queue q) e = refl
   holder-fine o (Mutex Nobody) e = refl
-  holder-fine o (Mutex (By t)) e = not-free (taskAt ts t .place) (S .holders t o e)
+  holder-fine o (Mutex (By t)) e = not-off (isFree (taskAt ts t .place)) (exists-there (taskAt ts t .place) (S .holders t o e))
 
   ring-fine : (o : ObjSlot) (x : Kind) → kindAt os o ≡ x → ringInRange x ≡ true
   ring-fine o Unused e = refl

@@ -1,6 +1,6 @@
 -- A number past a table names a free slot, so what holds of each slot holds of each number.
 use Prim.Native.Nat.{_≤_}
-use mathlib.Core.Path.{_≡_, refl, ap}
+use mathlib.Core.Path.{_≡_, refl, sym, ap, _∙_}
 use mathlib.Core.Bool.{Bool, true, false, false≢true}
 use mathlib.Core.List.{List}
 use native.Mathlib.Omega.{arith}
@@ -10,10 +10,10 @@ use borrow.Author.Tests.{ltb-true, ltb-false}
 use Rattle.lists.specs.Lists.{allBelow}
 use Rattle.lists.proofs.Bools.{all-below}
 use Rattle.numbers.specs.Numbers.{task, object}
-use Rattle.slots.specs.Places.{isReady}
+use Rattle.slots.specs.Places.{isFree, isReady}
 use Rattle.slots.specs.Tasks.{freeTask, taskAt}
 use Rattle.slots.specs.Objects.{unused, kindAt}
-use Rattle.rules.specs.Types.{TaskSlot, ObjSlot, Place, Free, Ready, Delayed, Waiting, Suspended, Task, Kind, Object, Unused}
+use Rattle.rules.specs.Types.{TaskSlot, ObjSlot, Place, Free, Ready, Delayed, Waiting, Suspended, Task, Ring, Nobody, By, Kind, Object, Unused, Queue, Mutex}
 
 pub past-tasks : (ts : List Task) (t : TaskSlot) → length ts ≤ t .0 → taskAt ts t ≡ freeTask
 unfolding taskAt
@@ -46,3 +46,22 @@ is-ready Ready e = refl
 is-ready (Delayed w) e = absurd (false≢true e)
 is-ready (Waiting o w) e = absurd (false≢true e)
 is-ready Suspended e = absurd (false≢true e)
+
+-- a task that exists has a place; so has one that passes a test which no free slot passes
+pub exists-there : (p : Place) → (p ≡ Free → ⊥) → isFree p ≡ false
+exists-there Free n = absurd (n refl)
+exists-there Ready n = refl
+exists-there (Delayed w) n = refl
+exists-there (Waiting o w) n = refl
+exists-there Suspended n = refl
+
+pub passes-there : (f : Place → Bool) (p : Place) → f Free ≡ false → f p ≡ true → isFree p ≡ false
+passes-there f p z e = exists-there p (λ q. false≢true (sym z ∙ ap f (sym q) ∙ e))
+
+-- by the kind of an object
+pub by-kind : (x : Kind) (P : Kind → Type 0) → P Unused → ((q : Ring) → x ≡ Queue q → P (Queue q)) → (x ≡ Mutex Nobody → P (Mutex Nobody)) → ((t : TaskSlot) → x ≡ Mutex (By t) → P (Mutex (By t)))
+    → P x
+by-kind Unused P none queue free held = none
+by-kind (Queue q) P none queue free held = queue q refl
+by-kind (Mutex Nobody) P none queue free held = free refl
+by-kind (Mutex (By t)) P none queue free held = held t refl

@@ -9,13 +9,30 @@ use lib.ListN.{length, getD, set, drop, drop-of-length-le}
 use lib.Seq.{drop-cons}
 use borrow.Author.Tests.{eqb-true, eqb-false}
 use Rattle.lists.specs.Choice.{if_then_else_}
-use Rattle.lists.specs.Lists.{foldl, index, any, upTo}
+use Rattle.lists.specs.Lists.{foldl, index, any, upTo, values}
 
 -- a store to a list, seen through a function of its elements
 pub map-set : {A B : Type 0} (f : A → B) (xs : List A) (n : ℕ) (x : A) → set (map f xs) n (f x) ≡ map f (set xs n x)
 map-set f [] n x = refl
 map-set f (y ∷ ys) zero x = refl
 map-set {B = B} f (y ∷ ys) (suc n) x = ap (λ (zs : List B). f y ∷ zs) (map-set f ys n x)
+
+-- the rows that are read at 0, 1, ..: how many, each of them, and those of a list
+pub values-many : {A : Type 0} (f : ℕ → A) (n : ℕ) → length (values f n) ≡ n
+unfolding values
+values-many f zero = refl
+values-many f (suc n) = ap suc (values-many (λ i. f (suc i)) n)
+
+pub value-at : {A : Type 0} (f : ℕ → A) (n i : ℕ) (d : A) → i < n → getD (values f n) i d ≡ f i
+unfolding values
+value-at f zero i d h = absurd (omega arith)
+value-at f (suc n) zero d h = refl
+value-at f (suc n) (suc i) d h = value-at (λ j. f (suc j)) n i d (omega arith)
+
+pub values-of : {A : Type 0} (f : ℕ → A) (xs : List A) (d : A) → ((i : ℕ) → f i ≡ getD xs i d) → values f (length xs) ≡ xs
+unfolding values
+values-of f [] d e = refl
+values-of f (x ∷ xs) d e = λ j. e 0 j ∷ values-of (λ i. f (suc i)) xs d (λ i. e (suc i)) j
 
 -- taking the numbers in turn is taking the rows, where each number does what its row does
 module _ {A B : Type 0} (f : B → A → B) (g : B → ℕ → B) (xs : List A) (d : A) (same : (b : B) (i : ℕ) → i < length xs → g b i ≡ f b (getD xs i d)) (b : B) where

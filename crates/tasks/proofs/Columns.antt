@@ -1,12 +1,12 @@
 -- The columns and the list of tasks that they stand for.
-use Prim.Native.Nat.{ℕ, zero, suc, _+_, _<_, _≤_}
-use mathlib.Core.Path.{_≡_, refl, ap, _∙_}
+use Prim.Native.Nat.{ℕ, _<_, _≤_}
+use mathlib.Core.Path.{_≡_, refl}
+use mathlib.Core.Bool.{true, _&&_}
 use mathlib.Core.List.{List}
-use native.Mathlib.Nat.{not-suc-le-zero, le-of-suc-le-suc}
 use native.Mathlib.Omega.{arith}
 use lib.ListN.{length, getD, set, length-map, List·getD-map, List·getD-eq-default}
-use lib.Seq.{set-out, map-set-same, ext-getD}
-use Rattle.slots.proofs.Sweeps.{map-set}
+use lib.Seq.{set-out, map-set-same}
+use Rattle.slots.proofs.Sweeps.{map-set, values-many, value-at, values-of}
 use Rattle.slots.specs.declared.Wake.the-variants.{Never, At}
 use Rattle.slots.specs.declared.Place.{Place}
 use Rattle.slots.specs.declared.Place.the-variants.{Free, Ready, Delayed, Waiting, Suspended}
@@ -14,17 +14,18 @@ use Rattle.slots.specs.declared.Task.{Task}
 use Rattle.slots.specs.Tasks.{freeTask, placed, ranked}
 use Rattle.tasks.specs.declared.Tasks.{Tasks}
 use Rattle.tasks.specs.Cells.{cellsOf, placeOf}
-use Rattle.tasks.specs.Rows.{stateOf, objectOf, wakeOf, tasksOf, put, placedAt, rankedAt, rowAt, rowsFrom, rowsOf}
+use Rattle.tasks.specs.Known.{known, wakeKnown}
+use Rattle.tasks.specs.Rows.{stateOf, objectOf, wakeOf, tasksOf, put, placedAt, rankedAt, rowAt, rowsOf}
 
--- the numbers of a place say it
-pub place-back : (p : Place) → placeOf (cellsOf p) ≡ p
+-- the numbers of a place say it, and one that it does not use is 0
+pub place-back : (p : Place) → (placeOf (cellsOf p) ≡ p) × ((known (cellsOf p .state) (cellsOf p .object) && wakeKnown (cellsOf p .state) (cellsOf p .wake)) ≡ true)
 unfolding placeOf
-place-back Free = refl
-place-back Ready = refl
-place-back (Delayed w) = refl
-place-back (Waiting o (At w)) = refl
-place-back (Waiting o Never) = refl
-place-back Suspended = refl
+place-back Free = (refl, refl)
+place-back Ready = (refl, refl)
+place-back (Delayed w) = (refl, refl)
+place-back (Waiting o (At w)) = (refl, refl)
+place-back (Waiting o Never) = (refl, refl)
+place-back Suspended = (refl, refl)
 
 -- a row of the columns that stand for a list is the list's element
 pub row-of : (xs : List Task) (n : ℕ) → rowAt (tasksOf xs) n ≡ getD xs n freeTask
@@ -32,7 +33,7 @@ unfolding rowAt tasksOf
 row-of xs n =
     rw (List·getD-map stateOf xs n freeTask, List·getD-map objectOf xs n freeTask, List·getD-map wakeOf xs n freeTask)
     (rw (List·getD-map (λ (x : Task). x .own) xs n freeTask, List·getD-map (λ (x : Task). x .effective) xs n freeTask)
-    (rw (List·getD-map (λ (x : Task). x .outcome) xs n freeTask, place-back (getD xs n freeTask .place))))
+    (rw (List·getD-map (λ (x : Task). x .outcome) xs n freeTask, place-back (getD xs n freeTask .place) .0)))
 
 -- a store to them is a store to the list
 pub put-of : (xs : List Task) (n : ℕ) (x : Task) → put (tasksOf xs) n x ≡ tasksOf (set xs n x)
@@ -90,32 +91,15 @@ module _ (ts : Tasks) (f : Full ts) (n : ℕ) (h : 16 ≤ n) where
   lost-rank own effective = rw (set-out (ts .own) n own (omega arith), set-out (ts .effective) n effective (omega arith))
 
 -- the list has sixteen tasks, and each is its row
-pub rows-length : (ts : Tasks) (i n : ℕ) → length (rowsFrom ts i n) ≡ n
-unfolding rowsFrom
-rows-length ts i zero = refl
-rows-length ts i (suc n) = ap suc (rows-length ts (suc i) n)
-
-rows-at : (ts : Tasks) (i n j : ℕ) → j < n → getD (rowsFrom ts i n) j freeTask ≡ rowAt ts (i + j)
-unfolding rowsFrom
-rows-at ts i zero j h = absurd (not-suc-le-zero h)
-rows-at ts i (suc n) zero h = ap (rowAt ts) (omega arith)
-rows-at ts i (suc n) (suc j) h = rows-at ts (suc i) n j (le-of-suc-le-suc h) ∙ ap (rowAt ts) (omega arith)
-
 pub row-at : (ts : Tasks) (n : ℕ) → n < length (ts .state) → getD (rowsOf ts) n freeTask ≡ rowAt ts n
 unfolding rowsOf
-row-at ts n h = rows-at ts 0 (length (ts .state)) n h ∙ ap (rowAt ts) (omega arith)
+row-at ts n h = value-at (rowAt ts) (length (ts .state)) n freeTask h
 
 pub rows-many : (ts : Tasks) → length (rowsOf ts) ≡ length (ts .state)
 unfolding rowsOf
-rows-many ts = rows-length ts 0 (length (ts .state))
+rows-many ts = values-many (rowAt ts) (length (ts .state))
 
 -- the columns that stand for a list read as that list
 pub rows-of : (xs : List Task) → rowsOf (tasksOf xs) ≡ xs
-unfolding tasksOf
-rows-of xs = ext-getD freeTask (rowsOf (tasksOf xs)) xs long at
-  where
-    long : length (rowsOf (tasksOf xs)) ≡ length xs
-    long = rows-many (tasksOf xs) ∙ length-map xs stateOf
-
-    at : (i : ℕ) → i < length (rowsOf (tasksOf xs)) → getD (rowsOf (tasksOf xs)) i freeTask ≡ getD xs i freeTask
-    at i h = row-at (tasksOf xs) i (rw (← rows-many (tasksOf xs)) h) ∙ row-of xs i
+unfolding rowsOf tasksOf
+rows-of xs = rw (length-map xs stateOf) (values-of (rowAt (tasksOf xs)) xs freeTask (row-of xs))

@@ -10,6 +10,7 @@ use borrow.Author.Tests.{eqb-true, eqb-false, ne-eqb, ltb-true, ltb-false, lt-lt
 use Rattle.lists.specs.Choice.{if_then_else_}
 use Rattle.lists.specs.Lists.{foldl, any, kept, larger, isNone}
 use Rattle.lists.proofs.Bools.{or-off, and-left}
+use Rattle.lists.proofs.Tests.{larger-max}
 use Rattle.numbers.specs.declared.TaskSlot.{TaskSlot}
 use Rattle.numbers.specs.declared.ObjSlot.{ObjSlot}
 use Rattle.numbers.specs.Numbers.{sameTask, task}
@@ -41,18 +42,22 @@ and-never : (a b : Bool) → b ≡ false → (a && b) ≡ false
 and-never true b e = e
 and-never false b e = refl
 
+-- what is so of each row, and of a free slot, is so of every slot
+every-slot : (ts : Tasks) → Full ts → (P : Task → Type 0) → P freeTask → (n : ℕ) → (n < length (ts .state) → P (rowAt ts n)) → P (rowAt ts n)
+every-slot ts full P free n at = go (ltb n 16) refl
+  where
+    go : (b : Bool) → ltb n 16 ≡ b → P (rowAt ts n)
+    go true q = at (omega (arith, ltb-true n 16 q))
+    go false q = rw (past-row ts full n (ltb-false n 16 q)) free
+
 module _ (ts : Tasks) (full : Full ts) where
   -- nobody's wake tick is now
   module _ (now : ℕ) (none : wakeNow ts now ≡ false) where
     not-due : (n : ℕ) → wakesAt now (rowAt ts n .place) ≡ false
     unfolding wakeNow
-    not-due n = go (ltb n 16) refl
-      where
-        go : (b : Bool) → ltb n 16 ≡ b → wakesAt now (rowAt ts n .place) ≡ false
-        go true q =
-            let l : n < length (ts .wake) = omega (arith, ltb-true n 16 q) in
-            row-due ts n now ∙ and-never (timed (getD (ts .state) n 0)) _ (none-passes (λ w. eqb w now) (ts .wake) 0 none n l)
-        go false q = rw (past-row ts full n (ltb-false n 16 q))
+    not-due n =
+        every-slot ts full (λ x. wakesAt now (x .place) ≡ false) refl n
+        (λ l. row-due ts n now ∙ and-never (timed (getD (ts .state) n 0)) _ (none-passes (λ w. eqb w now) (ts .wake) 0 none n (omega arith)))
 
     pub none-woken : (o : Order) (l : List TaskSlot) → woken ts o ≡ wakesIn now (woken ts o) l
     unfolding wakesIn foldl wakeIn
@@ -63,13 +68,9 @@ module _ (ts : Tasks) (full : Full ts) where
   module _ (o : ObjSlot) (none : waitedIn ts o ≡ false) where
     not-waits : (n : ℕ) → waitsOn o (rowAt ts n .place) ≡ false
     unfolding waitedIn
-    not-waits n = go (ltb n 16) refl
-      where
-        go : (b : Bool) → ltb n 16 ≡ b → waitsOn o (rowAt ts n .place) ≡ false
-        go true q =
-            let l : n < length (ts .state) = omega (arith, ltb-true n 16 q) in
-            rw (← row-at ts n l) (none-passes (λ (x : Task). waitsOn o (x .place)) (rowsOf ts) freeTask none n (rw (rows-many ts) l))
-        go false q = rw (past-row ts full n (ltb-false n 16 q))
+    not-waits n =
+        every-slot ts full (λ x. waitsOn o (x .place) ≡ false) refl n
+        (λ l. rw (← row-at ts n l) (none-passes (λ (x : Task). waitsOn o (x .place)) (rowsOf ts) freeTask none n (rw (rows-many ts) l)))
 
     pub none-waited : (l : List TaskSlot) → Open ≡ leadIn ts (WaitersOf o) l
     unfolding leadIn foldl better
@@ -77,40 +78,20 @@ module _ (ts : Tasks) (full : Full ts) where
     none-waited (t ∷ l) = none-waited l ∙ ap (λ (b : Lead). foldl (λ c u. better (WaitersOf o) c u (rowAt ts (u .0))) b l) (sym (rw (not-waits (t .0))))
 
 -- ── the highest line
-larger-left : (a b : ℕ) → a ≤ larger a b
-larger-left a b = go (ltb a b) refl
-  where
-    go : (c : Bool) → ltb a b ≡ c → a ≤ (if c then b else a)
-    go true e = omega (arith, ltb-true a b e)
-    go false e = omega arith
-
-larger-right : (a b : ℕ) → b ≤ larger a b
-larger-right a b = go (ltb a b) refl
-  where
-    go : (c : Bool) → ltb a b ≡ c → b ≤ (if c then b else a)
-    go true e = omega arith
-    go false e = omega (arith, ltb-false a b e)
-
 top-start : (m : ℕ) (xs : List Task) → m ≤ foldl (λ k x. larger k (readyLevel x)) m xs
 unfolding foldl
 top-start m [] = omega arith
-top-start m (x ∷ xs) = omega (arith, larger-left m (readyLevel x), top-start (larger m (readyLevel x)) xs)
+top-start m (x ∷ xs) = omega (arith, larger-max m (readyLevel x), top-start (larger m (readyLevel x)) xs)
 
 top-row : (m : ℕ) (xs : List Task) (i : ℕ) → i < length xs → readyLevel (getD xs i freeTask) ≤ foldl (λ k x. larger k (readyLevel x)) m xs
 unfolding foldl
 top-row m [] i l = absurd (omega arith)
-top-row m (x ∷ xs) zero l = omega (arith, larger-right m (readyLevel x), top-start (larger m (readyLevel x)) xs)
+top-row m (x ∷ xs) zero l = omega (arith, larger-max m (readyLevel x), top-start (larger m (readyLevel x)) xs)
 top-row m (x ∷ xs) (suc i) l = top-row (larger m (readyLevel x)) xs i (omega arith)
 
 pub row-low : (ts : Tasks) → Full ts → (n : ℕ) → readyLevel (rowAt ts n) ≤ topIn ts
 unfolding topIn
-row-low ts full n = go (ltb n 16) refl
-  where
-    go : (b : Bool) → ltb n 16 ≡ b → readyLevel (rowAt ts n) ≤ foldl (λ k x. larger k (readyLevel x)) 0 (rowsOf ts)
-    go true q =
-        let l : n < length (ts .state) = omega (arith, ltb-true n 16 q) in
-        rw (← row-at ts n l) (top-row 0 (rowsOf ts) n (rw (rows-many ts) l))
-    go false q = rw (past-row ts full n (ltb-false n 16 q)) (omega arith)
+row-low ts full n = every-slot ts full (λ x. readyLevel x ≤ topIn ts) (omega arith) n (λ l. rw (← row-at ts n l) (top-row 0 (rowsOf ts) n (rw (rows-many ts) l)))
 
 -- those who led so far stand lower
 abbrev Under : ℕ → Lead → Type 0
@@ -204,11 +185,8 @@ module _ (ts : Tasks) (full : Full ts) (l : List TaskSlot) (u : TaskSlot) where
 
   -- a slot past the table is not ready
   in-table : isReady (x .place) ≡ true → ltb (u .0) 16 ≡ true
-  in-table e = go (ltb (u .0) 16) refl
-    where
-      go : (b : Bool) → ltb (u .0) 16 ≡ b → b ≡ true
-      go true q = refl
-      go false q = absurd (false≢true (rw (past-row ts full (u .0) (ltb-false (u .0) 16 q)) at e))
+  in-table =
+      every-slot ts full (λ y. isReady (y .place) ≡ true → ltb (u .0) 16 ≡ true) (λ e. absurd (false≢true e)) (u .0) (λ l e. lt-ltb (u .0) 16 (omega arith))
 
   pub runs-is : (p : ℕ) (b : Bool) → (ltb (u .0) 16 && (sameTask (headOr (lineIn ts p l)) u && b)) ≡ (isReady (x .place) && (headed (lineIn ts p l) u && b))
   unfolding lineIn

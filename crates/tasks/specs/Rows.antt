@@ -1,8 +1,8 @@
 -- The table as a list of tasks, in the words of the rules; and as the columns that stand for it.
-use Prim.Native.Nat.{ℕ, zero, suc}
-use mathlib.Core.List.{List, [], _∷_, map}
+use Prim.Native.Nat.{ℕ}
+use mathlib.Core.List.{List, map}
 use lib.ListN.{length, getD, set}
-use Rattle.lists.specs.Lists.{index}
+use Rattle.lists.specs.Lists.{index, values}
 use Rattle.slots.specs.declared.Place.{Place}
 use Rattle.slots.specs.declared.Task.{Task}
 use Rattle.slots.specs.Places.{isFree}
@@ -77,13 +77,9 @@ rowAt ts n =
       outcome = getD (ts .outcome) n 0;
     }
 
--- the rows from `i` on, `n` of them; and the table as a list
-unfoldable pub rowsFrom : Tasks → ℕ → ℕ → List Task
-rowsFrom ts i zero = []
-rowsFrom ts i (suc n) = rowAt ts i ∷ rowsFrom ts (suc i) n
-
+-- the table as a list
 unfoldable pub rowsOf : Tasks → List Task
-rowsOf ts = rowsFrom ts 0 (length (ts .state))
+rowsOf ts = values (rowAt ts) (length (ts .state))
 
 -- the lowest free row; their number where there is none
 unfoldable pub freeIn : Tasks → ℕ
