@@ -1,3 +1,3 @@
-pub mod Told
+pub mod OneAnswer
 pub mod Ranges
-pub mod Rows
+pub mod CallAgain

@@ -1,7 +1,7 @@
 pub mod Types
-pub mod Numbers
+pub mod Named
 pub mod Door
 pub mod Table
-pub mod Asked
+pub mod Behind
 pub mod Words
 pub mod Said

@@ -3,7 +3,7 @@ use Prim.Native.Nat.{ℕ}
 use mathlib.Core.List.{List, [], _∷_}
 use lib.ListN.{getD}
 use Rattle.calls.specs.Types.{TaskNo, ObjNo, Call, Create, Delete, Suspend, Resume, SetPriority, Delay, Yield, Hold, Release, MakeQueue, MakeMutex, Remove, Send, Receive, Take, Give, Tick}
-use Rattle.calls.specs.Numbers.{taskOf, objectOf}
+use Rattle.calls.specs.Named.{taskOf, objectOf}
 
 -- an argument, and what it stands for; the bytes of an item are lent beside the call
 pub data Argument : Type 0 where
@@ -44,7 +44,7 @@ abbrev pub word : List ℕ → ℕ → ℕ
 word ws i = getD ws i 0
 
 -- The same table the other way: the calls 1, 2, .. made of their words. A match on calls cannot be turned round, so it is a list of its
--- own; `call-again` (proofs/Rows) says that the two are one table.
+-- own; `call-again` (proofs/CallAgain) says that the two are one table.
 abbrev pub calls : List ℕ → List Call
 calls ws =
     Create (word ws 0)

@@ -10,9 +10,9 @@ use Rattle.lists.specs.Choice.{if_then_else_}
 use Rattle.lists.specs.Lists.{any, index}
 use Rattle.calls.specs.Types.{Call, Names, Nothing, ATask, AnObject, AQueue, AMutex, Shape, Frame, Asked}
 use Rattle.calls.specs.Table.{Argument, aTask, anObject, aQueue, aMutex, priority, ticks, capacity, size, wait, item, called, calls}
-use Rattle.calls.specs.Numbers.{taskOf, objectOf}
+use Rattle.calls.specs.Named.{taskOf, objectOf}
 use Rattle.calls.specs.Door.{taskSlot, objSlot}
-use Rattle.calls.specs.Asked.{asked, nothing, onTask, onObject}
+use Rattle.calls.specs.Behind.{asked, nothing, onTask, onObject}
 
 -- what stands for an argument: a number, or the item's bytes
 pub data Field : Type 0 where

@@ -1,7 +1,7 @@
 // A call behind the door.
 ghost use mathlib.Core.Path.{_≡_};
 ghost use Rattle.calls.specs.Door.{taskSlot, objSlot};
-ghost use Rattle.calls.specs.Asked.{asked, nothing, onTask, onObject};
+ghost use Rattle.calls.specs.Behind.{asked, nothing, onTask, onObject};
 ghost use Rattle.calls.specs.Words.{unnamed};
 use crate::Asked;
 use crate::Call;

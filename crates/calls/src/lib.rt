@@ -3,6 +3,7 @@ mod behind;
 mod door;
 mod named;
 mod table;
+mod words;
 
 pub use door::number;
 use numbers::ObjSlot;

@@ -1,6 +1,6 @@
 // The two kinds of number that callers write and read.
 ghost use mathlib.Core.Path.{_≡_};
-ghost use Rattle.calls.specs.Numbers.{taskOf, objectOf};
+ghost use Rattle.calls.specs.Named.{taskOf, objectOf};
 use crate::ObjNo;
 use crate::TaskNo;
 

@@ -20,7 +20,7 @@ use Rattle.journal.proofs.write_answer.Met as teller-code
 use Rattle.kernel.specs.Stands.{shown}
 use Rattle.kernel.proofs.Shown.{shown-of}
 use Rattle.promises.proofs.Gate.{both-sides-of-the-gate}
-use Rattle.promises.proofs.Exact.{decided}
+use Rattle.promises.proofs.TurnedAway.{decided}
 use Rattle.promises.proofs.Reaches.{program-placed}
 use Rattle.histories.proofs.PaidBack.{program-pays-back}
 use Rattle.claims.specs.Types.{Call, Read}

@@ -5,13 +5,13 @@ use mathlib.Core.Bool.{true, false}
 use mathlib.Core.List.{List}
 use Rattle.lists.proofs.Bools.{on, untrue, not-off}
 use Rattle.rules.specs.Sound.{sound}
-use Rattle.rules.specs.Step.{step}
+use Rattle.rules.specs.Steps.{step}
 use Rattle.kernel.specs.Stands.{kernelOf, shown, standing}
 use Rattle.kernel.specs.Promises.{Steps}
 use Rattle.kernel.proofs.Shown.{stays-standing}
-use Rattle.kernel.proofs.Stepped.{stands-on, stays}
+use Rattle.kernel.proofs.StepEnds.{stands-on, stays}
 use Rattle.promises.specs.TurnedAway.{None, off, here, Exactly as RulesExactly}
-use Rattle.promises.proofs.Exact.{turned-away-exactly}
+use Rattle.promises.proofs.TurnedAway.{turned-away-exactly}
 use Rattle.claims.specs.Types.{Call, Kernel, Step}
 use Rattle.claims.specs.Values.{SoundValue, Stands}
 use Rattle.claims.specs.Exact.{Refusal, Accepted, rowsOf, Exactly}

@@ -8,14 +8,14 @@ use lib.ListN.{length, take, drop, replicate, length-replicate}
 use Rattle.lists.specs.Choice.{if_then_else_}
 use Rattle.lists.specs.Lists.{foldl}
 use Rattle.calls.specs.declared.Answer.the-variants.{Done, Made, Waiting, Refused}
-use Rattle.calls.specs.Asked.{asked}
+use Rattle.calls.specs.Behind.{asked}
 use Rattle.calls.specs.Door.{number}
 use Rattle.calls.specs.Said.{Saying, says, said, done, made, waiting}
 use Rattle.slots.specs.Places.{isBlocked}
-use Rattle.slots.specs.Tasks.{taskAt}
+use Rattle.slots.specs.Values.{taskAt}
 use Rattle.journal.specs.declared.Reading.{Reading}
 use Rattle.journal.specs.declared.Reading.the-variants.{Says, Refused as NotRead}
-use Rattle.journal.specs.Steps.{readOf}
+use Rattle.journal.specs.Reader.{readOf}
 use Rattle.journal.specs.Line.{lineOf, HasLine}
 use Rattle.journal.specs.Reply.{replyOf}
 use Rattle.journal.specs.Promise.{Writes, lineRefusal, itemRefusal, ReadsAs, WritesCall, WritesAnswer}
@@ -28,8 +28,8 @@ use Rattle.rows.specs.Asking.{makes}
 use Rattle.rules.specs.Refusals.{newSlot}
 use Rattle.rules.specs.Refusals.{refusal}
 use Rattle.rules.specs.Effects.{effect}
-use Rattle.rules.specs.Step.{answered, accepted, turnedAway, step}
-use Rattle.rules.specs.Session.{noLine, stepTold, readLine, stepOfLine, Run, closed}
+use Rattle.rules.specs.Steps.{answered, accepted, turnedAway, step}
+use Rattle.rules.specs.Sessions.{noLine, stepTold, readLine, stepOfLine, Run, closed}
 use Rattle.rules.specs.Trace.{CallMade}
 use Rattle.kernel.specs.Stands.{kernelOf, shown, standing}
 use Rattle.kernel.specs.Promises.{Ran, Steps, ReadsAndSteps, ranOf, Answers, Closes, newSession}

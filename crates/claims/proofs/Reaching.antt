@@ -12,13 +12,13 @@ use Rattle.cuts.specs.declared.Cut.{Cut}
 use Rattle.cuts.specs.Keeping.{kept}
 use Rattle.rules.specs.Tables.{fresh}
 use Rattle.rules.specs.Sound.{sound}
-use Rattle.rules.specs.Session.{readCut, lineStep, Run, answeredBy, fed, noRoom, run, begun, closed}
+use Rattle.rules.specs.Sessions.{readCut, lineStep, Run, answeredBy, fed, noRoom, run, begun, closed}
 use Rattle.rules.specs.Trace.{trace, stateAfter, CallMade, stepMade}
-use Rattle.rules.proofs.Every.{fresh-sound, step-kept}
+use Rattle.rules.proofs.KeepEvery.{fresh-sound, step-kept}
 use Rattle.kernel.specs.Stands.{kernelOf, shown}
 use Rattle.kernel.specs.Promises.{Closes, newSession}
 use Rattle.kernel.proofs.Shown.{shown-of}
-use Rattle.kernel.proofs.Sessions.{line-keeps}
+use Rattle.kernel.proofs.SessionRuns.{line-keeps}
 use Rattle.promises.specs.History.{reached, Placed}
 use Rattle.promises.specs.Program.{linesOf, Answered, program}
 use Rattle.promises.specs.ByLines.{ProgramAnswers}

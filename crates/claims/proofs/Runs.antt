@@ -5,9 +5,9 @@ use mathlib.Core.List.{List, _++_}
 use lib.ListN.{length, take, drop}
 use lib.Seq.{take-append-seam}
 use Rattle.lists.specs.Lists.{foldl}
-use Rattle.rules.specs.Step.{step}
+use Rattle.rules.specs.Steps.{step}
 use Rattle.rules.specs.Trace.{CallMade}
-use Rattle.rules.specs.Session.{Run, run, begun}
+use Rattle.rules.specs.Sessions.{Run, run, begun}
 use Rattle.kernel.specs.Stands.{shown, standing}
 use Rattle.kernel.specs.Promises.{Ran, Answers}
 use Rattle.promises.specs.Turns.{Turn}

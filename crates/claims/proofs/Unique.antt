@@ -3,12 +3,12 @@ use Prim.Native.Nat.{ℕ}
 use mathlib.Core.Path.{_≡_, refl, sym, subst, _∙_}
 use mathlib.Core.List.{List}
 use native.Mathlib.Omega.{arith}
-use Rattle.calls.proofs.Told.{one-answer}
+use Rattle.calls.proofs.OneAnswer.{one-answer}
 use Rattle.slots.specs.declared.Found.{Found}
 use Rattle.slots.specs.declared.Found.the-variants.{NoOne, Someone}
 use Rattle.slots.specs.Leads.{whom}
-use Rattle.rules.specs.Step.{Stepped}
-use Rattle.rules.specs.Session.{Run}
+use Rattle.rules.specs.Steps.{Stepped}
+use Rattle.rules.specs.Sessions.{Run}
 use Rattle.kernel.specs.Stands.{shown}
 use Rattle.kernel.specs.Promises.{Is, Steps, ReadsAndSteps, Ran, Answers, Closes}
 use Rattle.promises.specs.ByLines.{LineSteps}

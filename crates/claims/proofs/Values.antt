@@ -7,7 +7,7 @@ use Rattle.tasks.specs.Known.{canonical as plainTasks}
 use Rattle.tasks.proofs.Tables.{tasks-back}
 use Rattle.objects.proofs.Tables.{objects-back}
 use Rattle.rules.specs.Sound.{sound}
-use Rattle.rules.proofs.Says.{sound-says, says-sound}
+use Rattle.rules.proofs.SoundSays.{sound-says, says-sound}
 use Rattle.kernel.specs.Stands.{kernelOf, plain, rows, none, shown}
 use Rattle.kernel.proofs.Shown.{no-tables}
 use Rattle.claims.specs.Types.{Kernel}

@@ -10,7 +10,7 @@ use Rattle.journal.specs.Told.{aCall, refusal}
 use Rattle.journal.specs.Promise.{Tells, ReadsAs, WritesCall, WritesAnswer}
 use Rattle.rules.specs.Tables.{fresh}
 use Rattle.rules.specs.Sound.{sound}
-use Rattle.rules.specs.Step.{Stepped}
+use Rattle.rules.specs.Steps.{Stepped}
 use Rattle.rules.specs.Trace.{CallMade}
 use Rattle.kernel.specs.Stands.{kernelOf, shown}
 use Rattle.kernel.specs.Promises.{Is, Steps, ReadsAndSteps, Answers, Closes, newSession}

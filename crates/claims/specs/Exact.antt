@@ -3,12 +3,12 @@ use Prim.Native.Nat.{ℕ}
 use mathlib.Core.Path.{_≡_}
 use mathlib.Core.List.{List}
 use lib.ListN.{length}
-use Rattle.calls.specs.Asked.{asked}
+use Rattle.calls.specs.Behind.{asked}
 use Rattle.calls.specs.Said.{says, said, refused}
 use Rattle.rules.specs.Lines.{chosen}
 use Rattle.rows.specs.Applies.{Row}
 use Rattle.rules.specs.Effects.{effect}
-use Rattle.rules.specs.Step.{answered, stored}
+use Rattle.rules.specs.Steps.{answered, stored}
 use Rattle.kernel.specs.Stands.{kernelOf, shown}
 use Rattle.promises.specs.TurnedAway.{rows, First, None}
 use Rattle.claims.specs.Types.{Call, Kernel, Step}

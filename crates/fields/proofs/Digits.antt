@@ -11,7 +11,7 @@ use Rattle.fields.specs.Digit.{among, digitOf}
 use Rattle.fields.specs.Number.{grow, more, number}
 use Rattle.fields.specs.declared.Number.the-variants.{Got}
 use Rattle.lists.proofs.Tests.{below-or}
-use Rattle.fields.proofs.Places.{past}
+use Rattle.fields.proofs.LinePlaces.{past}
 
 -- the numbers of up to k + 1 digits lie below it
 abbrev tens : ℕ → ℕ

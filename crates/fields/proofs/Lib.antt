@@ -1,4 +1,4 @@
-pub mod Places
+pub mod LinePlaces
 pub mod Stores
 pub mod Digits
 pub mod Pairs

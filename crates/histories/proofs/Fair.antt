@@ -5,11 +5,11 @@ use mathlib.Core.List.{[], map}
 use Rattle.lists.specs.Lists.{larger}
 use Rattle.lists.proofs.Bools.{and-left, and-right, off, untrue}
 use Rattle.slots.specs.Places.{isFree}
-use Rattle.slots.specs.Tasks.{taskAt}
-use Rattle.slots.specs.Objects.{kindAt}
+use Rattle.slots.specs.Values.{taskAt}
+use Rattle.slots.specs.Kinds.{kindAt}
 use Rattle.rules.specs.Lines.{level}
 use Rattle.rules.specs.Sentences.{Holds}
-use Rattle.rules.proofs.Held.{held-one}
+use Rattle.rules.proofs.TableHolds.{held-one}
 use Rattle.rules.specs.Trace.{Moment, CallMade}
 use Rattle.histories.specs.Types.{TaskSlot, ObjSlot}
 use Rattle.histories.specs.Moments.{hasMutex, waitsIn, waited, beginsToWait, tasksBelow}

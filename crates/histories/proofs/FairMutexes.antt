@@ -11,12 +11,12 @@ use Rattle.lists.specs.Lists.{larger}
 use Rattle.lists.proofs.Tests.{larger-max}
 use Rattle.numbers.specs.Numbers.{sameTask}
 use Rattle.calls.specs.Door.{objSlot}
-use Rattle.calls.specs.Asked.{asked}
+use Rattle.calls.specs.Behind.{asked}
 use Rattle.calls.specs.Said.{Saying}
-use Rattle.order.proofs.Lines.{one-number}
+use Rattle.order.proofs.Passing.{one-number}
 use Rattle.slots.specs.Places.{isFree, waitsOn}
-use Rattle.slots.specs.Tasks.{placed, ranked, taskAt}
-use Rattle.slots.specs.Objects.{heldBy, kindAt}
+use Rattle.slots.specs.Values.{placed, ranked, taskAt}
+use Rattle.slots.specs.Kinds.{heldBy, kindAt}
 use Rattle.rules.specs.Tables.{holds}
 use Rattle.rules.specs.Lines.{level, toTail}
 use Rattle.rules.specs.Sentences.{Holds, Sound}
@@ -24,11 +24,11 @@ use Rattle.rows.specs.Applies.{hisAlready}
 use Rattle.rules.specs.Waits.{wakeOf, arrives, waitFor}
 use Rattle.rules.specs.Loans.{prioritized, lent, ownAgain}
 use Rattle.rules.specs.Effects.{takenFrom, taken, handedOn, given}
-use Rattle.rules.proofs.Slots.{exists-there, by-kind}
-use Rattle.rules.proofs.Held.{some-holds}
-use Rattle.rules.proofs.Passes.{Passed}
-use Rattle.rules.proofs.Slotted.{at-same, at-other}
-use Rattle.rules.proofs.Blocks.{Same, prioritized-same, prioritized-tasks}
+use Rattle.rules.proofs.TableSlots.{exists-there, by-kind}
+use Rattle.rules.proofs.TableHolds.{some-holds}
+use Rattle.rules.proofs.RowPasses.{Passed}
+use Rattle.rules.proofs.KeepSlot.{at-same, at-other}
+use Rattle.rules.proofs.KeepBlocks.{Same, prioritized-same, prioritized-tasks}
 use Rattle.rules.proofs.Keeps.{exists-low, ready-low}
 use Rattle.rules.specs.Trace.{Moment, CallMade}
 use Rattle.histories.specs.Types.{TaskSlot, ObjNo, ObjSlot, Wake, Place, Waiting, Task, By, Mutex, State, Take, Give}

@@ -9,10 +9,10 @@ use borrow.Author.Tests.{eqb-true}
 use Rattle.lists.specs.Choice.{if_then_else_}
 use Rattle.numbers.specs.Numbers.{sameTask}
 use Rattle.calls.specs.Door.{taskSlot, objSlot}
-use Rattle.calls.specs.Asked.{asked}
+use Rattle.calls.specs.Behind.{asked}
 use Rattle.calls.specs.Said.{Saying, says, done, made, waiting, refused}
 use Rattle.slots.specs.Places.{isBlocked}
-use Rattle.slots.specs.Tasks.{taskAt}
+use Rattle.slots.specs.Values.{taskAt}
 use Rattle.rules.specs.Lines.{first, runsIf, chosen, toTail}
 use Rattle.rules.specs.Sound.{sound}
 use Rattle.rules.specs.Sentences.{Sound}
@@ -22,9 +22,9 @@ use Rattle.rows.specs.Applies.{namesNone}
 use Rattle.rules.specs.Refusals.{laterRow, refusal}
 use Rattle.rules.specs.Ticks.{held}
 use Rattle.rules.specs.Effects.{resumed, yielded, queueMade, mutexMade, removed, effect}
-use Rattle.rules.specs.Step.{answered, accepted, turnedAway, steppedBy, step}
-use Rattle.rules.proofs.Says.{sound-says}
-use Rattle.rules.proofs.Passes.{Passed, passed}
+use Rattle.rules.specs.Steps.{answered, accepted, turnedAway, steppedBy, step}
+use Rattle.rules.proofs.SoundSays.{sound-says}
+use Rattle.rules.proofs.RowPasses.{Passed, passed}
 use Rattle.rules.specs.Trace.{Moment, momentOf, CallMade, stepMade}
 use Rattle.histories.specs.Types.{TaskSlot, Call, Create, Delete, Suspend, Resume, SetPriority, Delay, Yield, Hold, Release, MakeQueue, MakeMutex, Remove, Send, Receive}
 use Rattle.histories.specs.Types.{Take, Give, Tick, Ready, AllReady, State}

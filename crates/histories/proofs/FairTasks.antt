@@ -12,11 +12,11 @@ use Rattle.lists.specs.Lists.{larger}
 use Rattle.lists.proofs.Tests.{larger-max}
 use Rattle.numbers.specs.Numbers.{task, sameTask}
 use Rattle.calls.specs.Door.{taskSlot}
-use Rattle.calls.specs.Asked.{asked}
+use Rattle.calls.specs.Behind.{asked}
 use Rattle.calls.specs.Said.{Saying}
-use Rattle.order.proofs.Lines.{one-number}
+use Rattle.order.proofs.Passing.{one-number}
 use Rattle.slots.specs.Places.{isFree, waitsOn}
-use Rattle.slots.specs.Tasks.{freeTask, readyAt, ranked, taskAt}
+use Rattle.slots.specs.Values.{freeTask, readyAt, ranked, taskAt}
 use Rattle.rules.specs.Tables.{holds, freeSlot}
 use Rattle.rules.specs.Lines.{level, toTail, leaves}
 use Rattle.rules.specs.Sentences.{Sound}
@@ -24,10 +24,10 @@ use Rattle.rows.specs.Applies.{namesNone}
 use Rattle.rules.specs.Refusals.{inUse}
 use Rattle.rules.specs.Loans.{prioritized, newPriority}
 use Rattle.rules.specs.Effects.{created, deleted}
-use Rattle.rules.proofs.Held.{none-holds}
-use Rattle.rules.proofs.Passes.{Passed}
-use Rattle.rules.proofs.Slotted.{at-same}
-use Rattle.rules.proofs.Blocks.{prioritized-same, prioritized-tasks}
+use Rattle.rules.proofs.TableHolds.{none-holds}
+use Rattle.rules.proofs.RowPasses.{Passed}
+use Rattle.rules.proofs.KeepSlot.{at-same}
+use Rattle.rules.proofs.KeepBlocks.{prioritized-same, prioritized-tasks}
 use Rattle.rules.proofs.Keeps.{exists-low}
 use Rattle.rules.proofs.KeepTasks.{has-slot, is-free}
 use Rattle.rules.specs.Trace.{Moment, CallMade}

@@ -10,7 +10,7 @@ use Rattle.lists.specs.Choice.{if_then_else_}
 use Rattle.lists.specs.Lists.{larger, kept}
 use Rattle.lists.proofs.Tests.{larger-max}
 use Rattle.numbers.specs.Numbers.{task}
-use Rattle.order.proofs.Lines.{one-number}
+use Rattle.order.proofs.Passing.{one-number}
 use Rattle.histories.specs.Types.{TaskSlot}
 use Rattle.histories.specs.Moments.{tasksBelow}
 use Rattle.histories.specs.Borrowed.{largest}

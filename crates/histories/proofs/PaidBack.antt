@@ -7,19 +7,19 @@ use lib.ListN.{getD, replicate}
 use Rattle.lists.specs.Choice.{if_then_else_}
 use Rattle.lists.specs.Lists.{larger, any, foldl}
 use Rattle.slots.specs.Places.{isFree}
-use Rattle.slots.specs.Tasks.{freeTask, taskAt}
+use Rattle.slots.specs.Values.{freeTask, taskAt}
 use Rattle.rules.specs.Tables.{fresh, holds}
 use Rattle.rules.specs.Lines.{level}
 use Rattle.rules.specs.Sound.{sound}
 use Rattle.rules.specs.Sentences.{Exists}
-use Rattle.rules.proofs.Held.{not-held}
-use Rattle.rules.proofs.Says.{sound-says}
-use Rattle.rules.proofs.Every.{fresh-sound, step-kept}
+use Rattle.rules.proofs.TableHolds.{not-held}
+use Rattle.rules.proofs.SoundSays.{sound-says}
+use Rattle.rules.proofs.KeepEvery.{fresh-sound, step-kept}
 use Rattle.promises.specs.History.{reached}
 use Rattle.promises.specs.Program.{linesOf, answering}
 use Rattle.promises.specs.Turns.{Turn, afterTurns, atStart}
 use Rattle.promises.specs.Reached.{programCalls}
-use Rattle.rules.proofs.Slots.{exists-there}
+use Rattle.rules.proofs.TableSlots.{exists-there}
 use Rattle.promises.proofs.Reaches.{program-reached, session-so-far}
 use Rattle.rules.specs.Trace.{Moment, momentOf, trace, stateAfter, CallMade, stepMade}
 use Rattle.histories.specs.Types.{TaskSlot, State}

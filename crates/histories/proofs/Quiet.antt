@@ -8,12 +8,12 @@ use lib.ListN.{length, set}
 use lib.Seq.{set-out}
 use borrow.Author.Tests.{eqb-true, eqb-false, ltb-true, ltb-false}
 use Rattle.numbers.specs.Numbers.{sameTask}
-use Rattle.order.proofs.Lines.{one-number}
+use Rattle.order.proofs.Passing.{one-number}
 use Rattle.slots.specs.Places.{isFree, waitsOn}
-use Rattle.slots.specs.Tasks.{placed, ranked, taskAt}
+use Rattle.slots.specs.Values.{placed, ranked, taskAt}
 use Rattle.rules.specs.Lines.{level}
 use Rattle.rules.specs.Sentences.{Holds}
-use Rattle.rules.proofs.Slotted.{at-same, at-other}
+use Rattle.rules.proofs.KeepSlot.{at-same, at-other}
 use Rattle.histories.specs.Types.{TaskSlot, ObjSlot, Place, Task, Object}
 
 -- the objects are those at the end

@@ -11,18 +11,19 @@ use Rattle.lists.specs.Lists.{foldl, upTo}
 use Rattle.numbers.specs.Numbers.{byNumber}
 use Rattle.order.specs.Order.{listed}
 use Rattle.slots.specs.Places.{isFree, isBlocked, isListed, waitsOn, wakesAt, outcomeDue}
-use Rattle.slots.specs.Tasks.{brokenOff, taskAt}
-use Rattle.slots.specs.Objects.{kindAt}
+use Rattle.slots.specs.Values.{brokenOff, taskAt}
+use Rattle.slots.specs.Kinds.{kindAt}
 use Rattle.rules.specs.Tables.{withTask, withTick, withHold}
 use Rattle.rules.specs.Lines.{level, first, toTail, leaves}
 use Rattle.rules.specs.Sound.{noHigher}
 use Rattle.rules.specs.Sentences.{Holds, Sound}
 use Rattle.rules.specs.Waits.{later, wakeOf, arrives, waitFor}
 use Rattle.rules.specs.Ticks.{wokenIfDue, wakes, oneTick, turned, ticked, ticks, released}
-use Rattle.rules.specs.Items.{oneLess, sentBy, sent, sentTo, refilledBy, received, receivedFrom}
+use Rattle.rules.specs.Rings.{oneLess}
+use Rattle.rules.specs.Queues.{sentBy, sent, sentTo, refilledBy, received, receivedFrom}
 use Rattle.rules.specs.Effects.{suspended, yielded, delayed, handedTo, handedOn}
-use Rattle.rules.proofs.Slots.{passes-there, by-kind}
-use Rattle.rules.proofs.Within.{first-meant, first-single, by-outlet}
+use Rattle.rules.proofs.TableSlots.{passes-there, by-kind}
+use Rattle.rules.proofs.TableWithin.{first-meant, first-single, by-outlet}
 use Rattle.rules.proofs.KeepTicks.{due-there}
 use Rattle.histories.specs.Types.{TaskSlot, ObjSlot, Ready, Delayed, Waiting, Suspended, Ring, Queue, Object, WaitersOf, State}
 use Rattle.histories.proofs.Quiet.{Quiet, still, onward, placed-quiet}

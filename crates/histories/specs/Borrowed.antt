@@ -6,9 +6,9 @@ use mathlib.Core.List.{List, [], _∷_, _++_, map}
 use Rattle.lists.specs.Choice.{if_then_else_}
 use Rattle.lists.specs.Lists.{larger, kept}
 use Rattle.numbers.specs.Numbers.{sameTask}
-use Rattle.calls.specs.Asked.{asked}
-use Rattle.slots.specs.Objects.{heldBy, kindAt}
-use Rattle.slots.specs.Tasks.{taskAt}
+use Rattle.calls.specs.Behind.{asked}
+use Rattle.slots.specs.Kinds.{heldBy, kindAt}
+use Rattle.slots.specs.Values.{taskAt}
 use Rattle.rules.specs.Lines.{level}
 use Rattle.rules.specs.Sentences.{Exists}
 use Rattle.rows.specs.Asking.{is}

@@ -7,7 +7,7 @@ use Rattle.numbers.specs.Numbers.{task}
 use Rattle.calls.specs.Door.{noObject}
 use Rattle.calls.specs.Said.{Word, done, made, waiting, refused}
 use Rattle.slots.specs.Places.{isFree, ofBlocked, waitsOn}
-use Rattle.slots.specs.Tasks.{taskAt}
+use Rattle.slots.specs.Values.{taskAt}
 use Rattle.rules.specs.Tables.{fresh, holds}
 use Rattle.rules.specs.Trace.{Moment, trace, CallMade, stepMade}
 use Rattle.histories.specs.Types.{TaskSlot, ObjSlot, Place, State}

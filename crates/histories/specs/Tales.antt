@@ -4,7 +4,7 @@ use mathlib.Core.List.{List, [], _∷_, map}
 use lib.ListN.{replicate}
 use Rattle.lists.specs.Choice.{if_then_else_}
 use Rattle.numbers.specs.Numbers.{task}
-use Rattle.calls.specs.Numbers.{taskOf, objectOf}
+use Rattle.calls.specs.Named.{taskOf, objectOf}
 use Rattle.rules.specs.Tables.{fresh}
 use Rattle.rules.specs.Lines.{level}
 use Rattle.rules.specs.Trace.{Moment, trace, CallMade, stepMade}

@@ -14,7 +14,7 @@ use Rattle.calls.specs.Words.{Field, number, bytes, fieldsOf, isBytes, numbersI
 use Rattle.fields.specs.Hex.{Bytes}
 use Rattle.journal.specs.Types.{Call}
 use Rattle.journal.specs.Line.{carries, itsItem, AllFit, HasLine}
-use Rattle.journal.proofs.Steps.{ItemFits}
+use Rattle.journal.proofs.ReadSteps.{ItemFits}
 
 pub small-append : (a b : List ℕ) → Small a → Small b → Small (a ++ b)
 small-append [] b v w = w

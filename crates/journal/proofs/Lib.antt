@@ -1,7 +1,7 @@
-pub mod Rows
-pub mod Steps
+pub mod LineWords
+pub mod ReadSteps
 pub mod Fit
 pub mod Promised
-pub mod Stores
+pub mod LineStores
 pub mod Theorems
 pub mod Newlines

@@ -11,21 +11,21 @@ use borrow.Author.Tests.{not-true, not-false}
 use Rattle.lists.proofs.Bools.{and-left, and-right}
 use Rattle.calls.specs.Table.{callOf}
 use Rattle.calls.specs.Words.{fieldsOf, numbersIn, Small, noWords, frameOf, shapeOf}
-use Rattle.calls.proofs.Rows.{known-below, row-numbers, shape-small, kept, call-again, frame-five}
+use Rattle.calls.proofs.CallAgain.{known-below, row-numbers, shape-small, kept, call-again, frame-five}
 use Rattle.fields.specs.Decimal.{dec}
 use Rattle.fields.specs.Texts.{texts}
 use Rattle.fields.specs.Item.{filled}
 use Rattle.fields.specs.Digit.{among}
-use Rattle.fields.proofs.Places.{within}
+use Rattle.fields.proofs.LinePlaces.{within}
 use Rattle.fields.proofs.Stores.{sets-append}
 use Rattle.journal.specs.Types.{Call, Item, Says, NoCall, Read, Place, Numbers, Shape}
 use Rattle.journal.specs.Line.{lineOf, carries, HasLine}
 use Rattle.journal.specs.Promise.{IsLine, NoLine, ReadsAs}
-use Rattle.journal.specs.Frames.{tabbed, sentText, shapeText}
-use Rattle.journal.specs.Steps.{numberAt, nums, sentAt, endOf, says, noCall, readEnd, readSent, readOf}
-use Rattle.journal.proofs.Rows.{frame-line, row-carries, line-frame, item-frame}
+use Rattle.journal.specs.Writer.{tabbed, sentText, shapeText}
+use Rattle.journal.specs.Reader.{numberAt, nums, sentAt, endOf, says, noCall, readEnd, readSent, readOf}
+use Rattle.journal.proofs.LineWords.{frame-line, row-carries, line-frame, item-frame}
 use Rattle.journal.proofs.Fit.{small-append, small-take, small-drop, has-line, line-fits}
-use Rattle.journal.proofs.Steps.{ItemFits, tabbed-stops, sent-stops, tabbed-halts, place-front, place-whole, Listed, nums-front, nums-whole, Sent, sent-front, sent-whole, end-front}
+use Rattle.journal.proofs.ReadSteps.{ItemFits, tabbed-stops, sent-stops, tabbed-halts, place-front, place-whole, Listed, nums-front, nums-whole, Sent, sent-front, sent-whole, end-front}
 
 -- ---- what is read is a line
 

@@ -12,16 +12,16 @@ use borrow.Author.Tests.{eqb-true, eq-eqb, le-ltb, ltb-false}
 use Rattle.lists.specs.Choice.{if_then_else_}
 use Rattle.calls.specs.Table.{called, callOf}
 use Rattle.calls.specs.Words.{fieldOf, numbersIn, noWords}
-use Rattle.calls.proofs.Rows.{call-again}
+use Rattle.calls.proofs.CallAgain.{call-again}
 use Rattle.fields.specs.Item.{filled}
 use Rattle.journal.specs.Types.{Call, Answer, TaskNo, Reading, Says, NoCall, Read, Written, Count, NotWritten}
 use Rattle.journal.specs.Line.{lineOf, HasLine}
 use Rattle.journal.specs.Told.{Told, aCall, refusal, count, reads, writes}
 use Rattle.journal.specs.Promise.{Tells, IsLine, NoLine, ReadsAs, Writes, lineRefusal, itemRefusal, WritesCall, WritesAnswer}
-use Rattle.journal.specs.Steps.{says, readOf}
+use Rattle.journal.specs.Reader.{says, readOf}
 use Rattle.journal.proofs.Fit.{item-long}
 use Rattle.journal.proofs.Promised.{line-read, reads-as}
-use Rattle.journal.proofs.Stores.{line-short}
+use Rattle.journal.proofs.LineStores.{line-short}
 
 -- ---- the answers by what they say
 

@@ -3,5 +3,5 @@ pub mod Line
 pub mod Reply
 pub mod Told
 pub mod Promise
-pub mod Frames
-pub mod Steps
+pub mod Writer
+pub mod Reader

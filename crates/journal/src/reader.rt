@@ -3,7 +3,7 @@ ghost use mathlib.Core.Path.{_≡_};
 ghost use Prim.Native.Nat.{_+_, _≤_};
 ghost use lib.ListN.{drop};
 ghost use Rattle.journal.specs.Promise.{ReadsAs};
-ghost use Rattle.journal.specs.Steps.{afterTab, numberAt, nums, sentAt, endOf, noCall};
+ghost use Rattle.journal.specs.Reader.{afterTab, numberAt, nums, sentAt, endOf, noCall};
 use crate::Read;
 use crate::Reading;
 use calls::Call;

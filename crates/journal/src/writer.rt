@@ -7,7 +7,7 @@ ghost use Rattle.fields.specs.Wrote.{Wrote};
 ghost use Rattle.calls.specs.Said.{said};
 ghost use Rattle.journal.specs.Line.{itsItem};
 ghost use Rattle.journal.specs.Reply.{wordOf, replyOf};
-ghost use Rattle.journal.specs.Frames.{tabbed, sentText, frameText};
+ghost use Rattle.journal.specs.Writer.{tabbed, sentText, frameText};
 ghost use Rattle.journal.specs.Promise.{WritesCall, WritesAnswer};
 use crate::Written;
 use calls::Answer;

@@ -1,8 +1,8 @@
 pub mod Stands
-pub mod Ends
-pub mod Jumping
-pub mod Rowed
-pub mod Stepped
+pub mod TableWalks
+pub mod TickTurns
+pub mod RowPassed
+pub mod StepEnds
 pub mod Shown
-pub mod Sessions
-pub mod Quicks
+pub mod SessionRuns
+pub mod SoundQuick

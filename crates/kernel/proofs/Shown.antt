@@ -14,8 +14,8 @@ use Rattle.objects.proofs.Columns.{rows-of as kinds-of}
 use Rattle.objects.proofs.Plain.{objects-plain}
 use Rattle.rules.specs.State.{State}
 use Rattle.rules.specs.Sound.{sound}
-use Rattle.rules.specs.Step.{Stepped}
-use Rattle.rules.proofs.Says.{sound-says}
+use Rattle.rules.specs.Steps.{Stepped}
+use Rattle.rules.proofs.SoundSays.{sound-says}
 use Rattle.kernel.specs.Types.{Kernel, Step}
 use Rattle.kernel.specs.Stands.{kernelOf, plain, rows, none, shown, standing}
 use Rattle.kernel.specs.Promises.{Is}

@@ -7,7 +7,7 @@ use Rattle.calls.specs.declared.Asked.{Asked}
 use Rattle.calls.specs.Door.{number}
 use Rattle.calls.specs.Said.{Saying, says, done, made, waiting}
 use Rattle.slots.specs.Places.{isBlocked}
-use Rattle.slots.specs.Tasks.{taskAt}
+use Rattle.slots.specs.Values.{taskAt}
 use Rattle.rules.specs.State.{State}
 use Rattle.rows.specs.Asking.{makes}
 use Rattle.rules.specs.Sentences.{Steady}

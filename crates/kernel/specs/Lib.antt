@@ -2,4 +2,4 @@ pub mod Types
 pub mod Stands
 pub mod Does
 pub mod Promises
-pub mod Serving
+pub mod Sessions

@@ -9,8 +9,8 @@ use Rattle.calls.specs.Said.{said}
 use Rattle.cuts.specs.Keeping.{noByte}
 use Rattle.rules.specs.Tables.{fresh}
 use Rattle.rules.specs.Refusals.{laterRow}
-use Rattle.rules.specs.Step.{Stepped, steppedBy, step}
-use Rattle.rules.specs.Session.{stepOfLine, Run, run, begun, closed}
+use Rattle.rules.specs.Steps.{Stepped, steppedBy, step}
+use Rattle.rules.specs.Sessions.{stepOfLine, Run, run, begun, closed}
 use Rattle.kernel.specs.Types.{Kernel, Step, Session, Served}
 use Rattle.kernel.specs.Stands.{kernelOf, shown, standing}
 

@@ -1,15 +1,14 @@
 // The kernel: a value that goes in with a call, and comes back with the next state, the running task and an answer.
-mod answering;
-mod endings;
+mod effects;
 mod lines;
 mod loans;
 mod parts;
 mod queues;
 mod refusals;
 mod rings;
-mod serving;
+mod sessions;
 mod sound;
-mod stepping;
+mod steps;
 mod tables;
 mod ticks;
 mod waits;

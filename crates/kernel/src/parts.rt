@@ -3,7 +3,7 @@ ghost use mathlib.Core.Path.{_≡_};
 ghost use Prim.Native.Nat.{_<_, _≤_};
 ghost use lib.ListN.{length, take};
 ghost use Rattle.items.specs.Bytes.{bytesAt, putAt};
-ghost use Rattle.rules.specs.Items.{slipOf, itemAt};
+ghost use Rattle.rules.specs.Parts.{slipOf, itemAt};
 ghost use Rattle.rules.specs.Sentences.{RingFits};
 use crate::rings;
 use numbers::ObjSlot;

@@ -7,7 +7,7 @@ ghost use Rattle.slots.specs.Leads.{whom};
 ghost use Rattle.numbers.specs.declared.TaskSlot.{TaskSlot};
 ghost use Rattle.slots.specs.declared.Who.the-variants.{WaitersOf};
 ghost use Rattle.rules.specs.Lines.{first};
-ghost use Rattle.rules.specs.Items.{outlet, sent, storeSent, refilledBy, storeRefilledBy, received, storeReceived};
+ghost use Rattle.rules.specs.Queues.{outlet, sent, storeSent, refilledBy, storeRefilledBy, received, storeReceived};
 ghost use Rattle.rules.specs.Sentences.{RingFits};
 ghost use Rattle.kernel.specs.Stands.{outletOf};
 ghost use Rattle.kernel.specs.Does.{Reads, Does, Firm};

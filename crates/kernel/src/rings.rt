@@ -1,7 +1,7 @@
 // A queue's ring within its object's part of the store.
 ghost use mathlib.Core.Path.{_≡_};
 ghost use Prim.Native.Nat.{_+_, _*_, _%_, _<_, _≤_};
-ghost use Rattle.rules.specs.Items.{oneMore, oneLess, roomOr};
+ghost use Rattle.rules.specs.Rings.{oneMore, oneLess, roomOr};
 ghost use Rattle.rules.specs.Sentences.{RingFits};
 ghost use Rattle.kernel.specs.Stands.{outletOf};
 use crate::Outlet;

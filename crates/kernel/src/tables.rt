@@ -1,7 +1,7 @@
 // The fresh kernel, the rows of the two tables, and a kernel with one part changed.
 ghost use mathlib.Core.Path.{_≡_};
-ghost use Rattle.slots.specs.Tasks.{taskAt, placed, ranked};
-ghost use Rattle.slots.specs.Objects.{kindAt};
+ghost use Rattle.slots.specs.Values.{taskAt, placed, ranked};
+ghost use Rattle.slots.specs.Kinds.{kindAt};
 ghost use Rattle.rules.specs.Tables.{fresh, holds, withTask, withObject, withTick, withHold};
 ghost use Rattle.kernel.specs.Stands.{kernelOf};
 ghost use Rattle.kernel.specs.Does.{Reads, Does};

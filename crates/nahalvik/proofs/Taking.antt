@@ -13,16 +13,16 @@ use Rattle.lists.specs.Lists.{foldl}
 use Rattle.lists.proofs.Bools.{and-right}
 use Rattle.cuts.specs.Keeping.{kept}
 use Rattle.rules.specs.Sound.{sound}
-use Rattle.rules.specs.Session.{Run, lineStep, readCut, answeredBy, begun, fed, closed}
-use Rattle.rules.proofs.Every.{fresh-sound}
+use Rattle.rules.specs.Sessions.{Run, lineStep, readCut, answeredBy, begun, fed, closed}
+use Rattle.rules.proofs.KeepEvery.{fresh-sound}
 use Rattle.kernel.specs.declared.Kernel.{Kernel}
 use Rattle.kernel.specs.declared.Session.{Session}
 use Rattle.kernel.specs.declared.Served.{Served}
 use Rattle.kernel.specs.Stands.{kernelOf, shown, standing}
 use Rattle.kernel.specs.Promises.{Ran, Answers, Closes, newSession}
 use Rattle.kernel.proofs.Shown.{shown-of}
-use Rattle.kernel.proofs.Stepped.{stands-on}
-use Rattle.kernel.proofs.Sessions.{line-keeps}
+use Rattle.kernel.proofs.StepEnds.{stands-on}
+use Rattle.kernel.proofs.SessionRuns.{line-keeps}
 use Rattle.promises.specs.Program.{Answered, program, answersTo}
 use Rattle.promises.specs.Turns.{begins, atStart, afterEnd}
 use Rattle.promises.proofs.AnyBlocks.{past, from-here}

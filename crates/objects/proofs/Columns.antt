@@ -16,7 +16,7 @@ use Rattle.slots.specs.declared.Holder.the-variants.{Nobody, By}
 use Rattle.slots.specs.declared.Kind.{Kind}
 use Rattle.slots.specs.declared.Kind.the-variants.{Unused, Queue, Mutex}
 use Rattle.slots.specs.declared.Object.{Object}
-use Rattle.slots.specs.Objects.{unused, isUnused, heldBy}
+use Rattle.slots.specs.Kinds.{unused, isUnused, heldBy}
 use Rattle.objects.specs.declared.Cells.{Cells}
 use Rattle.objects.specs.declared.Objects.{Objects}
 use Rattle.objects.specs.Rows.{cellsOf, cellsAt, kindOf, objectsOf, putKind, kindIn, rowAt, rowsOf, heldIn, unusedIn, known}

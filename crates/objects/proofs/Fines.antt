@@ -13,9 +13,9 @@ use Rattle.lists.specs.Lists.{allBelow, upTo}
 use Rattle.lists.proofs.Loops.{Upto, next, ended}
 use Rattle.lists.proofs.Bools.{and-left, all-below, below-all, all-same}
 use Rattle.numbers.specs.declared.TaskSlot.{TaskSlot}
-use Rattle.slots.specs.Objects.{unused, holderOf, mark, marksOf}
+use Rattle.slots.specs.Kinds.{unused, holderOf, mark, marksOf}
 use Rattle.slots.proofs.Sweeps.{by-rows, none-counted}
-use Rattle.slots.specs.Fine.{mayWait, mayWaitOn, ringFine}
+use Rattle.slots.specs.SoundSlots.{mayWait, mayWaitOn, ringFine}
 use Rattle.objects.specs.declared.Objects.{Objects}
 use Rattle.objects.specs.Rows.{six, ring, noRing, known, cellsAt, kindOf, kindIn, rowsOf, canonical}
 use Rattle.objects.specs.Fine.{rangesFine, fineAt, rowFine, openAt, takenAt, holdingIn, Each}

@@ -5,7 +5,7 @@ use Rattle.lists.specs.Lists.{any, index}
 use Rattle.numbers.specs.declared.TaskSlot.{TaskSlot}
 use Rattle.numbers.specs.declared.ObjSlot.{ObjSlot}
 use Rattle.slots.specs.declared.Object.{Object}
-use Rattle.slots.specs.Objects.{kindAt, isUnused, heldBy}
+use Rattle.slots.specs.Kinds.{kindAt, isUnused, heldBy}
 use Rattle.objects.specs.Rows.{objectsOf, kindIn, heldIn, unusedIn}
 use Rattle.objects.proofs.Columns.{kind-of, rows-of}
 

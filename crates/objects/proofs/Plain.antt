@@ -6,7 +6,7 @@ use mathlib.Core.List.{List}
 use lib.ListN.{getD}
 use Rattle.lists.proofs.Bools.{and-right, and-intro, all-below, below-all}
 use Rattle.slots.specs.declared.Object.{Object}
-use Rattle.slots.specs.Objects.{unused}
+use Rattle.slots.specs.Kinds.{unused}
 use Rattle.objects.specs.declared.Objects.{Objects}
 use Rattle.objects.specs.Rows.{objectsOf, known, canonical, cellsAt, kindIn}
 use Rattle.objects.specs.Fine.{rangesFine, fineAt}

@@ -10,7 +10,7 @@ use lib.Seq.{ext-getD}
 use borrow.Author.Tests.{eqb-true, leb-true}
 use Rattle.lists.proofs.Bools.{and-left, and-right, all-below}
 use Rattle.slots.specs.declared.Object.{Object}
-use Rattle.slots.specs.Objects.{unused}
+use Rattle.slots.specs.Kinds.{unused}
 use Rattle.objects.specs.declared.Objects.{Objects}
 use Rattle.objects.specs.declared.Cells.{Cells}
 use Rattle.objects.specs.Rows.{six, cellsOf, kindOf, objectsOf, kindIn, rowsOf, noRing, known, cellsAt, canonical}

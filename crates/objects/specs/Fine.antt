@@ -9,8 +9,8 @@ use Rattle.lists.specs.Choice.{if_then_else_}
 use Rattle.lists.specs.Lists.{allBelow, upTo}
 use Rattle.numbers.specs.declared.TaskSlot.{TaskSlot}
 use Rattle.slots.specs.declared.Kind.{Kind}
-use Rattle.slots.specs.Objects.{marksOf}
-use Rattle.slots.specs.Fine.{mayWait, mayWaitOn, holderSlot, ringFine, ringInRange}
+use Rattle.slots.specs.Kinds.{marksOf}
+use Rattle.slots.specs.SoundSlots.{mayWait, mayWaitOn, holderSlot, ringFine, ringInRange}
 use Rattle.objects.specs.declared.Cells.{Cells}
 use Rattle.objects.specs.declared.Objects.{Objects}
 use Rattle.objects.specs.declared.Holdings.{Holdings}

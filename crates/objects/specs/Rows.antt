@@ -13,7 +13,7 @@ use Rattle.slots.specs.declared.Kind.{Kind}
 use Rattle.slots.specs.declared.Kind.the-variants.{Unused, Queue, Mutex}
 use Rattle.slots.specs.declared.Ring.{Ring}
 use Rattle.slots.specs.declared.Object.{Object}
-use Rattle.slots.specs.Objects.{isUnused, heldBy}
+use Rattle.slots.specs.Kinds.{isUnused, heldBy}
 use Rattle.objects.specs.declared.Cells.{Cells}
 use Rattle.objects.specs.declared.Objects.{Objects}
 

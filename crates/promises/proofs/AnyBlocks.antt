@@ -10,7 +10,7 @@ use Rattle.lists.proofs.Loops.{fold-append}
 use Rattle.lists.specs.Lists.{foldl}
 use Rattle.rules.specs.State.{State}
 use Rattle.cuts.specs.declared.Cut.{Cut}
-use Rattle.rules.specs.Session.{Run, begun, fed, noRoom, run}
+use Rattle.rules.specs.Sessions.{Run, begun, fed, noRoom, run}
 use Rattle.promises.specs.Turns.{Turn, Pause, begins, paused, handedIn, afterTurn, afterTurns, cameIn, inOne, Through}
 
 -- r, and then what q took and answered from where r stood

@@ -10,11 +10,11 @@ use borrow.Author.Tests.{eqb-true}
 use Rattle.lists.specs.Choice.{if_then_else_}
 use Rattle.lists.specs.Lists.{foldl, upTo}
 use Rattle.calls.specs.Door.{taskSlot, objSlot}
-use Rattle.calls.specs.Asked.{asked}
+use Rattle.calls.specs.Behind.{asked}
 use Rattle.order.specs.Order.{listed}
 use Rattle.slots.specs.Places.{isListed, wakesAt, outcomeDue}
-use Rattle.slots.specs.Tasks.{brokenOff, taskAt}
-use Rattle.slots.specs.Objects.{kindAt}
+use Rattle.slots.specs.Values.{brokenOff, taskAt}
+use Rattle.slots.specs.Kinds.{kindAt}
 use Rattle.rules.specs.Tables.{fresh, holds, withTask, withTick, withHold}
 use Rattle.rules.specs.Lines.{level, first, runsIf, chosen, toTail, leaves}
 use Rattle.rules.specs.Sound.{noHigher}
@@ -22,13 +22,14 @@ use Rattle.rules.specs.Waits.{later, arrives, waitFor}
 use Rattle.rules.specs.Loans.{prioritized, newPriority, lent, ownAgain}
 use Rattle.numbers.specs.Numbers.{byNumber}
 use Rattle.rules.specs.Ticks.{wokenIfDue, wakes, oneTick, turned, ticked, ticks, released, held}
-use Rattle.rules.specs.Items.{oneLess, sentBy, sent, sentTo, refilledBy, received, receivedFrom}
+use Rattle.rules.specs.Rings.{oneLess}
+use Rattle.rules.specs.Queues.{sentBy, sent, sentTo, refilledBy, received, receivedFrom}
 use Rattle.rules.specs.Effects.{created, deleted, suspended, resumed, yielded, delayed, queueMade, mutexMade, removed, takenFrom, taken, handedTo, handedOn, given, effect}
 use Rattle.rules.specs.Refusals.{refusal}
-use Rattle.rules.specs.Step.{accepted, turnedAway, step}
+use Rattle.rules.specs.Steps.{accepted, turnedAway, step}
 use Rattle.rules.specs.Trace.{momentOf, trace, stateAfter, CallMade, stepMade}
-use Rattle.rules.proofs.Within.{by-outlet}
-use Rattle.rules.proofs.Blocks.{prioritized-same}
+use Rattle.rules.proofs.TableWithin.{by-outlet}
+use Rattle.rules.proofs.KeepBlocks.{prioritized-same}
 use Rattle.promises.specs.Types.{TaskSlot, ObjSlot, Call, Create, Delete, Suspend, Resume, SetPriority, Delay, Yield, Hold, Release, MakeQueue, MakeMutex, Remove, Send}
 use Rattle.promises.specs.Types.{Receive, Take, Give, Tick, Ready, Delayed, AllReady, WaitersOf, Nobody, By, Kind, Unused, Queue, Mutex, State}
 use Rattle.promises.specs.History.{reached}

@@ -12,14 +12,14 @@ use Rattle.calls.specs.declared.Call.{Call}
 use Rattle.calls.specs.Door.{taskNo}
 use Rattle.journal.specs.declared.Reading.{Reading}
 use Rattle.journal.specs.declared.Reading.the-variants.{Says, Refused}
-use Rattle.journal.specs.Steps.{readOf, noCall}
+use Rattle.journal.specs.Reader.{readOf, noCall}
 use Rattle.journal.proofs.Newlines.{Ended, reply-ended}
 use Rattle.rules.specs.State.{State}
 use Rattle.rules.specs.Sound.{sound}
 use Rattle.rows.specs.Applies.{table}
 use Rattle.rules.specs.Refusals.{laterRow, refusal}
-use Rattle.rules.specs.Step.{Stepped, turnedAway, step}
-use Rattle.rules.specs.Session.{noLine, stepTold, told, readLine, stepOfLine}
+use Rattle.rules.specs.Steps.{Stepped, turnedAway, step}
+use Rattle.rules.specs.Sessions.{noLine, stepTold, told, readLine, stepOfLine}
 use Rattle.rules.specs.Trace.{trace}
 use Rattle.promises.specs.Program.{linesOf, Answered, answering, answersTo, newlines, allRefused}
 use Rattle.promises.proofs.LineForLine.{first-line}

@@ -9,21 +9,21 @@ use Rattle.lists.specs.Lists.{larger}
 use Rattle.numbers.specs.Numbers.{idle}
 use Rattle.calls.specs.declared.TaskNo.{TaskNo}
 use Rattle.calls.specs.Door.{taskSlot}
-use Rattle.calls.specs.Asked.{asked}
-use Rattle.slots.specs.Tasks.{ranked, taskAt}
-use Rattle.slots.specs.Objects.{kindAt}
+use Rattle.calls.specs.Behind.{asked}
+use Rattle.slots.specs.Values.{ranked, taskAt}
+use Rattle.slots.specs.Kinds.{kindAt}
 use Rattle.rules.specs.Tables.{fresh}
 use Rattle.rules.specs.Lines.{level}
 use Rattle.rules.specs.Sentences.{Holds, Exists, MayWait, receiver, sender, taker, Sound}
 use Rattle.rules.specs.Loans.{prioritized, newPriority}
 use Rattle.rules.specs.Effects.{effect}
-use Rattle.rules.specs.Step.{accepted, step}
+use Rattle.rules.specs.Steps.{accepted, step}
 use Rattle.rules.specs.Trace.{CallMade}
-use Rattle.rules.proofs.Chosen.{chosen-tasks}
-use Rattle.rules.proofs.Held.{some-holds}
-use Rattle.rules.proofs.Says.{sound-says}
-use Rattle.rules.proofs.Slotted.{at-same}
-use Rattle.rules.proofs.Blocks.{prioritized-tasks}
+use Rattle.rules.proofs.KeepChosen.{chosen-tasks}
+use Rattle.rules.proofs.TableHolds.{some-holds}
+use Rattle.rules.proofs.SoundSays.{sound-says}
+use Rattle.rules.proofs.KeepSlot.{at-same}
+use Rattle.rules.proofs.KeepBlocks.{prioritized-tasks}
 use Rattle.rules.proofs.Keeps.{there-low}
 use Rattle.promises.specs.Types.{TaskSlot, ObjSlot, SetPriority, Wake, Ready, Waiting, Kind, Unused, State}
 use Rattle.promises.specs.History.{reached}

@@ -14,15 +14,15 @@ use Rattle.slots.specs.declared.Place.{Place}
 use Rattle.slots.specs.declared.Place.the-variants.{Free, Ready, Delayed, Waiting, Suspended}
 use Rattle.slots.specs.Places.{isFree}
 use Rattle.rules.specs.State.{State}
-use Rattle.slots.specs.Tasks.{taskAt}
+use Rattle.slots.specs.Values.{taskAt}
 use Rattle.rules.specs.Tables.{fresh}
 use Rattle.rules.specs.Lines.{level}
 use Rattle.rules.specs.Sound.{sound}
 use Rattle.rules.specs.Sentences.{Sound}
-use Rattle.rules.proofs.Says.{sound-says}
+use Rattle.rules.proofs.SoundSays.{sound-says}
 use Rattle.rules.specs.Trace.{CallMade, stepMade}
 use Rattle.rules.proofs.Traces.{trace-keeps}
-use Rattle.rules.proofs.Every.{fresh-sound, step-kept}
+use Rattle.rules.proofs.KeepEvery.{fresh-sound, step-kept}
 use Rattle.promises.specs.History.{after, reached, states, Placed, overlisted}
 
 -- soundness all the way

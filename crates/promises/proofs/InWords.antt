@@ -6,11 +6,11 @@ use mathlib.Core.List.{List, [], _∷_, _++_, flatten}
 use lib.ListN.{replicate}
 use Rattle.lists.specs.Lists.{foldl}
 use Rattle.journal.specs.Promise.{IsLine, NoLine}
-use Rattle.journal.specs.Steps.{readOf}
+use Rattle.journal.specs.Reader.{readOf}
 use Rattle.journal.proofs.Promised.{reads-as}
 use Rattle.rules.specs.Tables.{fresh}
-use Rattle.rules.specs.Step.{Stepped}
-use Rattle.rules.specs.Session.{told, stepOfLine}
+use Rattle.rules.specs.Steps.{Stepped}
+use Rattle.rules.specs.Sessions.{told, stepOfLine}
 use Rattle.rules.specs.Trace.{trace}
 use Rattle.promises.specs.Types.{State}
 use Rattle.promises.specs.Program.{linesOf, Answered, answering, program}

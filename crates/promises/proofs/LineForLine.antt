@@ -10,14 +10,14 @@ use lib.Seq.{append-snoc, take-suc-set}
 use borrow.Author.Tests.{ltb-true, ltb-false, lt-ltb, le-ltb, eqb-false, eq-eqb, ne-eqb}
 use Rattle.lists.specs.Choice.{if_then_else_}
 use Rattle.lists.specs.Lists.{foldl, index}
-use Rattle.journal.specs.Steps.{readOf, noCall}
+use Rattle.journal.specs.Reader.{readOf, noCall}
 use Rattle.journal.proofs.Newlines.{Clear, Ended, one-clear, clear-append, ended-append}
 use Rattle.cuts.specs.declared.Cut.{Cut}
 use Rattle.cuts.specs.Keeping.{noByte, kept, ended, isEmpty}
 use Rattle.rules.specs.State.{State}
 use Rattle.rules.specs.Tables.{fresh}
-use Rattle.rules.specs.Session.{Run, noLine, lineStep, readCut, stepRead, told, readLine, stepOfLine, answeredBy, fed, begun, closed}
-use Rattle.rules.specs.Step.{Stepped, turnedAway}
+use Rattle.rules.specs.Sessions.{Run, noLine, lineStep, readCut, stepRead, told, readLine, stepOfLine, answeredBy, fed, begun, closed}
+use Rattle.rules.specs.Steps.{Stepped, turnedAway}
 use Rattle.rules.specs.Trace.{trace}
 use Rattle.promises.specs.Program.{inFront, linesOf, Answered, answering, program, answersTo}
 use Rattle.promises.specs.Turns.{Turn, Pause, afterTurns, cameIn, afterEnd, opened, atStart, outcome, inOne}

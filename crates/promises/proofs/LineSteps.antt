@@ -18,14 +18,14 @@ use Rattle.journal.specs.declared.Reading.the-variants.{Refused}
 use Rattle.journal.specs.Line.{lineOf, HasLine}
 use Rattle.journal.specs.Told.{aCall, refusal, reads}
 use Rattle.journal.specs.Promise.{IsLine, NoLine}
-use Rattle.journal.specs.Steps.{says, readOf, noCall}
+use Rattle.journal.specs.Reader.{says, readOf, noCall}
 use Rattle.journal.proofs.Fit.{item-long}
 use Rattle.journal.proofs.Newlines.{isNewline, Clear, line-ended}
 use Rattle.journal.proofs.Promised.{line-read, reads-as}
 use Rattle.journal.proofs.Theorems.{one-reading, told-item, line-within}
 use Rattle.rules.specs.State.{State}
-use Rattle.rules.specs.Step.{turnedAway, step}
-use Rattle.rules.specs.Session.{noLine, stepTold, stepRead, readLine, stepOfLine}
+use Rattle.rules.specs.Steps.{turnedAway, step}
+use Rattle.rules.specs.Sessions.{noLine, stepTold, stepRead, readLine, stepOfLine}
 
 -- the line of a call with an item
 pub call-line : (k : State) (s : List ℕ) (c : Call) (b : List ℕ) → HasLine c b → stepOfLine k s (lineOf c b) ≡ step k c b s

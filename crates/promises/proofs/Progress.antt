@@ -10,11 +10,11 @@ use borrow.Author.Tests.{le-ltb, ltb-true, ltb-false}
 use Rattle.lists.specs.Choice.{if_then_else_}
 use Rattle.lists.specs.Lists.{foldl}
 use Rattle.calls.specs.Door.{taskNo}
-use Rattle.journal.proofs.Stores.{reply-within}
+use Rattle.journal.proofs.LineStores.{reply-within}
 use Rattle.rules.specs.State.{State}
 use Rattle.cuts.specs.declared.Cut.{Cut}
 use Rattle.cuts.specs.Keeping.{kept}
-use Rattle.rules.specs.Session.{Run, begun, lineStep, told, fed, noRoom, run}
+use Rattle.rules.specs.Sessions.{Run, begun, lineStep, told, fed, noRoom, run}
 use Rattle.promises.specs.Turns.{Turn, Pause, begins, handedIn, afterTurn, afterTurns, Asking}
 use Rattle.promises.proofs.AnyBlocks.{front, fed-taken}
 

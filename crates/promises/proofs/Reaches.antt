@@ -8,7 +8,7 @@ use Rattle.journal.specs.declared.Reading.{Reading}
 use Rattle.journal.specs.declared.Reading.the-variants.{Says, Refused}
 use Rattle.rules.specs.State.{State}
 use Rattle.rules.specs.Tables.{fresh}
-use Rattle.rules.specs.Session.{stepTold, readLine, stepOfLine}
+use Rattle.rules.specs.Sessions.{stepTold, readLine, stepOfLine}
 use Rattle.rules.specs.Trace.{trace, stateAfter, stepMade}
 use Rattle.rules.proofs.Traces.{more-calls}
 use Rattle.promises.specs.History.{after, reached, Placed}

@@ -3,7 +3,7 @@ use Prim.Native.Nat.{ℕ, _≤_}
 use mathlib.Core.Path.{_≡_, refl, ap, _∙_}
 use mathlib.Core.List.{List, [], flatten}
 use Rattle.lists.specs.Lists.{every, allBelow, foldl, upTo, index, any, kept}
-use Rattle.calls.specs.Asked.{asked}
+use Rattle.calls.specs.Behind.{asked}
 use Rattle.order.specs.Order.{ordered, without}
 use Rattle.order.specs.Tidy.{count, tidy}
 use Rattle.rules.specs.Effects.{created, mutexMade, taken, handedOn, given, effect}
@@ -12,11 +12,11 @@ use Rattle.rules.specs.Loans.{moved, movedIf, prioritized, lent, ownAgain}
 use Rattle.rows.specs.Applies.{outOfRange, namesNone, wrongSize, notForIdle, notWithHold, noSlot, notHis, hisAlready, notSuspended, mustWait, noDepth, noTick, table}
 use Rattle.rules.specs.Refusals.{inUse, laterRow, refusal}
 use Rattle.rules.specs.Sound.{tablesFine, levelsFine, listingFine, clockFine, noHigher, runsFine, sound}
-use Rattle.rules.specs.Step.{stored, answered, accepted, step}
-use Rattle.rules.specs.Session.{readLine, stepOfLine}
+use Rattle.rules.specs.Steps.{stored, answered, accepted, step}
+use Rattle.rules.specs.Sessions.{readLine, stepOfLine}
 use Rattle.rules.specs.Trace.{trace}
-use Rattle.slots.specs.Tasks.{taskAt}
-use Rattle.slots.specs.Objects.{kindAt}
+use Rattle.slots.specs.Values.{taskAt}
+use Rattle.slots.specs.Kinds.{kindAt}
 use Rattle.rules.specs.Tables.{fresh, holds, freeSlot, freeObject}
 use Rattle.rules.specs.Waits.{arrives, waitFor}
 use Rattle.fields.specs.Decimal.{digits, dec}
@@ -24,7 +24,7 @@ use Rattle.fields.specs.Digit.{among}
 use Rattle.fields.specs.Number.{grow}
 use Rattle.calls.specs.Table.{callOf}
 use Rattle.calls.specs.Words.{shapeOf}
-use Rattle.journal.specs.Steps.{nums, readOf}
+use Rattle.journal.specs.Reader.{nums, readOf}
 use Rattle.journal.specs.Reply.{reply}
 use Rattle.promises.specs.Program.{linesOf, Answered, answering, answersTo}
 use Rattle.promises.specs.Turns.{Turn, afterTurns, cameIn, afterEnd, atStart}

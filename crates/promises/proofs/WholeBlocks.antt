@@ -8,10 +8,10 @@ use lib.Dec.{eqb}
 use lib.ListN.{length, replicate, length-append}
 use Rattle.lists.specs.Lists.{foldl}
 use Rattle.calls.specs.Door.{taskNo}
-use Rattle.journal.proofs.Stores.{reply-within}
+use Rattle.journal.proofs.LineStores.{reply-within}
 use Rattle.cuts.specs.Keeping.{kept}
 use Rattle.rules.specs.Tables.{fresh}
-use Rattle.rules.specs.Session.{Run, lineStep, told, fed, run}
+use Rattle.rules.specs.Sessions.{Run, lineStep, told, fed, run}
 use Rattle.promises.specs.Program.{program}
 use Rattle.promises.specs.Turns.{begins, afterEnd, atStart, outcome, inOne}
 use Rattle.promises.proofs.AnyBlocks.{fed-taken}

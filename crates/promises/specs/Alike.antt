@@ -8,12 +8,12 @@ use Rattle.numbers.specs.declared.ObjSlot.{ObjSlot}
 use Rattle.numbers.specs.Numbers.{task, idle}
 use Rattle.order.specs.Order.{listed, ordered}
 use Rattle.slots.specs.declared.Who.the-variants.{WaitersOf}
-use Rattle.slots.specs.Tasks.{freeTask, readyAt}
-use Rattle.slots.specs.Objects.{unused}
+use Rattle.slots.specs.Values.{freeTask, readyAt}
+use Rattle.slots.specs.Kinds.{unused}
 use Rattle.rules.specs.State.{State}
 use Rattle.rules.specs.Lines.{line, those}
 use Rattle.rules.specs.Sentences.{Listing}
-use Rattle.rules.specs.Step.{Stepped}
+use Rattle.rules.specs.Steps.{Stepped}
 
 pub record Alike (k j : State) : Type 0 where
   -- the same tasks: places, priorities, outcomes

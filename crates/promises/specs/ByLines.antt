@@ -5,8 +5,8 @@ use mathlib.Core.List.{List, [], _∷_, _++_}
 use lib.ListN.{replicate}
 use Rattle.journal.specs.Line.{lineOf, HasLine}
 use Rattle.rules.specs.Tables.{fresh}
-use Rattle.rules.specs.Step.{Stepped, turnedAway, step}
-use Rattle.rules.specs.Session.{noLine, told}
+use Rattle.rules.specs.Steps.{Stepped, turnedAway, step}
+use Rattle.rules.specs.Sessions.{noLine, told}
 use Rattle.promises.specs.Types.{Call, State}
 use Rattle.promises.specs.Program.{linesOf, Answered}
 

@@ -3,13 +3,13 @@ use Prim.Native.Nat.{ℕ}
 use mathlib.Core.List.{List, [], _∷_, _++_, map}
 use lib.ListN.{replicate}
 use Rattle.numbers.specs.Numbers.{task}
-use Rattle.calls.specs.Numbers.{taskOf, objectOf}
+use Rattle.calls.specs.Named.{taskOf, objectOf}
 use Rattle.calls.specs.Door.{taskNo}
 use Rattle.calls.specs.Said.{Word, done, made, waiting, refused, Saying, says}
 use Rattle.promises.specs.Types.{State, Call, Create, Delete, SetPriority, Delay, Hold, MakeQueue, MakeMutex, Send, Take, Give, Tick}
 use Rattle.rules.specs.Tables.{fresh, withTick}
 use Rattle.rules.specs.Lines.{level}
-use Rattle.rules.specs.Step.{Stepped, step}
+use Rattle.rules.specs.Steps.{Stepped, step}
 use Rattle.rules.specs.Trace.{trace, lending}
 
 -- what is seen after a call: what it is answered, who runs then, and what a case looks at

@@ -14,8 +14,8 @@ use Rattle.slots.specs.declared.Place.{Place}
 use Rattle.slots.specs.declared.Place.the-variants.{Ready}
 use Rattle.slots.specs.declared.Who.the-variants.{WaitersOf}
 use Rattle.slots.specs.Places.{isFree, isReady, isDelayed, isWaiting, isSuspended, isListed, waitsOn}
-use Rattle.slots.specs.Tasks.{freeTask, readyAt, brokenOff, inLine, taskAt}
-use Rattle.slots.specs.Objects.{unused}
+use Rattle.slots.specs.Values.{freeTask, readyAt, brokenOff, inLine, taskAt}
+use Rattle.slots.specs.Kinds.{unused}
 use Rattle.rules.specs.State.{State}
 use Rattle.rules.specs.Tables.{fresh}
 use Rattle.rules.specs.Lines.{line, those, level}

@@ -9,7 +9,7 @@ use Rattle.calls.specs.Said.{says, refused}
 use Rattle.journal.specs.Reply.{reply}
 use Rattle.rules.specs.State.{State}
 use Rattle.rules.specs.Tables.{fresh}
-use Rattle.rules.specs.Session.{told, stepOfLine}
+use Rattle.rules.specs.Sessions.{told, stepOfLine}
 use Rattle.rules.specs.Trace.{trace, stateAfter, storeAfter}
 
 -- a byte in front of the first line; a line of its own where there is none

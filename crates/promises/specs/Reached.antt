@@ -7,7 +7,7 @@ use Rattle.journal.specs.declared.Reading.{Reading}
 use Rattle.journal.specs.declared.Reading.the-variants.{Says, Refused}
 use Rattle.rules.specs.State.{State}
 use Rattle.rules.specs.Tables.{fresh}
-use Rattle.rules.specs.Session.{readLine, stepOfLine}
+use Rattle.rules.specs.Sessions.{readLine, stepOfLine}
 use Rattle.rules.specs.Trace.{trace, CallMade}
 use Rattle.promises.specs.Program.{program}
 use Rattle.promises.specs.Turns.{Turn, afterTurns, cameIn, atStart}

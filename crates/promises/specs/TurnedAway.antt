@@ -5,14 +5,14 @@ use mathlib.Core.Bool.{true, false, not}
 use mathlib.Core.Logic.{_⊎_}
 use mathlib.Core.List.{List, [], _∷_}
 use lib.ListN.{length}
-use Rattle.calls.specs.Asked.{asked}
+use Rattle.calls.specs.Behind.{asked}
 use Rattle.calls.specs.Said.{says, refused}
 use Rattle.rules.specs.Lines.{chosen}
 use Rattle.rules.specs.Sound.{sound}
 use Rattle.rows.specs.Applies.{Row, row, table}
 use Rattle.rules.specs.Refusals.{seen}
 use Rattle.rules.specs.Effects.{effect}
-use Rattle.rules.specs.Step.{Stepped, answered, stored}
+use Rattle.rules.specs.Steps.{Stepped, answered, stored}
 use Rattle.promises.specs.Types.{Asked, Call, State}
 
 -- the table of refusals, whole: 1 "the kernel value is not sound" stands first. (3 is the line reader's.)

@@ -8,7 +8,7 @@ use Rattle.rules.specs.State.{State}
 use Rattle.cuts.specs.declared.Cut.{Cut}
 use Rattle.cuts.specs.Keeping.{noByte}
 use Rattle.rules.specs.Tables.{fresh}
-use Rattle.rules.specs.Session.{Run, begun, fed, run, closed}
+use Rattle.rules.specs.Sessions.{Run, begun, fed, run, closed}
 use Rattle.promises.specs.Program.{Answered}
 
 -- what a turn brings: the bytes that have come, and how many bytes are lent for the answers

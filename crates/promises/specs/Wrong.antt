@@ -7,14 +7,14 @@ use lib.ListN.{length, getD, replicate}
 use Rattle.lists.specs.Choice.{if_then_else_}
 use Rattle.lists.specs.Lists.{index, upTo, kept}
 use Rattle.numbers.specs.Numbers.{task, object, sameTask}
-use Rattle.calls.specs.Numbers.{taskOf, objectOf}
-use Rattle.calls.specs.Asked.{asked}
+use Rattle.calls.specs.Named.{taskOf, objectOf}
+use Rattle.calls.specs.Behind.{asked}
 use Rattle.calls.specs.Said.{Word, done, made, waiting, refused, says}
 use Rattle.order.specs.Order.{listed}
 use Rattle.items.specs.Bytes.{putAt}
 use Rattle.slots.specs.Places.{isReady, isWaiting, isSuspended, waitsOn, ofWake, wakesAt, outcomeDue}
-use Rattle.slots.specs.Tasks.{brokenOff, taskAt}
-use Rattle.slots.specs.Objects.{holderOf, kindAt}
+use Rattle.slots.specs.Values.{brokenOff, taskAt}
+use Rattle.slots.specs.Kinds.{holderOf, kindAt}
 use Rattle.promises.specs.Types.{TaskSlot, ObjSlot, Asked, Call, Create, Delete, Suspend, Delay, Hold, Release, MakeQueue, MakeMutex, Send, Receive, Take, Give, Tick, Place}
 use Rattle.promises.specs.Types.{Task, State}
 use Rattle.promises.specs.Cases.{View, view, viewOf}
@@ -23,12 +23,12 @@ use Rattle.rules.specs.Lines.{level, leader, chosen, toTail}
 use Rattle.rules.specs.Waits.{later, arrives}
 use Rattle.rules.specs.Loans.{prioritized}
 use Rattle.rules.specs.Ticks.{wokenIfDue, oneTick, turned, ticked, released}
-use Rattle.rules.specs.Items.{slipOf}
+use Rattle.rules.specs.Parts.{slipOf}
 use Rattle.rows.specs.Asking.{is}
 use Rattle.rows.specs.Applies.{isEmpty}
 use Rattle.rules.specs.Refusals.{laterRow, refusal}
 use Rattle.rules.specs.Effects.{suspended, handedOn, effect}
-use Rattle.rules.specs.Step.{Stepped, answered, stored, turnedAway, step}
+use Rattle.rules.specs.Steps.{Stepped, answered, stored, turnedAway, step}
 use Rattle.rules.specs.Trace.{trace, atLast, lending}
 
 abbrev pub Stepping : Type 0

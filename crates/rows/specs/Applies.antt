@@ -6,7 +6,7 @@ use lib.Dec.{eqb, ltb, leb}
 use Rattle.lists.specs.Choice.{if_then_else_}
 use Rattle.numbers.specs.Numbers.{sameTask, isIdle}
 use Rattle.slots.specs.Places.{isFree, isSuspended}
-use Rattle.slots.specs.Objects.{isUnused, isQueue, isMutex, heldBy, isHeld}
+use Rattle.slots.specs.Kinds.{isUnused, isQueue, isMutex, heldBy, isHeld}
 use Rattle.rows.specs.Types.{Names, Nothing, ATask, AnObject, AQueue, AMutex, Asked, Kind, Unused, Queue, Mutex, Seen}
 use Rattle.rows.specs.Asking.{is, stops, waits}
 

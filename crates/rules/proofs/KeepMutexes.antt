@@ -11,12 +11,12 @@ use Rattle.lists.specs.Lists.{larger}
 use Rattle.lists.proofs.Bools.{on, not-off}
 use Rattle.lists.proofs.Tests.{larger-max}
 use Rattle.numbers.specs.Numbers.{idle, sameTask}
-use Rattle.calls.specs.Asked.{onObject}
-use Rattle.order.proofs.Lines.{one-number}
+use Rattle.calls.specs.Behind.{onObject}
+use Rattle.order.proofs.Passing.{one-number}
 use Rattle.slots.specs.Places.{waitsOn}
-use Rattle.slots.specs.Tasks.{ranked, taskAt}
-use Rattle.slots.specs.Objects.{isUnused, isMutex, heldBy, isHeld, kindAt}
-use Rattle.slots.specs.Fine.{notDue}
+use Rattle.slots.specs.Values.{ranked, taskAt}
+use Rattle.slots.specs.Kinds.{isUnused, isMutex, heldBy, isHeld, kindAt}
+use Rattle.slots.specs.SoundSlots.{notDue}
 use Rattle.rules.specs.Types.{TaskSlot, ObjSlot, Wake, Place, Free, Ready, Waiting, Task, Nobody, By, Kind, Unused, Queue, Mutex, WaitersOf, State, AMutex}
 use Rattle.rules.specs.Tables.{holds, withObject}
 use Rattle.rules.specs.Lines.{level, first, toTail}
@@ -25,15 +25,15 @@ use Rattle.rows.specs.Applies.{namesNone, notForIdle, hisAlready, notHis}
 use Rattle.rules.specs.Waits.{wakeOf, arrives, waitFor}
 use Rattle.rules.specs.Loans.{prioritized, lent, ownAgain}
 use Rattle.rules.specs.Effects.{takenFrom, taken, handedTo, handedOn, given, effect}
-use Rattle.rules.proofs.Slots.{by-kind}
-use Rattle.rules.proofs.Held.{held-one, none-holds}
-use Rattle.rules.proofs.Passes.{Passed}
-use Rattle.rules.proofs.Within.{first-meant, first-within, first-single}
-use Rattle.rules.proofs.Nearly.{Owing, settled, level-as, Nearly, RunsIn}
-use Rattle.rules.proofs.Slotted.{at-same}
-use Rattle.rules.proofs.Objected.{object-nearly}
-use Rattle.rules.proofs.Chosen.{sound-nearly}
-use Rattle.rules.proofs.Blocks.{to-ready, to-wait, arrives-nearly, arrives-runs, Same, arrives-same, arrives-at, prioritized-same, prioritized-tasks, prioritized-nearly, prioritized-runs}
+use Rattle.rules.proofs.TableSlots.{by-kind}
+use Rattle.rules.proofs.TableHolds.{held-one, none-holds}
+use Rattle.rules.proofs.RowPasses.{Passed}
+use Rattle.rules.proofs.TableWithin.{first-meant, first-within, first-single}
+use Rattle.rules.proofs.KeepNearly.{Owing, settled, level-as, Nearly, RunsIn}
+use Rattle.rules.proofs.KeepSlot.{at-same}
+use Rattle.rules.proofs.KeepObject.{object-nearly}
+use Rattle.rules.proofs.KeepChosen.{sound-nearly}
+use Rattle.rules.proofs.KeepBlocks.{to-ready, to-wait, arrives-nearly, arrives-runs, Same, arrives-same, arrives-at, prioritized-same, prioritized-tasks, prioritized-nearly, prioritized-runs}
 use Rattle.rules.proofs.Keeps.{Keeps, wait-free, must-wait, some-wait, there-low, ready-low, apart}
 use Rattle.rules.proofs.KeepTicks.{at-tick, reopen}
 use Rattle.rules.proofs.KeepObjects.{no-wait-free, object-low, first-none, wake-ahead}
@@ -42,7 +42,6 @@ mutex-used : (x : Kind) → isMutex x ≡ true → isUnused x ≡ false
 mutex-used Unused e = absurd (false≢true e)
 mutex-used (Queue q) e = refl
 mutex-used (Mutex h) e = refl
-
 
 module _ (k : State) (S : Sound k) (store : ℕ) where
   N : Nearly (settled (k .tick)) k

@@ -11,12 +11,12 @@ use Rattle.lists.specs.Choice.{if_then_else_}
 use Rattle.lists.specs.Lists.{isNone}
 use Rattle.lists.proofs.Bools.{on, or-off}
 use Rattle.numbers.specs.Numbers.{object, idle}
-use Rattle.calls.specs.Asked.{nothing, onObject}
+use Rattle.calls.specs.Behind.{nothing, onObject}
 use Rattle.order.specs.Order.{listed}
 use Rattle.order.specs.Tidy.{count}
-use Rattle.slots.specs.Objects.{unused, isUnused, isMutex, isHeld, kindAt}
+use Rattle.slots.specs.Kinds.{unused, isUnused, isMutex, isHeld, kindAt}
 use Rattle.rules.specs.Types.{TaskSlot, ObjSlot, Wake, Never, At, Waiting, Ring, Nobody, By, Kind, Unused, Queue, Mutex, Object, WaitersOf, State, AnObject}
-use Rattle.slots.specs.Tasks.{taskAt}
+use Rattle.slots.specs.Values.{taskAt}
 use Rattle.rules.specs.Tables.{freeObject, withObject}
 use Rattle.rules.specs.Lines.{those, first}
 use Rattle.rules.specs.Sentences.{MayWait, receiver, sender, taker, RingFits, Sound}
@@ -25,12 +25,12 @@ use Rattle.rows.specs.Applies.{outOfRange, namesNone, noSlot}
 use Rattle.rules.specs.Refusals.{heldOrWaited, inUse}
 use Rattle.rules.specs.Waits.{later, wakeOf}
 use Rattle.rules.specs.Effects.{queueMade, mutexMade, removed, effect}
-use Rattle.rules.proofs.Slots.{past-objects}
-use Rattle.rules.proofs.Leads.{leader-none}
-use Rattle.rules.proofs.Passes.{Passed}
-use Rattle.rules.proofs.Nearly.{Owing, settled, Nearly, RunsIn}
-use Rattle.rules.proofs.Objected.{object-nearly}
-use Rattle.rules.proofs.Chosen.{sound-nearly}
+use Rattle.rules.proofs.TableSlots.{past-objects}
+use Rattle.rules.proofs.LineLeads.{leader-none}
+use Rattle.rules.proofs.RowPasses.{Passed}
+use Rattle.rules.proofs.KeepNearly.{Owing, settled, Nearly, RunsIn}
+use Rattle.rules.proofs.KeepObject.{object-nearly}
+use Rattle.rules.proofs.KeepChosen.{sound-nearly}
 use Rattle.rules.proofs.Keeps.{Keeps, index-most, index-passes}
 use Rattle.rules.proofs.KeepTasks.{later-ahead}
 

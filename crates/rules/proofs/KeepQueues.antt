@@ -8,25 +8,26 @@ use lib.Dec.{eqb, ltb}
 use borrow.Author.Tests.{eqb-true, eqb-false, eq-eqb, ne-eqb, ltb-true, ltb-false}
 use Rattle.lists.specs.Choice.{if_then_else_}
 use Rattle.lists.proofs.Bools.{on, not-off}
-use Rattle.calls.specs.Asked.{onObject}
+use Rattle.calls.specs.Behind.{onObject}
 use Rattle.slots.specs.Places.{waitsOn}
-use Rattle.slots.specs.Objects.{isUnused, isQueue, isMutex, kindAt}
+use Rattle.slots.specs.Kinds.{isUnused, isQueue, isMutex, kindAt}
 use Rattle.rules.specs.Types.{TaskSlot, ObjSlot, Wake, Place, Free, Ready, Delayed, Waiting, Suspended, Ring, Kind, Queue, WaitersOf, toWaiter, toQueue, toCaller, State, AQueue}
-use Rattle.slots.specs.Tasks.{taskAt}
+use Rattle.slots.specs.Values.{taskAt}
 use Rattle.rules.specs.Tables.{withObject}
 use Rattle.rules.specs.Lines.{first, toTail}
 use Rattle.rules.specs.Sentences.{MayWait, receiver, sender, taker, RingFits, Sound}
 use Rattle.rows.specs.Applies.{namesNone}
 use Rattle.rules.specs.Waits.{arrives, waitFor}
-use Rattle.rules.specs.Items.{oneMore, oneLess, roomOr, outletFor, outlet, sentBy, sent, sentTo, refilledBy, received, receivedFrom}
+use Rattle.rules.specs.Rings.{oneMore, oneLess, roomOr}
+use Rattle.rules.specs.Queues.{outletFor, outlet, sentBy, sent, sentTo, refilledBy, received, receivedFrom}
 use Rattle.rules.specs.Effects.{effect}
-use Rattle.rules.proofs.Passes.{Passed}
-use Rattle.rules.proofs.Slots.{by-kind}
-use Rattle.rules.proofs.Within.{less-fits, first-meant, first-within, first-single}
-use Rattle.rules.proofs.Nearly.{settled, Nearly, RunsIn}
-use Rattle.rules.proofs.Objected.{object-nearly}
-use Rattle.rules.proofs.Chosen.{sound-nearly}
-use Rattle.rules.proofs.Blocks.{to-ready, to-wait, arrives-nearly, arrives-runs}
+use Rattle.rules.proofs.RowPasses.{Passed}
+use Rattle.rules.proofs.TableSlots.{by-kind}
+use Rattle.rules.proofs.TableWithin.{less-fits, first-meant, first-within, first-single}
+use Rattle.rules.proofs.KeepNearly.{settled, Nearly, RunsIn}
+use Rattle.rules.proofs.KeepObject.{object-nearly}
+use Rattle.rules.proofs.KeepChosen.{sound-nearly}
+use Rattle.rules.proofs.KeepBlocks.{to-ready, to-wait, arrives-nearly, arrives-runs}
 use Rattle.rules.proofs.Keeps.{Keeps, wait-busy, wait-free, must-wait, some-wait, ready-low, apart}
 use Rattle.rules.proofs.KeepObjects.{not-by, object-low, first-none, wake-ahead}
 

@@ -11,10 +11,10 @@ use Rattle.lists.specs.Lists.{larger}
 use Rattle.lists.proofs.Bools.{and-intro, on, not-off, or-off}
 use Rattle.lists.proofs.Tests.{larger-max}
 use Rattle.numbers.specs.Numbers.{task, idle, isIdle}
-use Rattle.calls.specs.Asked.{nothing, onTask}
-use Rattle.order.proofs.Lines.{one-number}
+use Rattle.calls.specs.Behind.{nothing, onTask}
+use Rattle.order.proofs.Passing.{one-number}
 use Rattle.slots.specs.Places.{isFree, isSuspended, isBlocked, isListed}
-use Rattle.slots.specs.Tasks.{freeTask, readyAt, brokenOff, taskAt}
+use Rattle.slots.specs.Values.{freeTask, readyAt, brokenOff, taskAt}
 use Rattle.rules.specs.Types.{TaskSlot, ObjSlot, Free, Ready, Delayed, Suspended, Task, State}
 use Rattle.rules.specs.Tables.{holds, freeSlot, withTask}
 use Rattle.rules.specs.Lines.{level, toTail, leaves}
@@ -24,13 +24,13 @@ use Rattle.rules.specs.Refusals.{inUse}
 use Rattle.rules.specs.Waits.{later, arrives}
 use Rattle.rules.specs.Loans.{prioritized, movedIf, newPriority}
 use Rattle.rules.specs.Effects.{created, deleted, suspended, resumed, yielded, delayed, effect}
-use Rattle.rules.proofs.Held.{none-holds, not-held}
-use Rattle.rules.proofs.Passes.{Passed, range}
-use Rattle.rules.proofs.Nearly.{settled, TaskFine, Nearly, unblocked-fits, RunsIn}
-use Rattle.rules.proofs.Slotted.{tail-nearly, tail-listed, leave-nearly, leave-listed, moved-nearly}
-use Rattle.rules.proofs.Chosen.{sound-nearly}
-use Rattle.rules.proofs.Heads.{runs-tail, runs-leave}
-use Rattle.rules.proofs.Blocks.{to-ready, to-wait, arrives-nearly, arrives-runs, prioritized-same, prioritized-nearly, prioritized-runs}
+use Rattle.rules.proofs.TableHolds.{none-holds, not-held}
+use Rattle.rules.proofs.RowPasses.{Passed, range}
+use Rattle.rules.proofs.KeepNearly.{settled, TaskFine, Nearly, unblocked-fits, RunsIn}
+use Rattle.rules.proofs.KeepSlot.{tail-nearly, tail-listed, leave-nearly, leave-listed, moved-nearly}
+use Rattle.rules.proofs.KeepChosen.{sound-nearly}
+use Rattle.rules.proofs.KeepHeads.{runs-tail, runs-leave}
+use Rattle.rules.proofs.KeepBlocks.{to-ready, to-wait, arrives-nearly, arrives-runs, prioritized-same, prioritized-nearly, prioritized-runs}
 use Rattle.rules.proofs.Keeps.{Keeps, exists-low, not-free, ready-low, apart, index-most, index-passes}
 
 -- a wake tick that many ticks ahead is none of now

@@ -11,12 +11,12 @@ use Rattle.lists.specs.Choice.{if_then_else_}
 use Rattle.lists.specs.Lists.{foldl, upTo}
 use Rattle.lists.proofs.Bools.{and-left, and-intro, not-off, or-off}
 use Rattle.numbers.specs.Numbers.{task, sameTask, byNumber}
-use Rattle.calls.specs.Asked.{asked, nothing}
+use Rattle.calls.specs.Behind.{asked, nothing}
 use Rattle.order.specs.Order.{listed}
-use Rattle.order.proofs.Lines.{one-number}
+use Rattle.order.proofs.Passing.{one-number}
 use Rattle.slots.specs.Places.{isFree, wakesAt, outcomeDue}
-use Rattle.slots.specs.Tasks.{taskAt}
-use Rattle.slots.specs.Fine.{wakesInRange, notDue}
+use Rattle.slots.specs.Values.{taskAt}
+use Rattle.slots.specs.SoundSlots.{wakesInRange, notDue}
 use Rattle.rules.specs.Types.{TaskSlot, Place, Free, Ready, Delayed, Waiting, Suspended, Task, State}
 use Rattle.rules.specs.Tables.{withTick, withHold}
 use Rattle.rules.specs.Lines.{level, toTail}
@@ -26,12 +26,12 @@ use Rattle.rows.specs.Applies.{noDepth, noTick}
 use Rattle.rules.specs.Waits.{later, arrives}
 use Rattle.rules.specs.Ticks.{wokenIfDue, wakes, oneTick, turned, ticked, ticks, released, held}
 use Rattle.rules.specs.Effects.{effect}
-use Rattle.rules.proofs.Slots.{past-tasks, passes-there}
-use Rattle.rules.proofs.Passes.{Passed}
-use Rattle.rules.proofs.Nearly.{Owing, settled, level-as, Nearly, RunsIn}
-use Rattle.rules.proofs.Slotted.{at-other, moved-nearly}
-use Rattle.rules.proofs.Chosen.{sound-nearly}
-use Rattle.rules.proofs.Blocks.{to-ready, arrives-nearly, arrives-same, arrives-at}
+use Rattle.rules.proofs.TableSlots.{past-tasks, passes-there}
+use Rattle.rules.proofs.RowPasses.{Passed}
+use Rattle.rules.proofs.KeepNearly.{Owing, settled, level-as, Nearly, RunsIn}
+use Rattle.rules.proofs.KeepSlot.{at-other, moved-nearly}
+use Rattle.rules.proofs.KeepChosen.{sound-nearly}
+use Rattle.rules.proofs.KeepBlocks.{to-ready, arrives-nearly, arrives-same, arrives-at}
 use Rattle.rules.proofs.Keeps.{Keeps, exists-low, ready-low}
 
 -- ── the counts changed, and what is open told anew

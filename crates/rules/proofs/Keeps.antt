@@ -11,11 +11,11 @@ use Rattle.lists.specs.Choice.{if_then_else_}
 use Rattle.lists.specs.Lists.{index}
 use Rattle.lists.proofs.Bools.{off, or-off, or-right}
 use Rattle.numbers.specs.Numbers.{sameTask, isIdle}
-use Rattle.calls.specs.Asked.{asked}
+use Rattle.calls.specs.Behind.{asked}
 use Rattle.slots.specs.Places.{isFree}
-use Rattle.slots.specs.Tasks.{freeTask, taskAt}
+use Rattle.slots.specs.Values.{freeTask, taskAt}
 use Rattle.rules.specs.Types.{TaskSlot, Place, Ready, Task, Asked, Call, State}
-use Rattle.slots.specs.Objects.{kindAt}
+use Rattle.slots.specs.Kinds.{kindAt}
 use Rattle.rules.specs.Lines.{chosen}
 use Rattle.rules.specs.Sound.{sound}
 use Rattle.rules.specs.Sentences.{Exists, Sound}
@@ -23,12 +23,12 @@ use Rattle.rows.specs.Asking.{is, stops, waits}
 use Rattle.rows.specs.Applies.{notForIdle, notWithHold, stopsAt, mustWait}
 use Rattle.rules.specs.Refusals.{seen, laterRow, refusal}
 use Rattle.rules.specs.Effects.{effect}
-use Rattle.rules.specs.Step.{accepted, turnedAway, step}
-use Rattle.rules.proofs.Slots.{past-tasks}
-use Rattle.rules.proofs.Says.{sound-says, says-sound}
-use Rattle.rules.proofs.Passes.{Passed, passed}
-use Rattle.rules.proofs.Nearly.{settled, Nearly, RunsIn}
-use Rattle.rules.proofs.Chosen.{chosen-sound}
+use Rattle.rules.specs.Steps.{accepted, turnedAway, step}
+use Rattle.rules.proofs.TableSlots.{past-tasks}
+use Rattle.rules.proofs.SoundSays.{sound-says, says-sound}
+use Rattle.rules.proofs.RowPasses.{Passed, passed}
+use Rattle.rules.proofs.KeepNearly.{settled, Nearly, RunsIn}
+use Rattle.rules.proofs.KeepChosen.{chosen-sound}
 
 -- after its effect the kernel is nearly sound, and with a hold the running task still heads its line
 pub record Keeps (j : State) : Type 0 where

@@ -4,7 +4,7 @@ use mathlib.Core.Path.{_≡_, refl}
 use mathlib.Core.List.{List, [], _∷_, _++_}
 use Rattle.lists.specs.Lists.{foldl}
 use Rattle.rules.specs.Types.{State}
-use Rattle.rules.specs.Step.{Stepped}
+use Rattle.rules.specs.Steps.{Stepped}
 use Rattle.rules.specs.Trace.{trace, stateAfter, storeAfter, CallMade, stepMade}
 
 -- what every step keeps, a run keeps

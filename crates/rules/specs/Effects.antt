@@ -5,16 +5,16 @@ use lib.Dec.{eqb}
 use Rattle.lists.specs.Choice.{if_then_else_}
 use Rattle.numbers.specs.Numbers.{task, object}
 use Rattle.slots.specs.Places.{isListed}
-use Rattle.slots.specs.Tasks.{freeTask, readyAt, brokenOff, taskAt}
+use Rattle.slots.specs.Values.{freeTask, readyAt, brokenOff, taskAt}
 use Rattle.rules.specs.Types.{TaskSlot, ObjSlot, Ready, Delayed, Nobody, By, Kind, Unused, Queue, Mutex, WaitersOf, Asked, State}
-use Rattle.slots.specs.Objects.{kindAt}
+use Rattle.slots.specs.Kinds.{kindAt}
 use Rattle.rules.specs.Tables.{freeSlot, freeObject, withTask, withObject}
 use Rattle.rows.specs.Asking.{is}
 use Rattle.rules.specs.Lines.{first, toTail, leaves}
 use Rattle.rules.specs.Waits.{later, arrives, waitFor}
 use Rattle.rules.specs.Loans.{newPriority, lent, ownAgain}
 use Rattle.rules.specs.Ticks.{ticked, held, released}
-use Rattle.rules.specs.Items.{sentTo, receivedFrom}
+use Rattle.rules.specs.Queues.{sentTo, receivedFrom}
 
 -- 1: "lowest free slot; ready"
 unfoldable pub created : State → ℕ → State

@@ -8,8 +8,10 @@ pub mod Refusals
 pub mod Waits
 pub mod Loans
 pub mod Ticks
-pub mod Items
+pub mod Parts
+pub mod Rings
+pub mod Queues
 pub mod Effects
-pub mod Step
-pub mod Session
+pub mod Steps
+pub mod Sessions
 pub mod Trace

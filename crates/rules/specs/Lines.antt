@@ -5,7 +5,7 @@ use lib.Dec.{eqb}
 use Rattle.lists.specs.Choice.{if_then_else_}
 use Rattle.lists.specs.Lists.{larger, kept, head}
 use Rattle.order.specs.Order.{listed, ordered, without}
-use Rattle.slots.specs.Tasks.{inLine, taskAt}
+use Rattle.slots.specs.Values.{inLine, taskAt}
 use Rattle.slots.specs.Leads.{isWho}
 use Rattle.rules.specs.Types.{TaskSlot, Task, Who, AllReady, State}
 use Rattle.rules.specs.Tables.{withOrder, withRunning}

@@ -6,7 +6,7 @@ use Rattle.lists.specs.Choice.{if_then_else_}
 use Rattle.lists.specs.Lists.{larger}
 use Rattle.numbers.specs.Numbers.{sameTask}
 use Rattle.slots.specs.Places.{isReady}
-use Rattle.slots.specs.Tasks.{ranked, taskAt}
+use Rattle.slots.specs.Values.{ranked, taskAt}
 use Rattle.rules.specs.Types.{TaskSlot, State}
 use Rattle.rules.specs.Tables.{holds, withTask}
 use Rattle.rules.specs.Lines.{level, toTail, toHead}

@@ -4,8 +4,8 @@ use mathlib.Core.Bool.{Bool, not, _&&_, _||_}
 use Rattle.lists.specs.Choice.{if_then_else_}
 use Rattle.lists.specs.Lists.{isNone}
 use Rattle.order.specs.Order.{listed}
-use Rattle.slots.specs.Objects.{isHeld, kindAt}
-use Rattle.slots.specs.Tasks.{taskAt}
+use Rattle.slots.specs.Kinds.{isHeld, kindAt}
+use Rattle.slots.specs.Values.{taskAt}
 use Rattle.rows.specs.Asking.{is, makes}
 use Rattle.rows.specs.Applies.{firstRow, table}
 use Rattle.rules.specs.Types.{ObjSlot, Asked, WaitersOf, Seen, State}

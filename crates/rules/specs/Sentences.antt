@@ -9,9 +9,9 @@ use Rattle.numbers.specs.Numbers.{idle}
 use Rattle.order.specs.Order.{listed}
 use Rattle.order.specs.Tidy.{count}
 use Rattle.slots.specs.Places.{isListed, waitsOn}
-use Rattle.slots.specs.Tasks.{freeTask, inLine, taskAt}
+use Rattle.slots.specs.Values.{freeTask, inLine, taskAt}
 use Rattle.rules.specs.Types.{TaskSlot, ObjSlot, Wake, At, Place, Free, Ready, Delayed, Waiting, Order, Task, Ring, By, Kind, Queue, Mutex, Object, WaitersOf, State}
-use Rattle.slots.specs.Objects.{kindAt}
+use Rattle.slots.specs.Kinds.{kindAt}
 use Rattle.rules.specs.Lines.{line, those, level}
 
 -- the task t holds the mutex o

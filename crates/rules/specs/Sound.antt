@@ -10,9 +10,9 @@ use Rattle.numbers.specs.Numbers.{task, object, idle, sameTask}
 use Rattle.order.specs.Order.{listed}
 use Rattle.order.specs.Tidy.{count, tidy}
 use Rattle.slots.specs.Places.{isReady}
-use Rattle.slots.specs.Tasks.{inHigher, taskAt}
-use Rattle.slots.specs.Objects.{kindAt}
-use Rattle.slots.specs.Fine.{idleFine, standsFine, ordersFine, waitsFine, prioritiesFine, holderThere, notDue, ringInRange, outcomeFine, freshIfFree}
+use Rattle.slots.specs.Values.{inHigher, taskAt}
+use Rattle.slots.specs.Kinds.{kindAt}
+use Rattle.slots.specs.SoundSlots.{idleFine, standsFine, ordersFine, waitsFine, prioritiesFine, holderThere, notDue, ringInRange, outcomeFine, freshIfFree}
 use Rattle.rules.specs.Types.{TaskSlot, Order, Task, Object, Kind, State}
 use Rattle.rules.specs.Tables.{holds}
 use Rattle.rules.specs.Lines.{line, level}

@@ -7,8 +7,8 @@ use Rattle.lists.specs.Lists.{index, any}
 use Rattle.numbers.specs.Numbers.{idle}
 use Rattle.order.specs.Order.{ordered}
 use Rattle.slots.specs.Places.{isFree}
-use Rattle.slots.specs.Tasks.{freeTask, readyAt}
-use Rattle.slots.specs.Objects.{unused, isUnused, heldBy}
+use Rattle.slots.specs.Values.{freeTask, readyAt}
+use Rattle.slots.specs.Kinds.{unused, isUnused, heldBy}
 use Rattle.rules.specs.Types.{TaskSlot, ObjSlot, Order, Task, Kind, Object, State}
 
 -- "The fresh kernel has idle alone, tick 0, hold 0, no objects."

@@ -8,7 +8,7 @@ use Rattle.numbers.specs.Numbers.{byNumber}
 use Rattle.order.specs.Order.{listed}
 use Rattle.slots.specs.Places.{wakesAt, outcomeDue, away}
 use Rattle.rules.specs.Types.{TaskSlot, Ready, Task, State}
-use Rattle.slots.specs.Tasks.{taskAt}
+use Rattle.slots.specs.Values.{taskAt}
 use Rattle.rules.specs.Tables.{withTick, withHold}
 use Rattle.rules.specs.Lines.{level, toTail}
 use Rattle.rules.specs.Sound.{noHigher}

@@ -3,7 +3,7 @@ use Prim.Native.Nat.{ℕ}
 use mathlib.Core.List.{List, [], _∷_}
 use Rattle.lists.specs.Lists.{foldl}
 use Rattle.rules.specs.Types.{Call, State}
-use Rattle.rules.specs.Step.{Stepped, step}
+use Rattle.rules.specs.Steps.{Stepped, step}
 
 -- a moment of a run: the state and the store at hand before it, what was made (a call, a line), and what the step gave: the next state, in which
 -- `running` runs, the answer and the store afterwards

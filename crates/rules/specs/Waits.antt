@@ -2,7 +2,7 @@
 use Prim.Native.Nat.{ℕ, _+_, _%_, _^_}
 use lib.Dec.{leb}
 use Rattle.lists.specs.Choice.{if_then_else_}
-use Rattle.slots.specs.Tasks.{placed, taskAt}
+use Rattle.slots.specs.Values.{placed, taskAt}
 use Rattle.rules.specs.Types.{TaskSlot, ObjSlot, Wake, Never, At, Place, Waiting, State}
 use Rattle.rules.specs.Tables.{withTask}
 use Rattle.rules.specs.Lines.{toTail}

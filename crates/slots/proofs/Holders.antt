@@ -14,9 +14,9 @@ use Rattle.numbers.specs.declared.TaskSlot.{TaskSlot}
 use Rattle.numbers.specs.Numbers.{task, object}
 use Rattle.slots.specs.Types.{Task, Nobody, By, Kind, Unused, Queue, Mutex, Object}
 use Rattle.slots.specs.Places.{isFree}
-use Rattle.slots.specs.Tasks.{freeTask, taskAt}
-use Rattle.slots.specs.Objects.{unused, kindAt, heldBy, marksOf}
-use Rattle.slots.specs.Fine.{holderThere, holderSlot, freeHolds}
+use Rattle.slots.specs.Values.{freeTask, taskAt}
+use Rattle.slots.specs.Kinds.{unused, kindAt, heldBy, marksOf}
+use Rattle.slots.specs.SoundSlots.{holderThere, holderSlot, freeHolds}
 use Rattle.slots.proofs.Marks.{marks-hold}
 
 module _ (ts : List Task) (os : List Object) (few : length ts ≡ 16) (many : length os ≡ 16) where

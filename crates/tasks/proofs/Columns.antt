@@ -11,7 +11,7 @@ use Rattle.slots.specs.declared.Wake.the-variants.{Never, At}
 use Rattle.slots.specs.declared.Place.{Place}
 use Rattle.slots.specs.declared.Place.the-variants.{Free, Ready, Delayed, Waiting, Suspended}
 use Rattle.slots.specs.declared.Task.{Task}
-use Rattle.slots.specs.Tasks.{freeTask, placed, ranked}
+use Rattle.slots.specs.Values.{freeTask, placed, ranked}
 use Rattle.tasks.specs.declared.Tasks.{Tasks}
 use Rattle.tasks.specs.Cells.{cellsOf, placeOf}
 use Rattle.tasks.specs.Known.{known, wakeKnown}

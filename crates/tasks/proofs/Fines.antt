@@ -13,7 +13,7 @@ use Rattle.lists.proofs.Bools.{and-left, and-right, and-intro, and-on, and-off,
 use Rattle.lists.proofs.Loops.{Held}
 use Rattle.numbers.specs.Numbers.{task}
 use Rattle.slots.specs.declared.Who.the-variants.{AllReady}
-use Rattle.slots.specs.Fine.{idleFine, notDue, mayWaitOn}
+use Rattle.slots.specs.SoundSlots.{idleFine, notDue, mayWaitOn}
 use Rattle.slots.proofs.Sweeps.{none-counted}
 use Rattle.tasks.specs.declared.Tasks.{Tasks}
 use Rattle.tasks.specs.Cells.{cells, placeOf}

@@ -21,7 +21,7 @@ use Rattle.slots.specs.declared.Lead.{Lead}
 use Rattle.slots.specs.declared.Lead.the-variants.{Open, Best}
 use Rattle.slots.specs.Places.{isReady, waitsOn, wakesAt}
 use Rattle.slots.specs.Leads.{better, leadOver, leadsOr}
-use Rattle.slots.specs.Tasks.{freeTask, inLine}
+use Rattle.slots.specs.Values.{freeTask, inLine}
 use Rattle.tasks.specs.declared.Tasks.{Tasks}
 use Rattle.tasks.specs.declared.Woken.{Woken}
 use Rattle.tasks.specs.Rows.{rowAt, rowsOf}

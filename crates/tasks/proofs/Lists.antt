@@ -12,7 +12,7 @@ use Rattle.slots.specs.declared.Task.{Task}
 use Rattle.slots.specs.declared.Who.{Who}
 use Rattle.slots.specs.declared.Lead.the-variants.{Open}
 use Rattle.slots.specs.Places.{isFree, wakesAt, away}
-use Rattle.slots.specs.Tasks.{taskAt, inHigher}
+use Rattle.slots.specs.Values.{taskAt, inHigher}
 use Rattle.slots.specs.Leads.{better}
 use Rattle.tasks.specs.declared.Woken.{Woken}
 use Rattle.tasks.specs.Rows.{tasksOf, freeIn, put, rowAt}

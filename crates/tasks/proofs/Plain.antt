@@ -5,7 +5,7 @@ use mathlib.Core.List.{List}
 use lib.ListN.{getD, List·getD-map}
 use Rattle.lists.proofs.Bools.{below-all}
 use Rattle.slots.specs.declared.Task.{Task}
-use Rattle.slots.specs.Tasks.{freeTask}
+use Rattle.slots.specs.Values.{freeTask}
 use Rattle.tasks.specs.Rows.{stateOf, objectOf, wakeOf, tasksOf}
 use Rattle.tasks.specs.Known.{canonical}
 use Rattle.tasks.proofs.Columns.{place-back}

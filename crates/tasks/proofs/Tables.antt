@@ -10,7 +10,7 @@ use lib.Seq.{ext-getD}
 use borrow.Author.Tests.{eqb-true, leb-true}
 use Rattle.lists.proofs.Bools.{and-left, and-right, all-below}
 use Rattle.slots.specs.declared.Task.{Task}
-use Rattle.slots.specs.Tasks.{freeTask}
+use Rattle.slots.specs.Values.{freeTask}
 use Rattle.tasks.specs.declared.Tasks.{Tasks}
 use Rattle.tasks.specs.declared.Cells.{Cells}
 use Rattle.tasks.specs.Cells.{cells, cellsOf, placeOf}

@@ -12,7 +12,7 @@ use Rattle.slots.specs.declared.Who.{Who}
 use Rattle.slots.specs.declared.Who.the-variants.{AllReady, WaitersOf}
 use Rattle.slots.specs.Places.{isFree, isReady, waitsOn, wakesAt, outcomeDue, ahead, away}
 use Rattle.slots.specs.Leads.{isWho}
-use Rattle.slots.specs.Tasks.{inLine, inHigher}
+use Rattle.slots.specs.Values.{inLine, inHigher}
 use Rattle.tasks.specs.declared.Tasks.{Tasks}
 use Rattle.tasks.specs.Cells.{cells, placeOf}
 use Rattle.tasks.specs.Rows.{rowAt}

@@ -22,7 +22,7 @@ use Rattle.slots.specs.declared.Lead.{Lead}
 use Rattle.slots.specs.declared.Lead.the-variants.{Open}
 use Rattle.slots.specs.Places.{isFree, waitsOn, wakesAt, ahead, away}
 use Rattle.slots.specs.Leads.{leadOver, better}
-use Rattle.slots.specs.Tasks.{freeTask, inHigher}
+use Rattle.slots.specs.Values.{freeTask, inHigher}
 use Rattle.slots.proofs.Sweeps.{by-rows, some-row, first-row}
 use Rattle.tasks.specs.declared.Tasks.{Tasks}
 use Rattle.tasks.specs.Rows.{rowAt, rowsOf, put, freeIn}

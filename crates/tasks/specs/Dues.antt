@@ -11,7 +11,7 @@ use Rattle.order.specs.Order.{listed, ordered, without}
 use Rattle.slots.specs.declared.Place.the-variants.{Ready}
 use Rattle.slots.specs.declared.Task.{Task}
 use Rattle.slots.specs.Places.{wakesAt, outcomeDue, away}
-use Rattle.slots.specs.Tasks.{placed}
+use Rattle.slots.specs.Values.{placed}
 use Rattle.tasks.specs.declared.Tasks.{Tasks}
 use Rattle.tasks.specs.declared.Woken.{Woken}
 use Rattle.tasks.specs.Rows.{rowAt, rowsOf, put}

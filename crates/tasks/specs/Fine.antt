@@ -13,7 +13,7 @@ use Rattle.slots.specs.declared.Place.{Place}
 use Rattle.slots.specs.declared.Place.the-variants.{Free, Ready, Delayed, Waiting, Suspended}
 use Rattle.slots.specs.declared.Task.{Task}
 use Rattle.slots.specs.Places.{isReady}
-use Rattle.slots.specs.Fine.{idleFine, standsFine, ordersFine, prioritiesFine, outcomeFine, freshIfFree, freeHolds, notDue, mayWaitOn}
+use Rattle.slots.specs.SoundSlots.{idleFine, standsFine, ordersFine, prioritiesFine, outcomeFine, freshIfFree, freeHolds, notDue, mayWaitOn}
 use Rattle.tasks.specs.declared.Tasks.{Tasks}
 use Rattle.tasks.specs.Rows.{tasksOf, rowAt, rowsOf}
 use Rattle.tasks.specs.Walks.{outrankedIn, lineIn}

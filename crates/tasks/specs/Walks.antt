@@ -15,7 +15,7 @@ use Rattle.slots.specs.declared.Lead.{Lead}
 use Rattle.slots.specs.declared.Lead.the-variants.{Open}
 use Rattle.slots.specs.Places.{isReady, waitsOn}
 use Rattle.slots.specs.Leads.{better}
-use Rattle.slots.specs.Tasks.{inLine, inHigher}
+use Rattle.slots.specs.Values.{inLine, inHigher}
 use Rattle.tasks.specs.declared.Tasks.{Tasks}
 use Rattle.tasks.specs.Rows.{rowAt, rowsOf}
 

@@ -1,7 +1,7 @@
 // What soundness asks of the tasks, tested in numbers: no Task is made, so that the compiler does all sixteen rows at once.
 ghost use mathlib.Core.Path.{_≡_};
 ghost use Rattle.lists.specs.Lists.{allBelow};
-ghost use Rattle.slots.specs.Fine.{idleFine};
+ghost use Rattle.slots.specs.SoundSlots.{idleFine};
 ghost use Rattle.order.specs.Order.{listed};
 ghost use Rattle.tasks.specs.Rows.{rowAt};
 ghost use Rattle.tasks.specs.Known.{waits};

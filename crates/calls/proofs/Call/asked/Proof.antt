@@ -1,7 +1,7 @@
 use mathlib.Core.Path.{_∙_}
 use borrow.Author.Needs.{needs}
 use Rattle.calls.specs.Types.{Nothing, ATask, AnObject, AQueue, AMutex}
-use Rattle.calls.proofs.Rows.{asked-by}
+use Rattle.calls.proofs.CallAgain.{asked-by}
 use Rattle.calls.proofs.Call.asked.Statement.{statement}
 use Rattle.calls.proofs.Call.asked.Tie as tie
 

@@ -1,6 +1,6 @@
 use mathlib.Core.Path.{sym, ap, _∙_}
 use borrow.Author.Needs.{needs}
-use Rattle.calls.specs.Asked.{asked}
+use Rattle.calls.specs.Behind.{asked}
 use Rattle.calls.specs.Words.{frameOf}
 use Rattle.calls.proofs.Call.frame.Statement.{statement}
 use Rattle.calls.proofs.Call.frame.Tie as tie

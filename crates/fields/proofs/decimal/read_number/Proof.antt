@@ -3,7 +3,7 @@ use mathlib.Core.Path.{_≡_, sym, _∙_}
 use lib.ListN.{length, drop, drop-of-length-le}
 use borrow.Author.Needs.{needs}
 use borrow.Author.Tests.{lt-ltb, le-ltb, eq-eqb, ne-eqb}
-use Rattle.fields.proofs.Places.{here}
+use Rattle.fields.proofs.LinePlaces.{here}
 use Rattle.fields.specs.Number.{more, number}
 use Rattle.fields.proofs.decimal.read_number.Statement.{statement}
 use Rattle.fields.proofs.decimal.read_number.Tie as tie

@@ -1,6 +1,6 @@
 use lib.ListN.{drop-of-length-le}
 use borrow.Author.Needs.{needs}
-use Rattle.fields.proofs.Places.{here}
+use Rattle.fields.proofs.LinePlaces.{here}
 use Rattle.fields.proofs.hex.byte_at.Statement.{statement}
 use Rattle.fields.proofs.hex.byte_at.Tie as tie
 

@@ -1,7 +1,7 @@
 use lib.ListN.{drop-of-length-le}
 use borrow.Author.Needs.{needs}
 use borrow.Author.Tests.{eq-eqb, ne-eqb}
-use Rattle.fields.proofs.Places.{here}
+use Rattle.fields.proofs.LinePlaces.{here}
 use Rattle.journal.proofs.reader.at_end.Statement.{statement}
 use Rattle.journal.proofs.reader.at_end.Tie as tie
 

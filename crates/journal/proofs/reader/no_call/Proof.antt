@@ -1,5 +1,5 @@
 use mathlib.Core.Path.{refl}
-use Rattle.journal.specs.Steps.{noCall}
+use Rattle.journal.specs.Reader.{noCall}
 use Rattle.journal.proofs.reader.no_call.Statement.{statement}
 use Rattle.journal.proofs.reader.no_call.Tie as tie
 

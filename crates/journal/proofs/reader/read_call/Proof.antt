@@ -2,7 +2,7 @@ use Prim.Native.Nat.{_+_, _≤_}
 use native.Mathlib.Omega.{arith}
 use borrow.Author.Needs.{needs}
 use Rattle.journal.proofs.Promised.{refused-read, call-read}
-use Rattle.calls.proofs.Rows.{shape-small}
+use Rattle.calls.proofs.CallAgain.{shape-small}
 use Rattle.journal.proofs.reader.read_call.Statement.{statement}
 use Rattle.journal.proofs.reader.read_call.Tie as tie
 

@@ -2,8 +2,8 @@ use Prim.Native.Nat.{suc, _+_, _-_, _≤_}
 use mathlib.Core.Path.{_≡_, sym, _∙_}
 use native.Mathlib.Omega.{arith}
 use borrow.Author.Needs.{needs}
-use Rattle.journal.specs.Steps.{nums}
-use Rattle.journal.proofs.Steps.{nums-more}
+use Rattle.journal.specs.Reader.{nums}
+use Rattle.journal.proofs.ReadSteps.{nums-more}
 use Rattle.journal.proofs.reader.read_numbers.Statement.{statement}
 use Rattle.journal.proofs.reader.read_numbers.Tie as tie
 

@@ -1,8 +1,8 @@
 use Prim.Native.Nat.{_+_, _≤_}
 use native.Mathlib.Omega.{arith}
 use borrow.Author.Needs.{needs}
-use Rattle.calls.proofs.Rows.{shape-small}
-use Rattle.journal.proofs.Stores.{frame-wrote}
+use Rattle.calls.proofs.CallAgain.{shape-small}
+use Rattle.journal.proofs.LineStores.{frame-wrote}
 use Rattle.journal.proofs.writer.put_frame.Statement.{statement}
 use Rattle.journal.proofs.writer.put_frame.Tie as tie
 

@@ -4,8 +4,8 @@ use native.Mathlib.Omega.{arith}
 use lib.ListN.{length, take, drop}
 use borrow.Author.Needs.{needs}
 use Rattle.fields.proofs.Stores.{wrote-length, Stored, begin, turn, done}
-use Rattle.journal.specs.Frames.{tabbed}
-use Rattle.journal.proofs.Stores.{picked-length, picked}
+use Rattle.journal.specs.Writer.{tabbed}
+use Rattle.journal.proofs.LineStores.{picked-length, picked}
 use Rattle.journal.proofs.writer.put_numbers.Statement.{statement}
 use Rattle.journal.proofs.writer.put_numbers.Tie as tie
 

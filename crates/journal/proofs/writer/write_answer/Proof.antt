@@ -1,5 +1,5 @@
 use borrow.Author.Needs.{needs}
-use Rattle.journal.proofs.Stores.{line-refused, reply-written}
+use Rattle.journal.proofs.LineStores.{line-refused, reply-written}
 use Rattle.journal.specs.Reply.{replyOf}
 use Rattle.journal.proofs.writer.write_answer.Statement.{statement}
 use Rattle.journal.proofs.writer.write_answer.Tie as tie

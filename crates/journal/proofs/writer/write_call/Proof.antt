@@ -1,7 +1,7 @@
 use borrow.Author.Needs.{needs}
 use native.Mathlib.Omega.{arith}
 use Rattle.journal.proofs.Fit.{its-line}
-use Rattle.journal.proofs.Stores.{line-refused, item-refused, call-written}
+use Rattle.journal.proofs.LineStores.{line-refused, item-refused, call-written}
 use Rattle.journal.proofs.writer.write_call.Statement.{statement}
 use Rattle.journal.proofs.writer.write_call.Tie as tie
 

@@ -1,7 +1,7 @@
 use borrow.Author.Needs.{needs}
 use Rattle.rules.specs.Waits.{arrives}
 use Rattle.rules.specs.Tables.{withTask}
-use Rattle.slots.specs.Tasks.{placed, taskAt}
+use Rattle.slots.specs.Values.{placed, taskAt}
 use Rattle.kernel.proofs.Kernel.arrives.Statement.{statement}
 use Rattle.kernel.proofs.Kernel.arrives.Tie as tie
 

@@ -2,7 +2,7 @@ use borrow.Author.Needs.{needs}
 use mathlib.Core.Path.{_∙_}
 use Rattle.rules.specs.Effects.{created}
 use Rattle.rules.specs.Tables.{withTask}
-use Rattle.slots.specs.Tasks.{readyAt}
+use Rattle.slots.specs.Values.{readyAt}
 use Rattle.numbers.specs.Numbers.{task}
 use Rattle.kernel.proofs.Kernel.create.Statement.{statement}
 use Rattle.kernel.proofs.Kernel.create.Tie as tie

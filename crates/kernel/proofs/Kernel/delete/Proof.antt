@@ -2,7 +2,7 @@ use borrow.Author.Needs.{needs}
 use mathlib.Core.Path.{_∙_}
 use Rattle.rules.specs.Effects.{deleted}
 use Rattle.rules.specs.Tables.{withTask}
-use Rattle.slots.specs.Tasks.{freeTask}
+use Rattle.slots.specs.Values.{freeTask}
 use Rattle.kernel.proofs.Kernel.delete.Statement.{statement}
 use Rattle.kernel.proofs.Kernel.delete.Tie as tie
 

@@ -1,5 +1,5 @@
 use borrow.Author.Needs.{needs}
-use Rattle.kernel.proofs.Ends.{first-of}
+use Rattle.kernel.proofs.TableWalks.{first-of}
 use Rattle.kernel.specs.Stands.{kernelOf}
 use Rattle.slots.specs.declared.Who.the-variants.{WaitersOf}
 use Rattle.slots.specs.Leads.{leads}

@@ -1,5 +1,5 @@
 use borrow.Author.Needs.{needs}
-use Rattle.rules.proofs.Leads.{leader-none}
+use Rattle.rules.proofs.LineLeads.{leader-none}
 use mathlib.Core.Path.{_∙_}
 use Rattle.rules.specs.Refusals.{heldOrWaited}
 use Rattle.rules.specs.Lines.{first}

@@ -1,5 +1,5 @@
 use borrow.Author.Needs.{needs}
-use Rattle.rules.proofs.Passes.{below-255}
+use Rattle.rules.proofs.RowPasses.{below-255}
 use Rattle.rules.specs.Ticks.{held}
 use Rattle.kernel.proofs.Stands.{same-hold, same-pended}
 use mathlib.Core.Path.{_∙_}

@@ -1,5 +1,5 @@
 use borrow.Author.Needs.{needs}
-use Rattle.calls.specs.Asked.{asked}
+use Rattle.calls.specs.Behind.{asked}
 use Rattle.kernel.specs.Stands.{shown}
 use Rattle.kernel.specs.Promises.{SoundSteps}
 use Rattle.lists.proofs.Loops.{length-mapped}
@@ -7,7 +7,7 @@ use lib.ListN.{length, take}
 use native.Mathlib.Omega.{arith}
 use lib.Seq.{length-take-le}
 use Rattle.calls.specs.declared.Call.{Call}
-use Rattle.kernel.proofs.Sessions.{line-refused, has-call, sound-step}
+use Rattle.kernel.proofs.SessionRuns.{line-refused, has-call, sound-step}
 use mathlib.Core.Path.{_≡_, sym, subst}
 use Rattle.kernel.proofs.Kernel.line_step.Statement.{statement}
 use Rattle.kernel.proofs.Kernel.line_step.Tie as tie

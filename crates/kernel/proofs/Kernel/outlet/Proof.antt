@@ -1,6 +1,6 @@
 use borrow.Author.Needs.{needs}
 use borrow.Author.Tests.{eq-eqb, ne-eqb}
-use Rattle.rules.specs.Items.{outlet}
+use Rattle.rules.specs.Queues.{outlet}
 use Rattle.kernel.proofs.Kernel.outlet.Statement.{statement}
 use Rattle.kernel.proofs.Kernel.outlet.Tie as tie
 

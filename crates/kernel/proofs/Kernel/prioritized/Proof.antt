@@ -2,7 +2,7 @@ use borrow.Author.Needs.{needs}
 use mathlib.Core.Path.{_∙_}
 use Rattle.rules.specs.Loans.{prioritized}
 use Rattle.rules.specs.Tables.{withTask}
-use Rattle.slots.specs.Tasks.{ranked, taskAt}
+use Rattle.slots.specs.Values.{ranked, taskAt}
 use Rattle.kernel.proofs.Kernel.prioritized.Statement.{statement}
 use Rattle.kernel.proofs.Kernel.prioritized.Tie as tie
 

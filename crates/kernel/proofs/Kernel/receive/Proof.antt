@@ -1,7 +1,7 @@
 use borrow.Author.Needs.{needs}
 use mathlib.Core.Path.{sym, _∙_}
 use native.Mathlib.Omega.{arith}
-use Rattle.rules.proofs.Within.{queue-within}
+use Rattle.rules.proofs.TableWithin.{queue-within}
 use Rattle.kernel.specs.Stands.{shown}
 use Rattle.kernel.proofs.Kernel.receive.Statement.{statement}
 use Rattle.kernel.proofs.Kernel.receive.Tie as tie

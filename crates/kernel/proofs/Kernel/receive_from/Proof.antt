@@ -1,6 +1,6 @@
 use borrow.Author.Needs.{needs}
-use Rattle.rules.proofs.Within.{less-fits}
-use Rattle.rules.specs.Items.{received, storeReceived}
+use Rattle.rules.proofs.TableWithin.{less-fits}
+use Rattle.rules.specs.Queues.{received, storeReceived}
 use borrow.Author.Tests.{eq-eqb, ne-eqb}
 use Rattle.kernel.proofs.Stands.{same-running}
 use mathlib.Core.Path.{_∙_}

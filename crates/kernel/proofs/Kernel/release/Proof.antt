@@ -1,6 +1,6 @@
 use borrow.Author.Needs.{needs}
 use Rattle.kernel.proofs.Stands.{same-hold, same-pended}
-use Rattle.rules.proofs.Passes.{above-0}
+use Rattle.rules.proofs.RowPasses.{above-0}
 use borrow.Author.Tests.{eq-eqb, ne-eqb}
 use mathlib.Core.Path.{sym, _∙_}
 use native.Mathlib.Omega.{arith}

@@ -1,8 +1,8 @@
 use borrow.Author.Needs.{needs}
 use mathlib.Core.Path.{sym, _∙_}
 use native.Mathlib.Omega.{arith}
-use Rattle.rules.proofs.Within.{queue-within}
-use Rattle.rules.proofs.Passes.{sized}
+use Rattle.rules.proofs.TableWithin.{queue-within}
+use Rattle.rules.proofs.RowPasses.{sized}
 use Rattle.kernel.specs.Stands.{shown}
 use Rattle.kernel.proofs.Kernel.send.Statement.{statement}
 use Rattle.kernel.proofs.Kernel.send.Tie as tie

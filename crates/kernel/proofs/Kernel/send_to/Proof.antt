@@ -1,6 +1,6 @@
 use borrow.Author.Needs.{needs}
-use Rattle.rules.proofs.Within.{waiter-within}
-use Rattle.rules.specs.Items.{sent, storeSent}
+use Rattle.rules.proofs.TableWithin.{waiter-within}
+use Rattle.rules.specs.Queues.{sent, storeSent}
 use Rattle.kernel.specs.Stands.{shown, outletOf}
 use Rattle.kernel.proofs.Stands.{same-running}
 use lib.Seq.{take-length}

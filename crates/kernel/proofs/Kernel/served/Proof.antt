@@ -5,8 +5,8 @@ use lib.ListN.{length}
 use mathlib.Core.Path.{_∙_}
 use native.Mathlib.Omega.{arith}
 use Rattle.rules.specs.Effects.{effect, yielded, removed}
-use Rattle.rules.specs.Step.{stored}
-use Rattle.kernel.proofs.Rowed.{in-range, whole, right-size, may-hold, may-release, may-tick, task-slot, queue-slot, mutex-slot}
+use Rattle.rules.specs.Steps.{stored}
+use Rattle.kernel.proofs.RowPassed.{in-range, whole, right-size, may-hold, may-release, may-tick, task-slot, queue-slot, mutex-slot}
 use Rattle.kernel.proofs.Kernel.served.Statement.{statement}
 use Rattle.kernel.proofs.Kernel.served.Tie as tie
 

@@ -1,6 +1,6 @@
 use borrow.Author.Needs.{needs}
 use mathlib.Core.Path.{_≡_, sym, _∙_}
-use Rattle.kernel.proofs.Quicks.{quick, quick-is, stands-for}
+use Rattle.kernel.proofs.SoundQuick.{quick, quick-is, stands-for}
 use Rattle.order.proofs.Halves.{halves}
 use Rattle.kernel.proofs.Kernel.sound.Statement.{statement}
 use Rattle.kernel.proofs.Kernel.sound.Tie as tie

@@ -1,6 +1,6 @@
 use borrow.Author.Needs.{needs}
 use mathlib.Core.Path.{sym, _∙_}
-use Rattle.kernel.proofs.Stepped.{sound-steps, unsound-steps}
+use Rattle.kernel.proofs.StepEnds.{sound-steps, unsound-steps}
 use Rattle.kernel.proofs.Kernel.step.Statement.{statement}
 use Rattle.kernel.proofs.Kernel.step.Tie as tie
 

@@ -2,10 +2,10 @@ use borrow.Author.Needs.{needs}
 use lib.Seq.{length-take-le}
 use mathlib.Core.Path.{_≡_, sym, subst, _∙_}
 use Rattle.journal.specs.declared.Read.{Read}
-use Rattle.rules.specs.Session.{stepRead, stepOfLine}
+use Rattle.rules.specs.Sessions.{stepRead, stepOfLine}
 use Rattle.kernel.specs.Stands.{shown}
 use Rattle.kernel.specs.Promises.{Is}
-use Rattle.kernel.proofs.Sessions.{whole-line}
+use Rattle.kernel.proofs.SessionRuns.{whole-line}
 use Rattle.kernel.proofs.Kernel.step_line.Statement.{statement}
 use Rattle.kernel.proofs.Kernel.step_line.Tie as tie
 

@@ -1,7 +1,7 @@
 use borrow.Author.Needs.{needs}
 use mathlib.Core.Path.{refl, sym, _∙_}
-use Rattle.kernel.proofs.Stepped.{firm, of-call, refused, done-so}
-use Rattle.kernel.proofs.Rowed.{row-of, new-of}
+use Rattle.kernel.proofs.StepEnds.{firm, of-call, refused, done-so}
+use Rattle.kernel.proofs.RowPassed.{row-of, new-of}
 use Rattle.kernel.specs.Stands.{shown}
 use Rattle.kernel.proofs.Kernel.step_sound.Statement.{statement}
 use Rattle.kernel.proofs.Kernel.step_sound.Tie as tie

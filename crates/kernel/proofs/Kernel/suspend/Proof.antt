@@ -3,7 +3,7 @@ use mathlib.Core.Path.{sym, ap, _∙_}
 use Rattle.rules.specs.Effects.{suspended}
 use Rattle.rules.specs.Tables.{withTask}
 use Rattle.slots.specs.declared.Task.{Task}
-use Rattle.slots.specs.Tasks.{brokenOff, taskAt}
+use Rattle.slots.specs.Values.{brokenOff, taskAt}
 use Rattle.slots.specs.Places.{isListed}
 use Rattle.kernel.proofs.Kernel.suspend.Statement.{statement}
 use Rattle.kernel.proofs.Kernel.suspend.Tie as tie

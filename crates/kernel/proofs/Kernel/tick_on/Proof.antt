@@ -1,7 +1,7 @@
 use borrow.Author.Needs.{needs}
 use Rattle.kernel.proofs.Stands.{same-hold, same-pended}
 use Rattle.lists.proofs.Bools.{at}
-use Rattle.rules.proofs.Passes.{tick-room}
+use Rattle.rules.proofs.RowPasses.{tick-room}
 use borrow.Author.Tests.{lt-ltb, le-ltb}
 use mathlib.Core.Path.{_∙_}
 use native.Mathlib.Omega.{arith}

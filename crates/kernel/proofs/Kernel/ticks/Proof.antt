@@ -1,6 +1,6 @@
 use borrow.Author.Needs.{needs}
 use native.Mathlib.Omega.{arith}
-use Rattle.kernel.proofs.Jumping.{Ticking, begins, jumps-all, jumps-on, none-left}
+use Rattle.kernel.proofs.TickTurns.{Ticking, begins, jumps-all, jumps-on, none-left}
 use Rattle.kernel.proofs.Kernel.ticks.Statement.{statement}
 use Rattle.kernel.proofs.Kernel.ticks.Tie as tie
 

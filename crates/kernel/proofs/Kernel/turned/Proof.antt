@@ -1,5 +1,5 @@
 use borrow.Author.Needs.{needs}
-use Rattle.kernel.proofs.Ends.{no-turn, turn-goes}
+use Rattle.kernel.proofs.TableWalks.{no-turn, turn-goes}
 use Rattle.kernel.proofs.Stands.{same-running}
 use Rattle.kernel.specs.Stands.{kernelOf}
 use mathlib.Core.Path.{ap, _∙_}

@@ -1,7 +1,7 @@
 use borrow.Author.Needs.{needs}
 use mathlib.Core.Path.{sym, _∙_}
 use native.Mathlib.Omega.{arith}
-use Rattle.rules.proofs.Within.{first-within}
+use Rattle.rules.proofs.TableWithin.{first-within}
 use Rattle.kernel.specs.Stands.{shown}
 use Rattle.slots.specs.declared.Who.the-variants.{WaitersOf}
 use Rattle.kernel.proofs.Kernel.waiter.Statement.{statement}

@@ -2,7 +2,7 @@ use borrow.Author.Needs.{needs}
 use Rattle.kernel.specs.Stands.{kernelOf}
 use Rattle.numbers.specs.Numbers.{byNumber}
 use mathlib.Core.Path.{_∙_}
-use Rattle.kernel.proofs.Ends.{wakes-done}
+use Rattle.kernel.proofs.TableWalks.{wakes-done}
 use Rattle.kernel.proofs.Kernel.wakes.Statement.{statement}
 use Rattle.kernel.proofs.Kernel.wakes.Tie as tie
 

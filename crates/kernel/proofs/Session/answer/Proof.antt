@@ -4,14 +4,14 @@ use Rattle.cuts.proofs.Gathering.{stands, further, used-up}
 use Rattle.cuts.specs.Keeping.{cutOf}
 use Rattle.kernel.specs.Stands.{shown}
 use Rattle.kernel.specs.Promises.{Is}
-use Rattle.rules.specs.Session.{stepRead, run, begun}
+use Rattle.rules.specs.Sessions.{stepRead, run, begun}
 use lib.ListN.{length}
 use mathlib.Core.Path.{_≡_, refl, sym, subst}
 use Rattle.lists.proofs.Loops.{length-mapped}
 use lib.Seq.{length-take-le}
 use native.Mathlib.Omega.{arith}
 use Rattle.journal.specs.declared.Read.{Read}
-use Rattle.kernel.proofs.Sessions.{Going, whole-cut, keeps-wide, set-out, stands-on, so-far, gathers-on, goes-on, stopped, answered-on}
+use Rattle.kernel.proofs.SessionRuns.{Going, whole-cut, keeps-wide, set-out, stands-on, so-far, gathers-on, goes-on, stopped, answered-on}
 use Rattle.kernel.proofs.Session.answer.Statement.{statement}
 use Rattle.kernel.proofs.Session.answer.Tie as tie
 

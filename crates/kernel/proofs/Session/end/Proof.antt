@@ -1,5 +1,5 @@
 use borrow.Author.Needs.{needs}
-use Rattle.kernel.proofs.Sessions.{none-left, last-told}
+use Rattle.kernel.proofs.SessionRuns.{none-left, last-told}
 use Rattle.kernel.proofs.Session.end.Statement.{statement}
 use Rattle.kernel.proofs.Session.end.Tie as tie
 

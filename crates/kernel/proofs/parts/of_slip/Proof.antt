@@ -1,7 +1,7 @@
 use borrow.Author.Needs.{needs}
 use Prim.Native.Nat.{_+_, _*_}
 use Rattle.items.proofs.Copies.{part-fetch}
-use Rattle.rules.specs.Items.{slipOf}
+use Rattle.rules.specs.Parts.{slipOf}
 use native.Mathlib.Omega.{arith}
 use Rattle.kernel.proofs.parts.of_slip.Statement.{statement}
 use Rattle.kernel.proofs.parts.of_slip.Tie as tie

@@ -1,7 +1,7 @@
 use borrow.Author.Needs.{needs}
 use Prim.Native.Nat.{_+_, _*_}
 use Rattle.items.proofs.Copies.{part-put}
-use Rattle.rules.specs.Items.{itemAt}
+use Rattle.rules.specs.Parts.{itemAt}
 use native.Mathlib.Omega.{arith}
 use Rattle.kernel.proofs.parts.to_ring.Statement.{statement}
 use Rattle.kernel.proofs.parts.to_ring.Tie as tie

@@ -1,5 +1,5 @@
 use borrow.Author.Needs.{needs}
-use Rattle.rules.proofs.Within.{place-within}
+use Rattle.rules.proofs.TableWithin.{place-within}
 use native.Mathlib.Omega.{arith}
 use Rattle.kernel.proofs.rings.begins.Statement.{statement}
 use Rattle.kernel.proofs.rings.begins.Tie as tie

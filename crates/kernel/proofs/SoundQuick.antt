@@ -1,0 +1,394 @@
+-- The test of the code, one pass over each table's columns, is the plain one of the state that is shown.
+use Prim.Native.Nat.{ℕ, _<_, _≤_}
+use mathlib.Core.Path.{_≡_, refl, sym, ap, _∙_}
+use mathlib.Core.Bool.{Bool, true, false, false≢true, not, _&&_, _||_}
+use mathlib.Core.List.{List, [], _∷_}
+use native.Mathlib.Omega.{arith}
+use lib.Dec.{eqb, ltb}
+use lib.ListN.{length, getD, List·getD-eq-default}
+use borrow.Author.Tests.{ltb-true, ltb-false, eqb-true}
+use Rattle.lists.specs.Choice.{if_then_else_}
+use Rattle.lists.specs.Lists.{kept, isNone, allBelow}
+use Rattle.lists.proofs.Bools.{and-left, and-right, and-intro, off, not-off, untrue, same-test, all-below, below-all}
+use Rattle.lists.proofs.Tests.{any-at, any-none}
+use Rattle.numbers.specs.declared.TaskSlot.{TaskSlot}
+use Rattle.numbers.specs.Numbers.{task, object}
+use Rattle.order.specs.Order.{listed}
+use Rattle.order.specs.Tidy.{count, tidy, talliesOf}
+use Rattle.order.proofs.CountPassing.{count-kept}
+use Rattle.order.proofs.Tallies.{tallies-count}
+use Rattle.slots.specs.declared.Place.{Place}
+use Rattle.slots.specs.declared.Place.the-variants.{Free, Ready, Delayed, Waiting, Suspended}
+use Rattle.slots.specs.declared.Task.{Task}
+use Rattle.slots.specs.Places.{isReady}
+use Rattle.slots.specs.Values.{freeTask, taskAt, inLine, inHigher}
+use Rattle.slots.specs.Kinds.{kindAt, marksOf}
+use Rattle.slots.specs.SoundSlots.{idleFine, standsFine, ordersFine, mayWait, mayWaitOn, waitsFine, prioritiesFine, holderSlot, freeHolds, notDue, ringInRange, outcomeFine, freshIfFree}
+use Rattle.slots.proofs.Marks.{marks-hold}
+use Rattle.slots.proofs.Holders.{holders-exist}
+use Rattle.tasks.specs.declared.Tasks.{Tasks}
+use Rattle.tasks.specs.Cells.{placeOf}
+use Rattle.tasks.specs.Rows.{rowAt, rowsOf}
+use Rattle.tasks.specs.Known.{known, wakeKnown, canonical}
+use Rattle.tasks.specs.Walks.{outrankedIn, lineIn}
+use Rattle.tasks.specs.Fine.{aloneFine, rowsFine, wakesFine, idleAlone, waitsBy, waitsAt, runsAt, runsIn, Fine}
+use Rattle.tasks.proofs.Columns.{row-at, rows-many}
+use Rattle.objects.specs.declared.Objects.{Objects}
+use Rattle.objects.specs.declared.Holdings.{Holdings}
+use Rattle.objects.specs.Rows.{kindIn, rowsOf as kindsOf, canonical as canonicalKinds}
+use Rattle.objects.specs.Fine.{fineAt, Holds}
+use Rattle.objects.proofs.Columns.{row-at as kind-row, rows-many as kinds-many}
+use Rattle.objects.proofs.Fines.{fine-canonical}
+use Rattle.objects.proofs.Plain.{ranges-of, fine-of}
+use Rattle.rules.specs.State.{State}
+use Rattle.rules.specs.Tables.{holds}
+use Rattle.rules.specs.Lines.{line, level}
+use Rattle.rules.specs.Sound.{slotTask, slotKind, levelsFine, heads, noHigher, runsFine, counted, pendsFine, sound}
+use Rattle.rules.proofs.TableSlots.{past-tasks, past-objects, is-ready}
+use Rattle.rules.proofs.SoundTables.{TablesTested, tables-tested, tested-tables}
+use Rattle.rules.proofs.SoundListing.{ListingTested, listing-tested, tested-listing}
+use Rattle.rules.proofs.SoundClock.{ClockTested, clock-tested, tested-clock}
+use Rattle.rules.proofs.SoundSays.{Tested, sound-tested, tested-sound}
+use Rattle.kernel.specs.Types.{Kernel}
+use Rattle.kernel.specs.Stands.{kernelOf, plain, rows, none as noTables, shown}
+use Rattle.kernel.proofs.Shown.{no-tables}
+
+-- ── small laws
+ready-once : (n : ℕ) (p : Place) → isReady p ≡ true → standsFine n p ≡ true → n ≡ 1
+ready-once n p e h = eqb-true n 1 (rw (is-ready p e) at h)
+
+off-left : (a b : Bool) → a ≡ false → (a && b) ≡ false
+off-left a b e = ap (λ (c : Bool). c && b) e
+
+none-counts : (n : ℕ) (l : List TaskSlot) → l ≡ [] → count n l ≡ 1 → ⊥
+unfolding count
+none-counts n l e h = let z : _≡_ {A = ℕ} 0 1 = sym (ap (count n) e) ∙ h in omega arith
+
+none-kept : (l : List TaskSlot) → isNone l ≡ true → l ≡ []
+none-kept [] e = refl
+none-kept (t ∷ l) e = absurd (false≢true e)
+
+kept-none-at : (p : TaskSlot → Bool) (l : List TaskSlot) → ((t : TaskSlot) → p t ≡ false) → kept p l ≡ []
+unfolding kept
+kept-none-at p [] f = refl
+kept-none-at p (t ∷ l) f = rw (f t, kept-none-at p l f)
+
+-- the tests of one row by their names
+record AloneTested (n : ℕ) (held : Bool) (x : Task) : Type 0 where
+  stands : standsFine n (x .place) ≡ true
+  orders : ordersFine n (x .place) ≡ true
+  levels : prioritiesFine held x ≡ true
+  outcome : outcomeFine x ≡ true
+  fresh : freshIfFree x ≡ true
+  free : freeHolds held (x .place) ≡ true
+
+alone-tested : (n : ℕ) (held : Bool) (x : Task) → aloneFine n held x ≡ true → AloneTested n held x
+alone-tested n held x e =
+    let a = and-right (standsFine n (x .place)) _ e in
+    let b = and-right (ordersFine n (x .place)) _ a in
+    let c = and-right (prioritiesFine held x) _ b in
+    let d = and-right (outcomeFine x) _ c in
+    record {
+      stands = and-left (standsFine n (x .place)) _ e;
+      orders = and-left (ordersFine n (x .place)) _ a;
+      levels = and-left (prioritiesFine held x) _ b;
+      outcome = and-left (outcomeFine x) _ c;
+      fresh = and-left (freshIfFree x) _ d;
+      free = and-right (freshIfFree x) _ d;
+    }
+
+tested-alone : (n : ℕ) (held : Bool) (x : Task) → AloneTested n held x → aloneFine n held x ≡ true
+tested-alone n held x T =
+    and-intro (standsFine n (x .place)) _ (T .stands)
+    (and-intro (ordersFine n (x .place)) _ (T .orders)
+    (and-intro (prioritiesFine held x) _ (T .levels)
+    (and-intro (outcomeFine x) _ (T .outcome)
+    (and-intro (freshIfFree x) (freeHolds held (x .place)) (T .fresh) (T .free)))))
+
+-- ── rows of the columns, and of the list that they read as
+module _ (ts : Tasks) (many : length (rowsOf ts) ≡ 16) where
+  few : length (ts .state) ≡ 16
+  few = sym (rows-many ts) ∙ many
+
+  pub at-row : (n : ℕ) → n < 16 → taskAt (rowsOf ts) (task n) ≡ rowAt ts n
+  unfolding taskAt
+  at-row n l = row-at ts n (omega (arith, few))
+
+  past-free : (n : ℕ) → 16 ≤ n → rowAt ts n .place ≡ Free
+  unfolding rowAt placeOf
+  past-free n l = rw (List·getD-eq-default (ts .state) 0 {n = n} (omega (arith, few)))
+
+  -- a test that no free slot passes finds the same in both
+  same-row : (f : Task → Bool) → ((x : Task) → x .place ≡ Free → f x ≡ false) → (t : TaskSlot) → f (rowAt ts (t .0)) ≡ f (taskAt (rowsOf ts) t)
+  same-row f free t = go (ltb (t .0) 16) refl
+    where
+      go : (b : Bool) → ltb (t .0) 16 ≡ b → f (rowAt ts (t .0)) ≡ f (taskAt (rowsOf ts) t)
+      go true q = ap f (sym (at-row (t .0) (ltb-true (t .0) 16 q)))
+      go false q =
+          let past : 16 ≤ t .0 = ltb-false (t .0) 16 q in
+          free (rowAt ts (t .0)) (past-free (t .0) past) ∙ sym (ap f (past-tasks (rowsOf ts) t (omega (arith, many))) ∙ free freeTask refl)
+
+  same-kept : (f : Task → Bool) → ((x : Task) → x .place ≡ Free → f x ≡ false) → (l : List TaskSlot) → kept (λ t. f (rowAt ts (t .0))) l ≡ kept (λ t. f (taskAt (rowsOf ts) t)) l
+  unfolding kept
+  same-kept f free [] = refl
+  same-kept f free (t ∷ l) = rw (same-row f free t, same-kept f free l)
+
+  -- ── who runs
+  module _ (l : List TaskSlot) (once : (n : ℕ) → n < 16 → standsFine (count n l) (rowAt ts n .place) ≡ true) where
+    abbrev higher : ℕ → TaskSlot → Bool
+    higher p t = inHigher p (taskAt (rowsOf ts) t)
+
+    -- a row that stands higher is listed, so its line is occupied
+    row-listed : (p n : ℕ) → kept (higher p) l ≡ [] → inHigher p (taskAt (rowsOf ts) (task n)) ≡ true → ⊥
+    row-listed p n e h = go (ltb n 16) refl
+      where
+        go : (b : Bool) → ltb n 16 ≡ b → ⊥
+        go false q = false≢true (sym (ap (inHigher p) (past-tasks (rowsOf ts) (task n) (omega (arith, many, ltb-false n 16 q)))) ∙ h)
+        go true q =
+            let low = ltb-true n 16 q in
+            let ready = and-left (isReady (taskAt (rowsOf ts) (task n) .place)) _ h in
+            let one = ready-once (count n l) (taskAt (rowsOf ts) (task n) .place) ready (rw (at-row n low) (once n low)) in
+            let counted = count-kept (higher p) n l in
+            none-counts n (kept (higher p) l) e (counted ∙ ap (λ (b : Bool). if b then count n l else 0) h ∙ one)
+
+    no-higher : (p : ℕ) → noHigher (rowsOf ts) p l ≡ not (outrankedIn ts p)
+    unfolding noHigher outrankedIn taskAt
+    no-higher p = same-test _ _
+        (λ e. not-off _ (any-none (inHigher p) (rowsOf ts) freeTask (λ i. untrue _ (row-listed p i (none-kept _ e)))))
+        (λ e. ap isNone (kept-none-at (higher p) l (λ t. untrue _ (λ h. false≢true (sym (off _ e) ∙ any-at (inHigher p) (rowsOf ts) (t .0) freeTask refl h)))))
+
+    pub runs-is : (u : TaskSlot) (hold : ℕ) → runsIn ts l u (ltb 0 hold) ≡ runsFine (rowsOf ts) l u hold
+    unfolding runsIn runsFine lineIn line
+    runs-is u hold = go (ltb (u .0) 16) refl
+      where
+        same : (p : ℕ) (x : Task) → x .place ≡ Free → inLine p x ≡ false
+        same p x e = ap (λ (q : Place). isReady q && eqb (x .effective) p) e
+
+        go : (b : Bool) → ltb (u .0) 16 ≡ b → runsAt ts l u (ltb 0 hold) (rowAt ts (u .0))
+            ≡ (isReady (taskAt (rowsOf ts) u .place) && (heads (line (rowsOf ts) (level (rowsOf ts) u) l) u && (ltb 0 hold || noHigher (rowsOf ts) (level (rowsOf ts) u) l)))
+        go true q =
+            let low = ltb-true (u .0) 16 q in
+            rw (← at-row (u .0) low, same-kept (inLine (level (rowsOf ts) u)) (same (level (rowsOf ts) u)) l, no-higher (level (rowsOf ts) u))
+        go false q =
+            off-left _ _ (ap isReady (past-free (u .0) (ltb-false (u .0) 16 q)))
+            ∙ sym (off-left _ _ (ap (λ (x : Task). isReady (x .place)) (past-tasks (rowsOf ts) u (omega (arith, many, ltb-false (u .0) 16 q)))))
+
+-- ── waits
+module _ (os : Objects) (hs : Holdings) (H : Holds os hs) where
+  fewer : length (os .state) ≡ 16
+  fewer = sym (kinds-many os) ∙ H .many
+
+  pub at-kind : (n : ℕ) → n < 16 → kindAt (kindsOf os) (object n) ≡ kindIn os n
+  unfolding kindAt
+  at-kind n l = kind-row os n (omega (arith, fewer))
+
+  pub waits-is : (t : TaskSlot) (p : Place) → waitsBy (hs .open) (hs .taken) (hs .holder) t p ≡ waitsFine t (kindsOf os) p
+  waits-is t Free = refl
+  waits-is t Ready = refl
+  waits-is t (Delayed w) = refl
+  waits-is t Suspended = refl
+  waits-is t (Waiting o w) = go (ltb (o .0) 16) refl
+    where
+      go : (b : Bool) → ltb (o .0) 16 ≡ b → (b && mayWaitOn (hs .open) (hs .taken) (hs .holder) t (o .0)) ≡ mayWait t (kindAt (kindsOf os) o)
+      go true q =
+          let low = ltb-true (o .0) 16 q in
+          H .waited t (o .0) low ∙ ap (mayWait t) (sym (at-kind (o .0) low))
+      go false q = sym (ap (mayWait t) (past-objects (kindsOf os) o (omega (arith, H .many, ltb-false (o .0) 16 q))))
+
+-- ── the whole test
+module _ (k : Kernel) (stands : List ℕ) (hs : Holdings) (fine : Bool) (F : Fine (k .tasks) (k .tick) stands (hs .held) fine) (H : Holds (k .objects) hs)
+    (tallies : stands ≡ talliesOf (listed (k .order))) (places : length (k .order .places) ≡ 16) (ranges : counted (k .tick) (k .hold) (k .pended) ≡ true) where
+  abbrev ts : Tasks
+  ts = k .tasks
+
+  abbrev s : State
+  s = rows k
+
+  stands-at : (n : ℕ) → n < 16 → getD stands n 0 ≡ count n (listed (k .order))
+  stands-at n l = ap (λ (c : List ℕ). getD c n 0) tallies ∙ tallies-count (listed (k .order)) n l
+
+  marked : (n : ℕ) → getD (hs .held) n false ≡ getD (marksOf (s .objects)) n false
+  marked n = ap (λ (c : List Bool). getD c n false) (H .marks)
+
+  holding-at : (n : ℕ) → n < 16 → getD (hs .held) n false ≡ holds (s .objects) (task n)
+  unfolding holds
+  holding-at n l = marked n ∙ marks-hold (s .objects) n l
+
+  abbrev waits : Bool
+  waits = allBelow 16 (waitsAt ts (hs .open) (hs .taken) (hs .holder))
+
+  abbrev runs : Bool
+  runs = runsIn ts (listed (k .order)) (k .running) (ltb 0 (k .hold))
+
+  abbrev pends : Bool
+  pends = pendsFine (k .hold) (k .pended)
+
+  abbrev pub quick : Bool
+  quick = (fine && (waits && hs .fine)) && (runs && (tidy (k .order) && pends))
+
+  row : (n : ℕ) → n < 16 → slotTask (s .tasks) n ≡ rowAt ts n
+  row n l = at-row ts (F .many) n l
+
+  kind : (n : ℕ) → n < 16 → slotKind (s .objects) n ≡ kindIn (k .objects) n
+  kind n l = at-kind (k .objects) hs H n l
+
+  module _ (q : quick ≡ true) where
+    tables : (fine && (waits && hs .fine)) ≡ true
+    tables = and-left (fine && (waits && hs .fine)) _ q
+
+    last : (runs && (tidy (k .order) && pends)) ≡ true
+    last = and-right (fine && (waits && hs .fine)) _ q
+
+    all-rows : (idleAlone (getD (hs .held) 0 false) (rowAt ts 0) && (allBelow 16 (rowsFine ts stands (hs .held)) && allBelow 16 (wakesFine ts (k .tick)))) ≡ true
+    all-rows = sym (F .said) ∙ and-left fine _ tables
+
+    each : (n : ℕ) → n < 16 → rowsFine ts stands (hs .held) n ≡ true
+    each n l = all-below 16 (rowsFine ts stands (hs .held)) (and-left _ _ (and-right (idleAlone (getD (hs .held) 0 false) (rowAt ts 0)) _ all-rows)) n l
+
+    wake : (n : ℕ) → n < 16 → wakesFine ts (k .tick) n ≡ true
+    wake n l =
+        all-below 16 (wakesFine ts (k .tick)) (and-right (allBelow 16 (rowsFine ts stands (hs .held))) _ (and-right (idleAlone (getD (hs .held) 0 false) (rowAt ts 0)) _ all-rows)) n l
+
+    kinds : allBelow 16 (fineAt (k .objects)) ≡ true
+    kinds = sym (H .said) ∙ and-right waits _ (and-right fine _ tables)
+
+    -- so it stands for a state
+    pub is-plain : plain k ≡ true
+    unfolding plain canonical
+    is-plain =
+        and-intro _ _ (below-all 16 _
+        (λ n l. and-intro _ _ (and-left (known (getD (ts .state) n 0) (getD (ts .object) n 0)) _ (each n l)) (and-left (wakeKnown (getD (ts .state) n 0) (getD (ts .wake) n 0)) _ (wake n l))))
+        (fine-canonical (k .objects) kinds)
+
+    alone : (n : ℕ) → n < 16 → AloneTested (getD stands n 0) (getD (hs .held) n false) (slotTask (s .tasks) n)
+    alone n l = alone-tested _ _ _ (rw (row n l) (and-right (known (getD (ts .state) n 0) (getD (ts .object) n 0)) _ (each n l)))
+
+    once : (n : ℕ) → n < 16 → standsFine (count n (listed (k .order))) (slotTask (s .tasks) n .place) ≡ true
+    once n l = rw (← stands-at n l) (alone n l .stands)
+
+    idles : idleAlone (getD (hs .held) 0 false) (rowAt ts 0) ≡ true
+    idles = and-left (idleAlone (getD (hs .held) 0 false) (rowAt ts 0)) _ all-rows
+
+    ranges-at : (n : ℕ) → n < 16 → (ringInRange (kindIn (k .objects) n) && holderSlot (kindIn (k .objects) n)) ≡ true
+    ranges-at n l = ranges-of (k .objects) n (all-below 16 (fineAt (k .objects)) kinds n l)
+
+    tables-so : TablesTested (s .tasks) (s .objects)
+    tables-so =
+        record {
+          slots = rw (F .many, H .many);
+          as-idle = rw (row 0 (omega arith)) (and-left (idleFine (rowAt ts 0)) _ idles);
+          waits = below-all 16 _ (λ n l. rw (row n l) (sym (waits-is (k .objects) hs H (task n) (rowAt ts n .place))
+              ∙ all-below 16 (waitsAt ts (hs .open) (hs .taken) (hs .holder)) (and-left waits _ (and-right fine _ tables)) n l));
+          idle-holds = rw (← holding-at 0 (omega arith)) (and-right (idleFine (rowAt ts 0)) _ idles);
+          holders = sym (holders-exist (s .tasks) (s .objects) (F .many) (H .many))
+              ∙ and-intro _ _ (below-all 16 _ (λ n l. rw (kind n l) (and-right (ringInRange (kindIn (k .objects) n)) _ (ranges-at n l))))
+              (below-all 16 _ (λ n l. rw (← marked n) (alone n l .free)));
+          rings = below-all 16 _ (λ n l. rw (kind n l) (and-left (ringInRange (kindIn (k .objects) n)) _ (ranges-at n l)));
+          outcomes = below-all 16 _ (λ n l. alone n l .outcome);
+          fresh = below-all 16 _ (λ n l. alone n l .fresh);
+        }
+
+    to-plain : sound s ≡ true
+    unfolding levelsFine
+    to-plain =
+        let orders = and-right runs _ last in
+        tested-sound s record {
+          tables = tested-tables _ _ tables-so;
+          levels = below-all 16 _ (λ n l. rw (← holding-at n l) (alone n l .levels));
+          listing = tested-listing _ _ record {
+            places = rw places;
+            stands = below-all 16 _ once;
+            tidied = and-left (tidy (k .order)) pends orders;
+            none-else = below-all 16 _ (λ n l. rw (← stands-at n l) (alone n l .orders));
+          };
+          clock = tested-clock _ _ _ _ record {
+            wakes = below-all 16 _ (λ n l. rw (row n l) (and-right (wakeKnown (getD (ts .state) n 0) (getD (ts .wake) n 0)) _ (wake n l)));
+            ranges = ranges;
+            pends = and-right (tidy (k .order)) pends orders;
+          };
+          runs = sym (runs-is ts (F .many) (listed (k .order)) (λ n l. rw (← row n l) (once n l)) (k .running) (k .hold)) ∙ and-left runs _ last;
+        }
+
+  -- and back
+  module _ (e : sound s ≡ true) (p : plain k ≡ true) where
+    E : Tested s
+    E = sound-tested s e
+
+    T : TablesTested (s .tasks) (s .objects)
+    T = tables-tested (s .tasks) (s .objects) (E .tables)
+
+    L : ListingTested (s .tasks) (k .order)
+    L = listing-tested (s .tasks) (k .order) (E .listing)
+
+    C : ClockTested (s .tasks) (k .tick) (k .hold) (k .pended)
+    C = clock-tested (s .tasks) (k .tick) (k .hold) (k .pended) (E .clock)
+
+    from-plain : quick ≡ true
+    unfolding levelsFine plain canonical
+    from-plain =
+        and-intro _ _ (and-intro fine _ (F .said ∙ and-intro _ _ idles (and-intro _ _ (below-all 16 _ each-row) (below-all 16 _ each-wake)))
+        (and-intro waits _ (below-all 16 _ each-wait) (H .said ∙ below-all 16 _ each-kind)))
+        (and-intro runs _ (runs-is ts (F .many) (listed (k .order)) once-too (k .running) (k .hold) ∙ E .runs) (and-intro (tidy (k .order)) pends (L .tidied) (C .pends)))
+      where
+        cells : (n : ℕ) → n < 16 → (known (getD (ts .state) n 0) (getD (ts .object) n 0) && wakeKnown (getD (ts .state) n 0) (getD (ts .wake) n 0)) ≡ true
+        cells n l =
+            all-below 16 (λ i. known (getD (ts .state) i 0) (getD (ts .object) i 0) && wakeKnown (getD (ts .state) i 0) (getD (ts .wake) i 0))
+            (and-left (canonical ts) (canonicalKinds (k .objects)) p) n l
+
+        slotted : Bool
+        slotted = allBelow 16 (λ n. holderSlot (kindAt (s .objects) (object n)))
+
+        unheld : Bool
+        unheld = allBelow 16 (λ n. freeHolds (getD (marksOf (s .objects)) n false) (taskAt (s .tasks) (task n) .place))
+
+        halves : (slotted && unheld) ≡ true
+        halves = holders-exist (s .tasks) (s .objects) (F .many) (H .many) ∙ T .holders
+
+        once-too : (n : ℕ) → n < 16 → standsFine (count n (listed (k .order))) (rowAt ts n .place) ≡ true
+        once-too n l = rw (← row n l) (all-below 16 _ (L .stands) n l)
+
+        idles : idleAlone (getD (hs .held) 0 false) (rowAt ts 0) ≡ true
+        idles = and-intro (idleFine (rowAt ts 0)) (not (getD (hs .held) 0 false)) (rw (← row 0 (omega arith)) (T .as-idle)) (rw (holding-at 0 (omega arith)) (T .idle-holds))
+
+        each-row : (n : ℕ) → n < 16 → rowsFine ts stands (hs .held) n ≡ true
+        each-row n l =
+            and-intro (known (getD (ts .state) n 0) (getD (ts .object) n 0)) _ (and-left _ _ (cells n l))
+            (rw (← row n l)
+            (tested-alone (getD stands n 0) (getD (hs .held) n false) (slotTask (s .tasks) n) record {
+              stands = rw (stands-at n l) (all-below 16 _ (L .stands) n l);
+              orders = rw (stands-at n l) (all-below 16 _ (L .none-else) n l);
+              levels = rw (holding-at n l) (all-below 16 _ (E .levels) n l);
+              outcome = all-below 16 _ (T .outcomes) n l;
+              fresh = all-below 16 _ (T .fresh) n l;
+              free = rw (marked n) (all-below 16 _ (and-right slotted unheld halves) n l);
+            }))
+
+        each-wake : (n : ℕ) → n < 16 → wakesFine ts (k .tick) n ≡ true
+        each-wake n l =
+            and-intro (wakeKnown (getD (ts .state) n 0) (getD (ts .wake) n 0)) (notDue (k .tick) (rowAt ts n .place))
+            (and-right (known (getD (ts .state) n 0) (getD (ts .object) n 0)) _ (cells n l)) (rw (← row n l) (all-below 16 _ (C .wakes) n l))
+
+        each-wait : (n : ℕ) → n < 16 → waitsAt ts (hs .open) (hs .taken) (hs .holder) n ≡ true
+        each-wait n l = waits-is (k .objects) hs H (task n) (rowAt ts n .place) ∙ rw (← row n l) (all-below 16 _ (T .waits) n l)
+
+        each-kind : (n : ℕ) → n < 16 → fineAt (k .objects) n ≡ true
+        each-kind n l =
+            fine-of (k .objects) n (and-right (canonical ts) (canonicalKinds (k .objects)) p) l
+            (rw (← kind n l) (and-intro (ringInRange (slotKind (s .objects) n)) (holderSlot (slotKind (s .objects) n)) (all-below 16 _ (T .rings) n l)
+            (all-below 16 _ (and-left slotted unheld halves) n l)))
+
+  pub quick-is : quick ≡ sound (shown k)
+  unfolding shown
+  quick-is = same-test quick _ (λ q. rw (is-plain q) (to-plain q)) (λ e. go (plain k) refl e)
+    where
+      go : (b : Bool) → plain k ≡ b → sound (if b then rows k else noTables k) ≡ true → quick ≡ true
+      go true p e = from-plain e p
+      go false p e = absurd (no-tables k e)
+
+  -- what passes stands for the state that it shows
+  pub stands-for : quick ≡ true → k ≡ kernelOf (shown k)
+  unfolding shown kernelOf
+  stands-for q =
+      let f = and-left fine _ (tables q) in
+      let g = and-right waits _ (and-right fine _ (tables q)) in
+      rw (is-plain q) (λ i. record { tasks = F .whole f i; objects = H .whole g i; order = k .order; running = k .running; tick = k .tick; hold = k .hold; pended = k .pended })

@@ -1,0 +1,208 @@
+// The 17 calls, accepted: each does its row of the call table.
+ghost use mathlib.Core.Path.{_≡_};
+ghost use mathlib.Core.Bool.{_&&_, true, false};
+ghost use lib.Dec.{eqb, ltb};
+ghost use lib.ListN.{length};
+ghost use Rattle.slots.specs.Kinds.{kindAt};
+ghost use Rattle.rules.specs.Tables.{freeSlot, freeObject};
+ghost use Rattle.rows.specs.Asking.{makes};
+ghost use Rattle.rules.specs.Refusals.{newSlot};
+ghost use Rattle.rows.specs.Applies.{sizeDiffers};
+ghost use Rattle.rules.specs.Refusals.{laterRow};
+ghost use Rattle.rules.specs.Ticks.{ticked, held, released};
+ghost use Rattle.rules.specs.Queues.{sentTo, receivedFrom, storeSentTo, storeReceivedFrom};
+ghost use Rattle.rules.specs.Effects.{created, deleted, suspended, resumed, delayed, queueMade, mutexMade, taken, handedOn, given, effect};
+ghost use Rattle.rules.specs.Steps.{stored};
+ghost use Rattle.kernel.specs.Stands.{shown};
+ghost use Rattle.kernel.specs.Does.{Reads, Does, Firm};
+use crate::Kernel;
+use calls::Asked;
+use numbers::ObjSlot;
+use numbers::TaskSlot;
+use slots::Found;
+use slots::Holder;
+use slots::Kind;
+use slots::Place;
+use slots::Ring;
+use slots::Task;
+
+impl Kernel {
+    fn create(self, n: u8, p: u8) -> Kernel
+        requires { ⌜ Reads self (λ s. freeSlot (s .tasks)) n ⌝ }
+        ensures { λ r. ⌜ Does self (λ s. created s p) r ⌝ }
+    {
+        let t = TaskSlot::of(n);
+        self.with_task(t, Task::ready_at(p)).to_tail(t)
+    }
+
+    fn delete(self, t: TaskSlot) -> Kernel
+        ensures { λ r. ⌜ Does self (λ s. deleted s t) r ⌝ }
+    {
+        self.with_task(t, Task::free()).leaves(t)
+    }
+
+    fn suspend(self, t: TaskSlot) -> Kernel
+        ensures { λ r. ⌜ Does self (λ s. suspended s t) r ⌝ }
+    {
+        let x = self.task(t);
+        let p = x.place;
+        if p.is_listed() {
+            self.with_task(t, x.broken_off()).leaves(t)
+        } else {
+            self
+        }
+    }
+
+    fn resume(self, t: TaskSlot) -> Kernel
+        ensures { λ r. ⌜ Does self (λ s. resumed s t) r ⌝ }
+    {
+        let x = self.task(t);
+        self.arrives(t, Place::Ready, x.outcome)
+    }
+
+    fn delay(self, n: u32) -> Kernel
+        ensures { λ r. ⌜ Does self (λ s. delayed s n) r ⌝ }
+    {
+        if n == 0 {
+            self.to_tail(self.running)
+        } else {
+            self.arrives(
+                self.running,
+                Place::Delayed(std::num::wrapping_add_u32(self.tick, n)),
+                0,
+            )
+        }
+    }
+
+    fn hold_deeper(self) -> Kernel
+        requires { ⌜ eqb (self .hold) 255 ≡ false ⌝ }
+        ensures { λ r. ⌜ Does self held r ⌝ }
+    {
+        self.with_hold(self.hold + 1, self.pended)
+    }
+
+    fn release(self) -> Kernel
+        requires { ⌜ eqb (self .hold) 0 ≡ false ⌝ }
+        ensures { λ r. ⌜ Does self released r ⌝ }
+    {
+        if self.hold == 1 {
+            self.with_hold(0, 0).ticks(self.pended)
+        } else {
+            self.with_hold(self.hold - 1, self.pended)
+        }
+    }
+
+    fn make_queue(self, n: u8, capacity: u8, size: u8) -> Kernel
+        requires { ⌜ Reads self (λ s. freeObject (s .objects)) n ⌝ }
+        ensures { λ r. ⌜ Does self (λ s. queueMade s capacity size) r ⌝ }
+    {
+        let q = Ring {
+            capacity,
+            size,
+            first: 0,
+            count: 0,
+        };
+        self.with_object(ObjSlot::of(n), Kind::Queue(q))
+    }
+
+    fn make_mutex(self, n: u8) -> Kernel
+        requires { ⌜ Reads self (λ s. freeObject (s .objects)) n ⌝ }
+        ensures { λ r. ⌜ Does self mutexMade r ⌝ }
+    {
+        self.with_object(ObjSlot::of(n), Kind::Mutex(Holder::Nobody))
+    }
+
+    fn send(self, o: ObjSlot, w: u32, item: &[u8], store: &mut [u8]) -> Kernel
+        requires { ⌜ Firm self × (sizeDiffers (length (now item)) (kindAt (shown self .objects) o) ≡ false) × (length (now store) ≡ 9216) ⌝ }
+        ensures { λ r. ⌜ Does self (λ s. sentTo s o (kindAt (s .objects) o) w) r
+            × Reads self (λ s. storeSentTo s o (kindAt (s .objects) o) (now (item .entry)) (now (store .entry))) (now (store .exit)) ⌝ }
+    {
+        match self.kind(o) {
+            Kind::Unused => self,
+            Kind::Queue(q) => self.send_to(o, q, w, item, store),
+            Kind::Mutex(_) => self,
+        }
+    }
+
+    fn receive(self, o: ObjSlot, w: u32, store: &mut [u8]) -> Kernel
+        requires { ⌜ Firm self × (length (now store) ≡ 9216) ⌝ }
+        ensures { λ r. ⌜ Does self (λ s. receivedFrom s o (kindAt (s .objects) o) w) r × Reads self (λ s. storeReceivedFrom s o (kindAt (s .objects) o) (now (store .entry))) (now (store .exit)) ⌝ }
+    {
+        match self.kind(o) {
+            Kind::Unused => self,
+            Kind::Queue(q) => self.receive_from(o, q, w, store),
+            Kind::Mutex(_) => self,
+        }
+    }
+
+    fn take(self, o: ObjSlot, w: u32) -> Kernel
+        ensures { λ r. ⌜ Does self (λ s. taken s o w) r ⌝ }
+    {
+        let u = self.running;
+        match self.kind(o) {
+            Kind::Unused => self,
+            Kind::Queue(_) => self,
+            Kind::Mutex(h) => match h {
+                Holder::Nobody => self.with_object(o, Kind::Mutex(Holder::By(u))),
+                Holder::By(t) => self.lent(t).wait_for(o, w),
+            },
+        }
+    }
+
+    // The mutex goes to the first waiter, or is free.
+    fn handed_on(self, o: ObjSlot) -> Kernel
+        ensures { λ r. ⌜ Does self (λ s. handedOn s o) r ⌝ }
+    {
+        match self.first_waiter(o) {
+            Found::NoOne => self.with_object(o, Kind::Mutex(Holder::Nobody)),
+            Found::Someone(t) => self.arrives(t, Place::Ready, 1)
+                .with_object(o, Kind::Mutex(Holder::By(t))),
+        }
+    }
+
+    fn give(self, o: ObjSlot) -> Kernel
+        ensures { λ r. ⌜ Does self (λ s. given s o) r ⌝ }
+    {
+        let u = self.running;
+        self.handed_on(o).own_again(u)
+    }
+
+    fn tick_on(self) -> Kernel
+        requires { ⌜ (ltb 0 (self .hold) && eqb (self .pended) 65535) ≡ false ⌝ }
+        ensures { λ r. ⌜ Does self ticked r ⌝ }
+    {
+        if 0 < self.hold {
+            self.with_hold(self.hold, self.pended + 1)
+        } else {
+            self.one_tick().turned()
+        }
+    }
+
+    // The call is one that no row of the table turns away; `n` is the slot that a create or make takes.
+    pub(crate) fn served(self, a: Asked, n: u8, item: &[u8], store: &mut [u8]) -> Kernel
+        requires { ⌜ Firm self × (laterRow (shown self) a (length (now item)) (length (now store)) ≡ 0) × (makes a ≡ true → Reads self (λ s. newSlot s a) n) ⌝ }
+        ensures { λ r. ⌜ Does self (λ s. effect s a) r × Reads self (λ s. stored s a (now (item .entry)) (now (store .entry))) (now (store .exit)) ⌝ }
+    {
+        let number = a.number;
+        match number {
+            1 => self.create(n, a.priority as u8),
+            2 => self.delete(a.task),
+            3 => self.suspend(a.task),
+            4 => self.resume(a.task),
+            5 => self.new_priority(a.task, a.priority as u8),
+            6 => self.delay(a.ticks),
+            7 => self.to_tail(self.running),
+            8 => self.hold_deeper(),
+            9 => self.release(),
+            10 => self.make_queue(n, a.capacity as u8, a.size as u8),
+            11 => self.make_mutex(n),
+            12 => self.with_object(a.object, Kind::Unused),
+            13 => self.send(a.object, a.wait, item, store),
+            14 => self.receive(a.object, a.wait, store),
+            15 => self.take(a.object, a.wait),
+            16 => self.give(a.object),
+            17 => self.tick_on(),
+            _ => self,
+        }
+    }
+}

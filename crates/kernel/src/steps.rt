@@ -1,0 +1,69 @@
+// The step: any kernel value, any call, an item and a store of whatever length.
+ghost use mathlib.Core.Path.{_≡_};
+ghost use mathlib.Core.Bool.{true};
+ghost use Rattle.calls.specs.Behind.{asked};
+ghost use Rattle.calls.specs.Said.{said};
+ghost use Rattle.rules.specs.Sound.{sound};
+ghost use Rattle.kernel.specs.Stands.{kernelOf, shown};
+ghost use Rattle.kernel.specs.Does.{Reads, answerOf};
+ghost use Rattle.kernel.specs.Promises.{SoundSteps, Steps};
+use crate::Kernel;
+use crate::Step;
+use calls::Answer;
+use calls::Asked;
+use calls::Call;
+use numbers::TaskSlot;
+
+impl Kernel {
+    // A create or make answers with the number of its slot `n`; any other call waiting, exactly if the caller is now delayed or waits on an object.
+    fn answered(self, a: Asked, caller: TaskSlot, n: u8) -> Answer
+        ensures { λ r. ⌜ Reads self (answerOf a n caller) (said r) ⌝ }
+    {
+        if rows::makes(a) {
+            return Answer::Made(calls::number(n));
+        }
+        let x = self.task(caller);
+        let p = x.place;
+        if p.is_blocked() {
+            Answer::Waiting
+        } else {
+            Answer::Done
+        }
+    }
+
+    // The step of a kernel that is known to be sound: what a session of many calls uses.
+    pub(crate) fn step_sound(self, call: Call, item: &[u8], store: &mut [u8]) -> Step
+        requires { ⌜ (sound (shown self) ≡ true) × (self ≡ kernelOf (shown self)) ⌝ }
+        ensures { λ r. ⌜ SoundSteps self (asked call) (now (item .entry)) (now (store .entry)) r (now (store .exit)) ⌝ }
+    {
+        let a = call.asked();
+        let s = self.seen(a);
+        let no = s.row(a, item.len(), store.len());
+        if no != 0 {
+            return Step {
+                kernel: self,
+                answer: Answer::Refused(no),
+            };
+        }
+        let u = self.running;
+        let next = self.served(a, s.new, item, store);
+        let answer = next.answered(a, u, s.new);
+        Step {
+            kernel: next.chosen(),
+            answer,
+        }
+    }
+
+    pub fn step(self, call: Call, item: &[u8], store: &mut [u8]) -> Step
+        ensures { λ r. ⌜ Steps self call (now (item .entry)) (now (store .entry)) r (now (store .exit)) ⌝ }
+    {
+        if self.sound() {
+            self.step_sound(call, item, store)
+        } else {
+            Step {
+                kernel: self,
+                answer: Answer::Refused(1),
+            }
+        }
+    }
+}

@@ -1,0 +1,124 @@
+-- What the order tells beyond the lines and the lists is never used: every call gives alike kernels the same answer, the same store and alike kernels.
+use Prim.Native.Nat.{ℕ}
+use mathlib.Core.Path.{_≡_, refl, sym, ap, _∙_}
+use mathlib.Core.Bool.{Bool, true, false}
+use mathlib.Core.List.{List, [], _∷_}
+use native.Mathlib.Omega.{arith}
+use lib.Dec.{eqb}
+use lib.ListN.{length}
+use borrow.Author.Tests.{eqb-true}
+use Rattle.lists.specs.Choice.{if_then_else_}
+use Rattle.numbers.specs.declared.TaskSlot.{TaskSlot}
+use Rattle.numbers.specs.declared.ObjSlot.{ObjSlot}
+use Rattle.calls.specs.declared.Call.{Call}
+use Rattle.calls.specs.declared.Call.the-variants.{Create, Delete, Suspend, Resume, SetPriority, Delay, Yield, Hold, Release, MakeQueue, MakeMutex, Remove, Send, Receive, Take, Give, Tick}
+use Rattle.calls.specs.declared.Asked.{Asked}
+use Rattle.calls.specs.Door.{taskSlot, objSlot}
+use Rattle.calls.specs.Behind.{asked}
+use Rattle.order.specs.declared.Order.{Order}
+use Rattle.slots.specs.declared.Kind.{Kind}
+use Rattle.slots.specs.declared.Kind.the-variants.{Unused, Queue, Mutex}
+use Rattle.slots.specs.declared.Who.the-variants.{AllReady, WaitersOf}
+use Rattle.rules.specs.State.{State}
+use Rattle.slots.specs.Kinds.{kindAt}
+use Rattle.rules.specs.Tables.{withOrder, withRunning}
+use Rattle.rules.specs.Lines.{first, runsIf, chosen}
+use Rattle.rules.specs.Sound.{sound}
+use Rattle.items.specs.Bytes.{putAt}
+use Rattle.rules.specs.Queues.{placeBy, storeSent, storeReceived, sentTo, receivedFrom, storeSentTo, storeReceivedFrom}
+use Rattle.rules.specs.Refusals.{laterRow, refusal}
+use Rattle.rules.specs.Effects.{effect}
+use Rattle.rules.specs.Steps.{stored, answered, accepted, turnedAway, step}
+use Rattle.rules.proofs.TableWithin.{by-outlet}
+use Rattle.promises.specs.Alike.{Alike, AlikeSteps, Ordered}
+use Rattle.promises.proofs.AlikeTwins.{Twins, two-orders, shared, twice}
+use Rattle.promises.proofs.AlikeEffects.{first-same, outlet-same, created-too, deleted-too, suspended-too, resumed-too, new-priority-too, yielded-too}
+use Rattle.promises.proofs.AlikeEffects.{delayed-too, queue-made-too, mutex-made-too, removed-too, ticked-too, released-too, held-too, sent-to-too}
+use Rattle.promises.proofs.AlikeEffects.{received-from-too, taken-too, given-too}
+use Rattle.promises.proofs.AlikeSound.{alike-sound, twins}
+use Rattle.promises.proofs.AlikeRefusals.{alike-refusal, create-low, resume-low}
+
+-- ── alike effects, stores and answers of an accepted call
+effect-too : (k j : State) (c : Call) (item store : ℕ) → laterRow k (asked c) item store ≡ 0 → Twins k j → Twins (effect k (asked c)) (effect j (asked c))
+unfolding effect asked
+effect-too k j (Create p) item store e w = created-too p (create-low k p item store (w .slots) e) w
+effect-too k j (Delete t) item store e w = deleted-too (taskSlot t) w
+effect-too k j (Suspend t) item store e w = suspended-too (taskSlot t) w
+effect-too k j (Resume t) item store e w = resumed-too (taskSlot t) (resume-low k (taskSlot t) item store (w .slots) e) w
+effect-too k j (SetPriority t p) item store e w = new-priority-too (taskSlot t) p w
+effect-too k j (Delay n) item store e w = delayed-too n w
+effect-too k j Yield item store e w = yielded-too w
+effect-too k j Hold item store e w = held-too w
+effect-too k j Release item store e w = released-too w
+effect-too k j (MakeQueue c z) item store e w = queue-made-too c z w
+effect-too k j MakeMutex item store e w = mutex-made-too w
+effect-too k j (Remove o) item store e w = removed-too (objSlot o) w
+effect-too k j (Send o n) item store e w = twice (λ z. sentTo z (objSlot o) (kindAt (z .objects) (objSlot o)) n) w (λ m v. sent-to-too (objSlot o) (kindAt (k .objects) (objSlot o)) n v)
+effect-too k j (Receive o n) item store e w = twice (λ z. receivedFrom z (objSlot o) (kindAt (z .objects) (objSlot o)) n) w (λ m v. received-from-too (objSlot o) (kindAt (k .objects) (objSlot o)) n v)
+effect-too k j (Take o n) item store e w = taken-too (objSlot o) n w
+effect-too k j (Give o) item store e w = given-too (objSlot o) w
+effect-too k j Tick item store e w = ticked-too w
+
+chosen-too : (k j : State) → Twins k j → Alike (chosen k) (chosen j)
+unfolding chosen
+chosen-too k j w = shared (λ z. Alike (chosen k) (chosen z)) k j w (λ o v. rw (← first-same k o (v .alike) AllReady) (go o (v .alike) (eqb (k .hold) 0) (first k AllReady)))
+  where
+    go : (o : Order) → Alike k (withOrder k o) → (b : Bool) (f : List TaskSlot) → Alike (if b then runsIf k f else k) (if b then runsIf (withOrder k o) f else withOrder k o)
+    go o a true [] = a
+    go o a true (t ∷ f) = two-orders (withRunning k t) o (a .lines) (a .lists)
+    go o a false f = a
+
+sent-store-too : (k : State) (m : Order) → Alike k (withOrder k m) → (o : ObjSlot) (x : Kind) (item s : List ℕ) → storeSentTo k o x item s ≡ storeSentTo (withOrder k m) o x item s
+unfolding storeSent
+sent-store-too k m a o Unused item s = refl
+sent-store-too k m a o (Queue q) item s = rw (← outlet-same k m a o q) (ap (λ n. putAt n item s) (by-outlet k o q (λ x. placeBy k o q x ≡ placeBy (withOrder k m) o q x) (λ t e. refl) refl refl))
+sent-store-too k m a o (Mutex h) item s = refl
+
+received-store-too : (k : State) (m : Order) → Alike k (withOrder k m) → (o : ObjSlot) (x : Kind) (s : List ℕ) → storeReceivedFrom k o x s ≡ storeReceivedFrom (withOrder k m) o x s
+unfolding storeReceived
+received-store-too k m a o Unused s = refl
+received-store-too k m a o (Queue q) s = rw (← first-same k m a (WaitersOf o))
+received-store-too k m a o (Mutex h) s = refl
+
+stored-too : (k j : State) (a : Asked) (item s : List ℕ) → Twins k j → stored k a item s ≡ stored j a item s
+unfolding stored
+stored-too k j a item s w =
+    let x : Kind = kindAt (k .objects) (a .object) in
+    shared (λ z. stored k a item s ≡ stored z a item s) k j w
+    (λ m v. rw (sent-store-too k m (v .alike) (a .object) x item s, received-store-too k m (v .alike) (a .object) x s))
+
+answered-too : {k j next after : State} (a : Asked) → Alike k j → Alike next after → answered k a next ≡ answered j a after
+unfolding answered
+answered-too a b c = rw (b .tasks, b .objects, b .running, c .tasks)
+
+accepted-too : (k j : State) (c : Call) (item s : List ℕ) → laterRow k (asked c) (length item) (length s) ≡ 0 → Twins k j → AlikeSteps (accepted k (asked c) item s) (accepted j (asked c) item s)
+unfolding accepted
+accepted-too k j c item s e w =
+    let next = chosen-too (effect k (asked c)) (effect j (asked c)) (effect-too k j c (length item) (length s) e w) in
+    record { answer = answered-too (asked c) (w .alike) next; store = stored-too k j (asked c) item s w; kernel = next }
+
+-- ── every call
+not-refused : (k : State) (a : Asked) (item store : ℕ) → refusal k a item store ≡ 0 → (sound k ≡ true) × (laterRow k a item store ≡ 0)
+unfolding refusal
+not-refused k a item store h = go (sound k) refl h
+  where
+    go : (b : Bool) → sound k ≡ b → (if b then laterRow k a item store else 1) ≡ 0 → (sound k ≡ true) × (laterRow k a item store ≡ 0)
+    go true e f = (e, f)
+    go false e f = absurd (omega arith)
+
+pub alike-step : (k j : State) (c : Call) (item s : List ℕ) → sound k ≡ sound j → Alike k j → AlikeSteps (step k c item s) (step j c item s)
+unfolding step
+alike-step k j c item s e a =
+    rw (← alike-refusal k j (asked c) (length item) (length s) e a)
+    (go (refusal k (asked c) (length item) (length s)) refl (eqb (refusal k (asked c) (length item) (length s)) 0) refl)
+  where
+    go : (n : ℕ) → refusal k (asked c) (length item) (length s) ≡ n → (b : Bool) → eqb n 0 ≡ b
+        → AlikeSteps (if b then accepted k (asked c) item s else turnedAway k n s) (if b then accepted j (asked c) item s else turnedAway j n s)
+    go n r true h =
+        let free = not-refused k (asked c) (length item) (length s) (r ∙ eqb-true n 0 h) in
+        accepted-too k j c item s (free .1) (twins k j (free .0) (sym e ∙ free .0) a)
+    go n r false h = record { answer = refl; store = refl; kernel = a }
+
+-- the same of kernels whose orders list whom they should, sound or not
+pub alike-step-ordered : (k j : State) (c : Call) (item s : List ℕ) → Ordered k → Ordered j → Alike k j → AlikeSteps (step k c item s) (step j c item s)
+alike-step-ordered k j c item s p q a = alike-step k j c item s (alike-sound k j a p q) a

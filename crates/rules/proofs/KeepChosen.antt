@@ -1,0 +1,131 @@
+-- Choose comes last: it makes a nearly sound kernel sound.
+use Prim.Native.Nat.{ℕ, _<_}
+use mathlib.Core.Path.{_≡_, refl, sym, _∙_}
+use mathlib.Core.Bool.{Bool, true, false, _&&_, false≢true}
+use mathlib.Core.List.{List, [], _∷_}
+use native.Mathlib.Omega.{arith}
+use lib.Dec.{eqb, ltb}
+use borrow.Author.Tests.{eqb-true, eqb-false, ne-eqb, ltb-true, ltb-false}
+use Rattle.lists.specs.Choice.{if_then_else_}
+use Rattle.lists.specs.Lists.{kept, head, isNone}
+use Rattle.lists.proofs.Bools.{and-right}
+use Rattle.numbers.specs.Numbers.{idle}
+use Rattle.order.specs.Order.{listed}
+use Rattle.order.specs.Tidy.{count}
+use Rattle.order.proofs.CountPassing.{count-kept}
+use Rattle.slots.specs.Places.{isReady}
+use Rattle.slots.specs.Values.{inLine, taskAt}
+use Rattle.rules.specs.Types.{TaskSlot, Task, AllReady, State}
+use Rattle.rules.specs.Tables.{withRunning}
+use Rattle.rules.specs.Lines.{line, those, level, highest, first, runsIf, chosen}
+use Rattle.rules.specs.Sentences.{Running, Sound}
+use Rattle.rules.proofs.LineLeads.{leader-none, first-heads-highest}
+use Rattle.rules.proofs.TableWithin.{first-meant, kept-head, first-single}
+use Rattle.rules.proofs.TableSlots.{is-ready}
+use Rattle.rules.proofs.SoundClock.{wake-says, says-wake}
+use Rattle.rules.proofs.KeepNearly.{Owing, settled, level-as, Nearly, RunsIn}
+
+-- ── from nearly sound to sound, and back
+pub nearly-sound : (k : State) → Nearly (settled (k .tick)) k → Running (k .tasks) (listed (k .order)) (k .running) (k .hold) → Sound k
+nearly-sound k N R =
+    record {
+      tables = N .tables;
+      levels = λ t. level-as (N .levels t) (λ n. N .levels t .equal (refl, n));
+      listing = N .listing;
+      clock = record { wakes = λ t. wake-says (k .tick) (taskAt (k .tasks) t .place) (N .due t); counts = N .counts };
+      running = R;
+    }
+
+pub sound-nearly : (k : State) → Sound k → Nearly (settled (k .tick)) k
+sound-nearly k S =
+    record {
+      tables = S .tables;
+      levels = λ t. level-as (S .levels t) (λ c. S .levels t .equal (c .1));
+      listing = S .listing;
+      due = λ t. says-wake (k .tick) (taskAt (k .tasks) t .place) (S .clock .wakes t);
+      counts = S .clock .counts;
+    }
+
+-- ── choose
+-- no line stands above the highest priority of the ready
+above-highest : (ts : List Task) (p : ℕ) (l : List TaskSlot) → highest ts (those ts AllReady l) < p → line ts p l ≡ []
+unfolding those line kept highest
+above-highest ts p [] h = refl
+above-highest ts p (t ∷ l) h = go (isReady (taskAt ts t .place)) (ltb (level ts t) (highest ts rest)) refl h (above-highest ts p l)
+  where
+    rest : List TaskSlot
+    rest = kept (λ u. isReady (taskAt ts u .place)) l
+
+    drops : (c : Bool) → (b : Bool) → b ≡ false → kept (λ u. inLine p (taskAt ts u)) l ≡ [] → (if c && b then t ∷ kept (λ u. inLine p (taskAt ts u)) l else kept (λ u. inLine p (taskAt ts u)) l) ≡ []
+    drops true b e i = rw e i
+    drops false b e i = i
+
+    go : (b : Bool) (c : Bool) → ltb (level ts t) (highest ts rest) ≡ c → highest ts (if b then t ∷ rest else rest) < p → (highest ts rest < p → kept (λ u. inLine p (taskAt ts u)) l ≡ [])
+        → (if b && eqb (level ts t) p then t ∷ kept (λ u. inLine p (taskAt ts u)) l else kept (λ u. inLine p (taskAt ts u)) l) ≡ []
+    go true true e m ih =
+        let n : highest ts rest < p = rw e at m in
+        drops true (eqb (level ts t) p) (ne-eqb (level ts t) p (λ z. omega (arith, ltb-true (level ts t) (highest ts rest) e))) (ih n)
+    go true false e m ih =
+        let n : level ts t < p = rw e at m in
+        drops true (eqb (level ts t) p) (ne-eqb (level ts t) p (λ z. omega arith)) (ih (omega (arith, ltb-false (level ts t) (highest ts rest) e)))
+    go false c e m ih = ih m
+
+none-counts : count 0 [] ≡ 1 → ⊥
+unfolding count
+none-counts q = omega arith
+
+-- idle is ready, so someone is
+some-ready : {w : Owing} (k : State) → Nearly w k → isNone (first k AllReady) ≡ false
+unfolding first those
+some-ready k N = leader-none (k .tasks) (those (k .tasks) AllReady (listed (k .order))) ∙ go (those (k .tasks) AllReady (listed (k .order))) once
+  where
+    once : count 0 (those (k .tasks) AllReady (listed (k .order))) ≡ 1
+    once = count-kept (λ u. isReady (taskAt (k .tasks) u .place)) 0 (listed (k .order))
+        ∙ rw (N .tables .as-idle .ready) (N .listing .once idle ∙ rw (N .tables .as-idle .ready))
+
+    go : (l : List TaskSlot) → count 0 l ≡ 1 → isNone l ≡ false
+    go [] e = absurd (none-counts e)
+    go (t ∷ l) e = refl
+
+module _ (k : State) (N : Nearly (settled (k .tick)) k) where
+  abbrev high : ℕ
+  high = highest (k .tasks) (those (k .tasks) AllReady (listed (k .order)))
+
+  runs-first : (t : TaskSlot) → first k AllReady ≡ t ∷ [] → Sound (withRunning k t)
+  unfolding line
+  runs-first t e =
+      nearly-sound (withRunning k t) (record { tables = N .tables; levels = N .levels; listing = N .listing; due = N .due; counts = N .counts })
+      (record {
+        runs = record { ready = is-ready _ (first-meant k AllReady t e); heads = rw top heads };
+        no-higher = λ h p m. above-highest (k .tasks) p (listed (k .order)) (rw top at m);
+      })
+    where
+      heads : head (line (k .tasks) high (listed (k .order))) ≡ t ∷ []
+      heads = sym (first-heads-highest k) ∙ e
+
+      top : level (k .tasks) t ≡ high
+      top = eqb-true (level (k .tasks) t) high (and-right (isReady (taskAt (k .tasks) t .place)) _ (kept-head (λ u. inLine high (taskAt (k .tasks) u)) (listed (k .order)) t heads))
+
+  pub chosen-sound : (0 < k .hold → RunsIn k) → Sound (chosen k)
+  unfolding chosen
+  chosen-sound R = go (eqb (k .hold) 0) refl
+    where
+      choose : (f : List TaskSlot) → first k AllReady ≡ f → isNone f ≡ false → Sound (runsIf k f)
+      choose [] e n = absurd (false≢true (sym n))
+      choose (t ∷ r) e n = runs-first t (first-single k AllReady t r e)
+
+      go : (b : Bool) → eqb (k .hold) 0 ≡ b → Sound (if b then runsIf k (first k AllReady) else k)
+      go true e = choose (first k AllReady) refl (some-ready k N)
+      go false e =
+          let busy : 0 < k .hold = omega (arith, eqb-false (k .hold) 0 e) in
+          nearly-sound k N (record { runs = R busy; no-higher = λ h. absurd (omega arith) })
+
+-- choose changes no task
+pub chosen-tasks : (k : State) → chosen k .tasks ≡ k .tasks
+unfolding chosen
+chosen-tasks k = go (eqb (k .hold) 0) (first k AllReady)
+  where
+    go : (b : Bool) (l : List TaskSlot) → (if b then runsIf k l else k) .tasks ≡ k .tasks
+    go true [] = refl
+    go true (t ∷ l) = refl
+    go false l = refl

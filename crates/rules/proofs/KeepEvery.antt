@@ -1,0 +1,55 @@
+-- Every call keeps soundness, accepted or refused; and the fresh kernel is sound.
+use Prim.Native.Nat.{ℕ}
+use mathlib.Core.Path.{_≡_, refl}
+use mathlib.Core.Bool.{true}
+use mathlib.Core.List.{List}
+use lib.ListN.{length}
+use Rattle.lists.specs.Lists.{every, allBelow, kept, any}
+use Rattle.calls.specs.Door.{taskSlot, objSlot}
+use Rattle.calls.specs.Behind.{asked}
+use Rattle.order.specs.Order.{ordered}
+use Rattle.order.specs.Tidy.{count, tidy}
+use Rattle.rules.specs.Types.{Call, Create, Delete, Suspend, Resume, SetPriority, Delay, Yield, Hold, Release, MakeQueue, MakeMutex, Remove, Send, Receive, Take, Give, Tick, State}
+use Rattle.slots.specs.Values.{taskAt}
+use Rattle.slots.specs.Kinds.{kindAt}
+use Rattle.rules.specs.Tables.{fresh, holds}
+use Rattle.rules.specs.Lines.{line}
+use Rattle.rules.specs.Sound.{tablesFine, levelsFine, listingFine, clockFine, noHigher, runsFine, sound}
+use Rattle.rules.specs.Sentences.{Sound}
+use Rattle.rules.specs.Effects.{effect}
+use Rattle.rules.specs.Steps.{step}
+use Rattle.rules.proofs.RowPasses.{Passed}
+use Rattle.rules.proofs.Keeps.{Keeps, kept as step-keeps}
+use Rattle.rules.proofs.KeepTasks.{create-keeps, delete-keeps, suspend-keeps, resume-keeps, priority-keeps, delay-keeps, yield-keeps}
+use Rattle.rules.proofs.KeepTicks.{hold-keeps, release-keeps, tick-keeps}
+use Rattle.rules.proofs.KeepObjects.{queue-keeps, mutex-keeps, remove-keeps}
+use Rattle.rules.proofs.KeepQueues.{send-keeps, receive-keeps}
+use Rattle.rules.proofs.KeepMutexes.{take-keeps, give-keeps}
+
+pub fresh-sound : sound fresh ≡ true
+unfolding sound fresh every allBelow kept any ordered count tidy taskAt kindAt holds line noHigher runsFine tablesFine levelsFine listingFine clockFine
+fresh-sound = refl
+
+effect-keeps : (k : State) → Sound k → (n : ℕ) (c : Call) → Passed k (asked c) n → Keeps (effect k (asked c))
+unfolding asked
+effect-keeps k S n (Create p) = create-keeps k S n p
+effect-keeps k S n (Delete t) = delete-keeps k S n (taskSlot t)
+effect-keeps k S n (Suspend t) = suspend-keeps k S n (taskSlot t)
+effect-keeps k S n (Resume t) = resume-keeps k S n (taskSlot t)
+effect-keeps k S n (SetPriority t p) = priority-keeps k S n (taskSlot t) p
+effect-keeps k S n (Delay d) = delay-keeps k S n d
+effect-keeps k S n Yield = yield-keeps k S n
+effect-keeps k S n Hold = hold-keeps k S n
+effect-keeps k S n Release = release-keeps k S n
+effect-keeps k S n (MakeQueue c z) = queue-keeps k S n c z
+effect-keeps k S n MakeMutex = mutex-keeps k S n
+effect-keeps k S n (Remove o) = remove-keeps k S n (objSlot o)
+effect-keeps k S n (Send o w) = send-keeps k S n (objSlot o) w
+effect-keeps k S n (Receive o w) = receive-keeps k S n (objSlot o) w
+effect-keeps k S n (Take o w) = take-keeps k S n (objSlot o) w
+effect-keeps k S n (Give o) = give-keeps k S n (objSlot o)
+effect-keeps k S n Tick = tick-keeps k S n
+
+-- whatever the item and the store
+pub step-kept : (k : State) (c : Call) (item s : List ℕ) → sound k ≡ true → sound (step k c item s .kernel) ≡ true
+step-kept k c item s e = step-keeps k c item s e (λ S P. effect-keeps k S (length s) c P)

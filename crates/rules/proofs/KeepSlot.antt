@@ -1,0 +1,160 @@
+-- A task's slot changed, and its place in the order with it: a nearly sound kernel stays so, if what is asked of the task holds of its new value.
+use Prim.Native.Nat.{ℕ, _<_}
+use mathlib.Core.Path.{_≡_, refl, sym, ap, _∙_}
+use mathlib.Core.Bool.{Bool, true, false}
+use mathlib.Core.List.{List, [], _∷_, _++_}
+use native.Mathlib.Omega.{arith}
+use lib.Dec.{eqb}
+use lib.ListN.{length, set, length-set}
+use lib.Seq.{getD-set-same, getD-set-other, set-getD}
+use borrow.Author.Tests.{eqb-true, eqb-false}
+use Rattle.lists.specs.Choice.{if_then_else_}
+use Rattle.numbers.specs.Numbers.{task, idle, sameTask}
+use Rattle.order.specs.Order.{listed, ordered, without}
+use Rattle.order.specs.Tidy.{count}
+use Rattle.order.proofs.Passing.{one-number}
+use Rattle.order.proofs.Counts.{count-append, count-one, count-other, count-gone, count-stays}
+use Rattle.slots.specs.Places.{isListed}
+use Rattle.slots.specs.Values.{freeTask, taskAt}
+use Rattle.rules.specs.Types.{TaskSlot, ObjSlot, Order, Free, Task, State}
+use Rattle.rules.specs.Tables.{withTask, withOrder}
+use Rattle.rules.specs.Lines.{toTail, toHead, leaves}
+use Rattle.rules.specs.Sentences.{Holds, AsIdle, TaskFits, LevelFits, Tables, Listing}
+use Rattle.rules.proofs.SoundLists.{listing-of}
+use Rattle.rules.proofs.KeepNearly.{Owing, Clear, TaskFine, Nearly, ones, relisted}
+
+-- what a slot holds after one is set
+module _ (ts : List Task) (t : TaskSlot) (x : Task) where
+  pub at-same : t .0 < length ts → taskAt (set ts (t .0) x) t ≡ x
+  unfolding taskAt
+  at-same h = getD-set-same ts (t .0) x freeTask h
+
+  pub at-other : (u : TaskSlot) → (u .0 ≡ t .0 → ⊥) → taskAt (set ts (t .0) x) u ≡ taskAt ts u
+  unfolding taskAt
+  at-other u n = getD-set-other ts (t .0) (u .0) x freeTask n
+
+-- a slot set to what it holds
+pub set-same : (k : State) (t : TaskSlot) → withTask k t (taskAt (k .tasks) t) ≡ k
+unfolding taskAt
+set-same k t = rw (set-getD (k .tasks) (t .0) freeTask)
+
+module _ {w : Owing} (k : State) (N : Nearly w k) (t : TaskSlot) (x : Task) (low : t .0 < 16)
+    (F : TaskFine w (k .objects) t x)
+    (E : (o : ObjSlot) → Holds (k .objects) t o → x .place ≡ Free → ⊥)
+    (I : t .0 ≡ 0 → AsIdle x) where
+  abbrev us : List Task
+  us = set (k .tasks) (t .0) x
+
+  abbrev l : List TaskSlot
+  l = listed (k .order)
+
+  same : taskAt us t ≡ x
+  same = at-same (k .tasks) t x (omega (arith, N .tables .task-slots))
+
+  -- the changed task, and every other
+  each : (P : TaskSlot → Task → Type 0) → P t x → ((u : TaskSlot) → (u .0 ≡ t .0 → ⊥) → P u (taskAt (k .tasks) u))
+      → (u : TaskSlot) → P u (taskAt us u)
+  each P h o u = go (sameTask u t) refl
+    where
+      go : (b : Bool) → sameTask u t ≡ b → P u (taskAt us u)
+      go true e = rw (one-number u t (eqb-true (u .0) (t .0) e), same) h
+      go false e = rw (at-other (k .tasks) t x u (eqb-false (u .0) (t .0) e)) (o u (eqb-false (u .0) (t .0) e))
+
+  wide : length us ≡ 16
+  wide = length-set (k .tasks) (t .0) x ∙ N .tables .task-slots
+
+  tables-now : Tables us (k .objects)
+  tables-now =
+      record {
+        task-slots = wide;
+        object-slots = N .tables .object-slots;
+        as-idle = each (λ u y. u .0 ≡ 0 → AsIdle y) I (λ u n e. rw (one-number u idle e) (N .tables .as-idle)) idle refl;
+        tasks = each (λ u y. TaskFits (k .objects) u y) (F .fits) (λ u n. N .tables .tasks u);
+        idle-holds = N .tables .idle-holds;
+        holders = λ u p h. each (λ v y. Holds (k .objects) v p → y .place ≡ Free → ⊥) (E p) (λ v n q. N .tables .holders v p q) u h;
+        queue-range = N .tables .queue-range;
+      }
+
+  -- the order, whatever it is, has each once
+  listed-so : (o : Order) → Listing us o → Nearly w (withOrder (withTask k t x) o)
+  listed-so o l =
+      record {
+        tables = tables-now;
+        levels = each (λ u y. LevelFits (Clear w (k .objects) u) (y .own) (y .effective)) (F .levels) (λ u n. N .levels u);
+        listing = l;
+        due = each (λ u y. w .due u (y .place) ≡ true) (F .due) (λ u n. N .due u);
+        counts = N .counts;
+      }
+
+  changed : (o : List TaskSlot) → ((n : ℕ) → count n o ≡ ones us n) → Nearly w (withOrder (withTask k t x) (ordered o))
+  changed o c = listed-so (ordered o) (relisted us o wide c .listing)
+
+  -- how often each stands in the list without t
+  ones-now : ones us (t .0) ≡ (if isListed (x .place) then 1 else 0)
+  ones-now = ap (λ (y : Task). if isListed (y .place) then 1 else 0) same
+
+  ones-other : (n : ℕ) → (t .0 ≡ n → ⊥) → count n (without t l) ≡ ones us n
+  ones-other n d =
+      count-stays t n d l ∙ N .listing .once (task n)
+      ∙ sym (ap (λ (y : Task). if isListed (y .place) then 1 else 0) (at-other (k .tasks) t x (task n) (λ e. d (sym e))))
+
+  -- by cases whether a number is that of t
+  here-or : {P : ℕ → Type 0} → P (t .0) → ((n : ℕ) → (t .0 ≡ n → ⊥) → P n) → (n : ℕ) → P n
+  here-or {P} h o n = go (eqb (t .0) n) refl
+    where
+      go : (b : Bool) → eqb (t .0) n ≡ b → P n
+      go true e = rw (eqb-true (t .0) n e) at h
+      go false e = o n (eqb-false (t .0) n e)
+
+  -- what the order then lists
+  tail-ones : isListed (x .place) ≡ true → (n : ℕ) → count n (without t l ++ (t ∷ [])) ≡ ones us n
+  tail-ones e = here-or {P = λ n. count n (without t l ++ (t ∷ [])) ≡ ones us n}
+      (rw (count-append, count-gone t l, count-one t, ones-now, e))
+      (λ n d. rw (count-append, count-other n t d, ones-other n d) (omega arith))
+
+  head-ones : isListed (x .place) ≡ true → (n : ℕ) → count n (t ∷ without t l) ≡ ones us n
+  head-ones e = here-or {P = λ n. count n ((t ∷ []) ++ without t l) ≡ ones us n}
+      (rw (count-append, count-gone t l, count-one t, ones-now, e))
+      (λ n d. rw (count-append, count-other n t d, ones-other n d) (omega arith))
+
+  leave-ones : isListed (x .place) ≡ false → (n : ℕ) → count n (without t l) ≡ ones us n
+  leave-ones e = here-or {P = λ n. count n (without t l) ≡ ones us n} (rw (count-gone t l, ones-now, e)) ones-other
+
+  pub tail-listed : isListed (x .place) ≡ true → listed (toTail (withTask k t x) t .order) ≡ without t l ++ (t ∷ [])
+  unfolding toTail
+  tail-listed e = relisted us (without t l ++ (t ∷ [])) wide (tail-ones e) .same
+
+  pub head-listed : isListed (x .place) ≡ true → listed (toHead (withTask k t x) t .order) ≡ t ∷ without t l
+  unfolding toHead
+  head-listed e = relisted us (t ∷ without t l) wide (head-ones e) .same
+
+  pub leave-listed : isListed (x .place) ≡ false → listed (leaves (withTask k t x) t .order) ≡ without t l
+  unfolding leaves
+  leave-listed e = relisted us (without t l) wide (leave-ones e) .same
+
+  -- to the tail, to the head, out of the order
+  pub tail-nearly : isListed (x .place) ≡ true → Nearly w (toTail (withTask k t x) t)
+  unfolding toTail
+  tail-nearly e = changed (without t l ++ (t ∷ [])) (tail-ones e)
+
+  pub head-nearly : isListed (x .place) ≡ true → Nearly w (toHead (withTask k t x) t)
+  unfolding toHead
+  head-nearly e = changed (t ∷ without t l) (head-ones e)
+
+  pub leave-nearly : isListed (x .place) ≡ false → Nearly w (leaves (withTask k t x) t)
+  unfolding leaves
+  leave-nearly e = changed (without t l) (leave-ones e)
+
+  -- where the order has it as before
+  pub stay-nearly : isListed (x .place) ≡ isListed (taskAt (k .tasks) t .place) → Nearly w (withTask k t x)
+  stay-nearly e =
+      listed-so (k .order) (listing-of us (k .order)
+      (each (λ u y. count (u .0) l ≡ (if isListed (y .place) then 1 else 0)) (N .listing .once t ∙ ap (λ (b : Bool). if b then 1 else 0) (sym e)) (λ u n. N .listing .once u))
+      (N .listing .places) (N .listing .room) (N .listing .zeros))
+
+-- an existing task moved to the tail of its line or list, unchanged
+pub moved-nearly : {w : Owing} (k : State) → Nearly w k → (t : TaskSlot) → t .0 < 16 → isListed (taskAt (k .tasks) t .place) ≡ true → Nearly w (toTail k t)
+moved-nearly {w} k N t low e =
+    rw (set-same k t) at
+    (tail-nearly k N t (taskAt (k .tasks) t) low (record { fits = N .tables .tasks t; levels = N .levels t; due = N .due t })
+    (λ o h q. N .tables .holders t o h q) (λ z. rw (one-number t idle z) (N .tables .as-idle)) e)

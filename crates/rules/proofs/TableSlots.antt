@@ -1,0 +1,67 @@
+-- A number past a table names a free slot, so what holds of each slot holds of each number.
+use Prim.Native.Nat.{_≤_}
+use mathlib.Core.Path.{_≡_, refl, sym, ap, _∙_}
+use mathlib.Core.Bool.{Bool, true, false, false≢true}
+use mathlib.Core.List.{List}
+use native.Mathlib.Omega.{arith}
+use lib.Dec.{ltb}
+use lib.ListN.{length, List·getD-eq-default}
+use borrow.Author.Tests.{ltb-true, ltb-false}
+use Rattle.lists.specs.Lists.{allBelow}
+use Rattle.lists.proofs.Bools.{all-below}
+use Rattle.numbers.specs.Numbers.{task, object}
+use Rattle.slots.specs.Places.{isFree, isReady}
+use Rattle.slots.specs.Values.{freeTask, taskAt}
+use Rattle.slots.specs.Kinds.{unused, kindAt}
+use Rattle.rules.specs.Types.{TaskSlot, ObjSlot, Place, Free, Ready, Delayed, Waiting, Suspended, Task, Ring, Nobody, By, Kind, Object, Unused, Queue, Mutex}
+
+pub past-tasks : (ts : List Task) (t : TaskSlot) → length ts ≤ t .0 → taskAt ts t ≡ freeTask
+unfolding taskAt
+past-tasks ts t h = List·getD-eq-default ts freeTask h
+
+pub past-objects : (os : List Object) (o : ObjSlot) → length os ≤ o .0 → kindAt os o ≡ Unused
+unfolding kindAt
+past-objects os o h = ap (λ (x : Object). x .kind) (List·getD-eq-default os unused h)
+
+pub any-task : (ts : List Task) (q : TaskSlot → Task → Bool) → length ts ≡ 16 → allBelow 16 (λ n. q (task n) (taskAt ts (task n))) ≡ true
+    → ((t : TaskSlot) → 16 ≤ t .0 → q t freeTask ≡ true) → (t : TaskSlot) → q t (taskAt ts t) ≡ true
+any-task ts q l e f t = go (ltb (t .0) 16) refl
+  where
+    go : (b : Bool) → ltb (t .0) 16 ≡ b → q t (taskAt ts t) ≡ true
+    go true h = all-below 16 (λ n. q (task n) (taskAt ts (task n))) e (t .0) (ltb-true (t .0) 16 h)
+    go false h = let g : length ts ≤ t .0 = omega (arith, ltb-false (t .0) 16 h) in rw (past-tasks ts t g) (f t (ltb-false (t .0) 16 h))
+
+pub any-kind : (os : List Object) (q : Kind → Bool) → length os ≡ 16 → allBelow 16 (λ n. q (kindAt os (object n))) ≡ true
+    → q Unused ≡ true → (o : ObjSlot) → q (kindAt os o) ≡ true
+any-kind os q l e f o = go (ltb (o .0) 16) refl
+  where
+    go : (b : Bool) → ltb (o .0) 16 ≡ b → q (kindAt os o) ≡ true
+    go true h = all-below 16 (λ n. q (kindAt os (object n))) e (o .0) (ltb-true (o .0) 16 h)
+    go false h = let g : length os ≤ o .0 = omega (arith, ltb-false (o .0) 16 h) in rw (past-objects os o g) f
+
+-- the test of a ready task
+pub is-ready : (p : Place) → isReady p ≡ true → p ≡ Ready
+is-ready Free e = absurd (false≢true e)
+is-ready Ready e = refl
+is-ready (Delayed w) e = absurd (false≢true e)
+is-ready (Waiting o w) e = absurd (false≢true e)
+is-ready Suspended e = absurd (false≢true e)
+
+-- a task that exists has a place; so has one that passes a test which no free slot passes
+pub exists-there : (p : Place) → (p ≡ Free → ⊥) → isFree p ≡ false
+exists-there Free n = absurd (n refl)
+exists-there Ready n = refl
+exists-there (Delayed w) n = refl
+exists-there (Waiting o w) n = refl
+exists-there Suspended n = refl
+
+pub passes-there : (f : Place → Bool) (p : Place) → f Free ≡ false → f p ≡ true → isFree p ≡ false
+passes-there f p z e = exists-there p (λ q. false≢true (sym z ∙ ap f (sym q) ∙ e))
+
+-- by the kind of an object
+pub by-kind : (x : Kind) (P : Kind → Type 0) → P Unused → ((q : Ring) → x ≡ Queue q → P (Queue q)) → (x ≡ Mutex Nobody → P (Mutex Nobody)) → ((t : TaskSlot) → x ≡ Mutex (By t) → P (Mutex (By t)))
+    → P x
+by-kind Unused P none queue free held = none
+by-kind (Queue q) P none queue free held = queue q refl
+by-kind (Mutex Nobody) P none queue free held = free refl
+by-kind (Mutex (By t)) P none queue free held = held t refl

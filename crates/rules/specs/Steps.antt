@@ -1,0 +1,54 @@
+-- A step: a state, a call, the item lent with it and the lent store give the next state, the answer and the store afterwards.
+use Prim.Native.Nat.{ℕ}
+use mathlib.Core.List.{List}
+use lib.Dec.{eqb}
+use lib.ListN.{length}
+use Rattle.lists.specs.Choice.{if_then_else_}
+use Rattle.calls.specs.Door.{number}
+use Rattle.calls.specs.Behind.{asked}
+use Rattle.calls.specs.Said.{Saying, says, done, made, waiting, refused}
+use Rattle.slots.specs.Places.{isBlocked}
+use Rattle.rules.specs.Types.{Call, Asked, State}
+use Rattle.slots.specs.Values.{taskAt}
+use Rattle.slots.specs.Kinds.{kindAt}
+use Rattle.rules.specs.Lines.{chosen}
+use Rattle.rules.specs.Queues.{storeSentTo, storeReceivedFrom}
+use Rattle.rows.specs.Asking.{is, makes}
+use Rattle.rules.specs.Refusals.{newSlot}
+use Rattle.rules.specs.Refusals.{refusal}
+use Rattle.rules.specs.Effects.{effect}
+
+-- send and receive change the store; "no other call changes the store"
+unfoldable pub stored : State → Asked → List ℕ → List ℕ → List ℕ
+stored k a item s =
+    if is 13 a then storeSentTo k (a .object) (kindAt (k .objects) (a .object)) item s
+    else if is 14 a then storeReceivedFrom k (a .object) (kindAt (k .objects) (a .object)) s
+    else s
+
+-- "An accepted call answers done, made with the new number, or waiting (given exactly if the caller is now delayed or waits on an object)."
+unfoldable pub answered : State → Asked → State → Saying
+answered k a next =
+    if makes a then says made (number (newSlot k a))
+    else if isBlocked (taskAt (next .tasks) (k .running) .place) then says waiting 0
+    else says done 0
+
+pub record Stepped : Type 0 where
+  pub kernel : State
+  pub answer : Saying
+  pub store : List ℕ
+
+-- "Every accepted call ends with choose."
+unfoldable pub accepted : State → Asked → List ℕ → List ℕ → Stepped
+accepted k a item s = record { kernel = chosen (effect k a); answer = answered k a (chosen (effect k a)); store = stored k a item s }
+
+-- "A refusal returns the number; the kernel and all lent bytes stay."
+abbrev pub turnedAway : State → ℕ → List ℕ → Stepped
+turnedAway k n s = record { kernel = k; answer = says refused n; store = s }
+
+-- what a refusal number, 0 for none, makes of a call
+abbrev pub steppedBy : ℕ → State → Asked → List ℕ → List ℕ → Stepped
+steppedBy n k a item s = if eqb n 0 then accepted k a item s else turnedAway k n s
+
+-- `asked` is the door: what stands behind it speaks of slots alone
+unfoldable pub step : State → Call → List ℕ → List ℕ → Stepped
+step k c item s = steppedBy (refusal k (asked c) (length item) (length s)) k (asked c) item s

@@ -1,0 +1,104 @@
+-- The sentences of soundness that speak of one slot, in document 01's order.
+use Prim.Native.Nat.{ℕ, _*_}
+use mathlib.Core.Bool.{Bool, true, false, not, _&&_, _||_}
+use mathlib.Core.List.{List}
+use lib.Dec.{eqb, ltb, leb}
+use lib.ListN.{getD}
+use Rattle.numbers.specs.declared.TaskSlot.{TaskSlot}
+use Rattle.slots.specs.Types.{Wake, Never, At, Place, Free, Ready, Delayed, Waiting, Suspended, Task, Ring, Nobody, By, Kind, Unused, Queue, Mutex, Object}
+use Rattle.slots.specs.Places.{isFree, isReady, isBlocked, wakesAt}
+use Rattle.slots.specs.Values.{taskAt}
+use Rattle.slots.specs.Kinds.{kindAt, isBy, isTaken}
+
+-- idle is "always there, always ready, priority 0"
+abbrev pub idleFine : Task → Bool
+idleFine x = isReady (x .place) && (eqb (x .own) 0 && eqb (x .effective) 0)
+
+-- "each ready task stands once"; "each object lists its waiters once": n is how often it stands in the order, which carries lines and lists
+abbrev pub standsFine : ℕ → Place → Bool
+standsFine n Free = true
+standsFine n Ready = eqb n 1
+standsFine n (Delayed w) = true
+standsFine n (Waiting o w) = eqb n 1
+standsFine n Suspended = true
+
+-- "receivers wait only on an empty queue, senders only on a full one, takers only on a mutex held by another"
+abbrev pub mayWait : TaskSlot → Kind → Bool
+mayWait t Unused = false
+mayWait t (Queue q) = eqb (q .count) 0 || eqb (q .count) (q .capacity)
+mayWait t (Mutex h) = isTaken h && not (isBy t h)
+
+-- the same by what is noted of each object: it is a queue that is empty or full, or a mutex that is taken, and by whom
+abbrev pub mayWaitOn : List Bool → List Bool → List ℕ → TaskSlot → ℕ → Bool
+mayWaitOn opens takes holder t n = getD opens n false || (getD takes n false && not (eqb (getD holder n 0) (t .0)))
+
+abbrev pub waitsFine : TaskSlot → List Object → Place → Bool
+waitsFine t os Free = true
+waitsFine t os Ready = true
+waitsFine t os (Delayed w) = true
+waitsFine t os (Waiting o w) = mayWait t (kindAt os o)
+waitsFine t os Suspended = true
+
+-- "effective is at least own, and equal to it for a task that holds nothing"; "Priorities 0 to 31"
+abbrev pub prioritiesFine : Bool → Task → Bool
+prioritiesFine holds x = leb (x .own) (x .effective) && (leb (x .effective) 31 && (holds || eqb (x .own) (x .effective)))
+
+-- "holders exist"
+abbrev pub holderThere : List Task → Kind → Bool
+holderThere ts Unused = true
+holderThere ts (Queue q) = true
+holderThere ts (Mutex Nobody) = true
+holderThere ts (Mutex (By t)) = not (isFree (taskAt ts t .place))
+
+-- the same in two halves: a holder's number is a slot's, and a free slot holds nothing
+abbrev pub holderSlot : Kind → Bool
+holderSlot Unused = true
+holderSlot (Queue q) = true
+holderSlot (Mutex Nobody) = true
+holderSlot (Mutex (By t)) = ltb (t .0) 16
+
+abbrev pub freeHolds : Bool → Place → Bool
+freeHolds holds p = not (isFree p) || not holds
+
+-- "no wake tick of a delayed or waiting task equals the tick count"
+abbrev pub wakeInRange : Wake → Bool
+wakeInRange Never = true
+wakeInRange (At w) = leb w 4294967295
+
+abbrev pub wakesInRange : Place → Bool
+wakesInRange Free = true
+wakesInRange Ready = true
+wakesInRange (Delayed w) = leb w 4294967295
+wakesInRange (Waiting o w) = wakeInRange w
+wakesInRange Suspended = true
+
+abbrev pub notDue : ℕ → Place → Bool
+notDue tick p = wakesInRange p && not (wakesAt tick p)
+
+-- "counts and places obey the ranges": "A queue has capacity 1 to 64 and item size 0 to 64 bytes, with capacity times size at most 512"
+abbrev pub ringFine : Ring → Bool
+ringFine q =
+    (leb 1 (q .capacity) && leb (q .capacity) 64)
+    && ((leb (q .size) 64 && leb (q .capacity * q .size) 512)
+    && (ltb (q .first) (q .capacity) && leb (q .count) (q .capacity)))
+
+abbrev pub ringInRange : Kind → Bool
+ringInRange Unused = true
+ringInRange (Queue q) = ringFine q
+ringInRange (Mutex h) = true
+
+-- "an outcome is 0 to 3, and 0 if delayed or waiting"
+abbrev pub outcomeFine : Task → Bool
+outcomeFine x = leb (x .outcome) 3 && (not (isBlocked (x .place)) || eqb (x .outcome) 0)
+
+-- "free slots carry the fresh values"
+abbrev pub freshIfFree : Task → Bool
+freshIfFree x = not (isFree (x .place)) || (eqb (x .own) 0 && (eqb (x .effective) 0 && eqb (x .outcome) 0))
+
+-- what the one order asks beside document 01's sentences: it lists a delayed task once, and a suspended one or a free slot not at all
+abbrev pub ordersFine : ℕ → Place → Bool
+ordersFine n Free = eqb n 0
+ordersFine n Ready = true
+ordersFine n (Delayed w) = eqb n 1
+ordersFine n (Waiting o w) = true
+ordersFine n Suspended = eqb n 0
