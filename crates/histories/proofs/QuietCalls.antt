@@ -25,7 +25,7 @@ use Rattle.rules.specs.Effects.{suspended, yielded, delayed, handedTo, handedOn
 use Rattle.rules.proofs.TableSlots.{passes-there, by-kind}
 use Rattle.rules.proofs.TableWithin.{first-meant, first-single, by-outlet}
 use Rattle.rules.proofs.KeepTicks.{due-there}
-use Rattle.histories.specs.Types.{TaskSlot, ObjSlot, Ready, Delayed, Waiting, Suspended, Ring, Queue, Object, WaitersOf, State}
+use Rattle.histories.specs.Types.{TaskSlot, Place, ObjSlot, Ready, Delayed, Waiting, Suspended, Ring, Queue, Object, WaitersOf, State}
 use Rattle.histories.proofs.Quiet.{Quiet, still, onward, placed-quiet}
 
 -- from a kernel to the next

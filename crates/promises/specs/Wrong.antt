@@ -15,7 +15,7 @@ use Rattle.items.specs.Bytes.{putAt}
 use Rattle.slots.specs.Places.{isReady, isWaiting, isSuspended, waitsOn, ofWake, wakesAt, outcomeDue}
 use Rattle.slots.specs.Values.{brokenOff, taskAt}
 use Rattle.slots.specs.Kinds.{holderOf, kindAt}
-use Rattle.promises.specs.Types.{TaskSlot, ObjSlot, Asked, Call, Create, Delete, Suspend, Delay, Hold, Release, MakeQueue, MakeMutex, Send, Receive, Take, Give, Tick, Place}
+use Rattle.promises.specs.Types.{TaskSlot, ObjSlot, Asked, Call, Create, Delete, Suspend, Delay, Hold, Release, MakeQueue, MakeMutex, Send, Receive, Take, Give, Tick, Place, Ready}
 use Rattle.promises.specs.Types.{Task, State}
 use Rattle.promises.specs.Cases.{View, view, viewOf}
 use Rattle.rules.specs.Tables.{fresh, withTask, withTick, withHold}
