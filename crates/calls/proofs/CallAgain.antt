@@ -13,7 +13,7 @@ use Rattle.lists.specs.Lists.{any, index, every, allBelow}
 use Rattle.lists.proofs.Bools.{at, all-below, or-second}
 use Rattle.calls.specs.Types.{Call, Create, Delete, Suspend, Resume, SetPriority, Delay, Yield, Hold, Release, MakeQueue, MakeMutex, Remove, Send, Receive, Take, Give, Tick}
 use Rattle.calls.specs.Types.{Names, Shape, Frame, Asked}
-use Rattle.calls.specs.Table.{called, word, rows, callOf}
+use Rattle.calls.specs.Table.{called, word, entries, callOf}
 use Rattle.calls.specs.Behind.{asked}
 use Rattle.calls.specs.Words.{fieldsOf, isBytes, numbersIn, noWords, frameOf, unknown, shapes, shapeOf, askedBy}
 use Rattle.lists.proofs.Tests.{below-or}
@@ -30,14 +30,14 @@ five (a ∷ b ∷ c ∷ d ∷ e ∷ f ∷ ws) h = absurd (omega arith)
 
 -- where every row says of the call what it says of the shape, so it is for each number
 module _ {A : Type 0} (f : Call → A) (g : List ℕ → Shape → A)
-    (same : (a b c d e : ℕ) → map f (rows (a ∷ b ∷ c ∷ d ∷ e ∷ [])) ≡ map (g (a ∷ b ∷ c ∷ d ∷ e ∷ [])) shapes) where
+    (same : (a b c d e : ℕ) → map f (entries (a ∷ b ∷ c ∷ d ∷ e ∷ [])) ≡ map (g (a ∷ b ∷ c ∷ d ∷ e ∷ [])) shapes) where
   pub by-row : (n : ℕ) (ws : List ℕ) → length ws ≡ 5 → f (callOf n ws) ≡ g ws (shapeOf n)
   unfolding callOf shapeOf
   by-row n ws h =
       let vs : List ℕ = word ws 0 ∷ word ws 1 ∷ word ws 2 ∷ word ws 3 ∷ word ws 4 ∷ [] in
-      let all : map f (rows vs) ≡ map (g vs) shapes = same (word ws 0) (word ws 1) (word ws 2) (word ws 3) (word ws 4) in
+      let all : map f (entries vs) ≡ map (g vs) shapes = same (word ws 0) (word ws 1) (word ws 2) (word ws 3) (word ws 4) in
       let none : f Tick ≡ g vs unknown = ap (λ (l : List A). getD l 0 (f Tick)) all in
-      sym (List·getD-map f (rows ws) n Tick)
+      sym (List·getD-map f (entries ws) n Tick)
       ∙ ap (λ (l : List A). getD l n (f Tick)) all
       ∙ ap (getD (map (g vs) shapes) n) none
       ∙ List·getD-map (g vs) shapes n unknown
@@ -59,11 +59,11 @@ unfolding shapeOf callOf allBelow index any
 row-number n ws k =
     let t : (not (shapeOf n .known) || eqb (numbered n) n) ≡ true =
     all-below 18 (λ m. not (shapeOf m .known) || eqb (numbered m) m) refl n (known-below n k) in
-    sym (List·getD-map (λ c. called c .number) (rows ws) n Tick)
+    sym (List·getD-map (λ c. called c .number) (entries ws) n Tick)
     ∙ eqb-true (numbered n) n (or-second (not (shapeOf n .known)) (eqb (numbered n) n) t (rw k refl))
   where
     numbered : ℕ → ℕ
-    numbered m = getD (map (λ c. called c .number) (rows ws)) m 17
+    numbered m = getD (map (λ c. called c .number) (entries ws)) m 17
 
 -- ---- the item and the words
 
@@ -85,15 +85,15 @@ shape-small n =
 -- ---- a call is found again by its words
 
 -- the words that are read back
-abbrev pub kept : Shape → List ℕ → List ℕ
-kept s ws = sets (sets noWords 0 (take (s .before) ws)) (s .before) (take (s .after) (drop (s .before) ws))
+abbrev pub wordsKept : Shape → List ℕ → List ℕ
+wordsKept s ws = sets (sets noWords 0 (take (s .before) ws)) (s .before) (take (s .after) (drop (s .before) ws))
 
 pub record Again (c : Call) (n : ℕ) (ws : List ℕ) : Type 0 where
   pub known : shapeOf n .known ≡ true
   pub call : callOf n ws ≡ c
-  pub read : callOf n (kept (shapeOf n) ws) ≡ c
+  pub read : callOf n (wordsKept (shapeOf n) ws) ≡ c
 
-again : (c : Call) (n : ℕ) (ws : List ℕ) → shapeOf n .known ≡ true → callOf n ws ≡ c → callOf n (kept (shapeOf n) ws) ≡ c → Again c n ws
+again : (c : Call) (n : ℕ) (ws : List ℕ) → shapeOf n .known ≡ true → callOf n ws ≡ c → callOf n (wordsKept (shapeOf n) ws) ≡ c → Again c n ws
 again c n ws k e f = record { known = k; call = e; read = f }
 
 pub call-again : (c : Call) → Again c (frameOf c .number) (frameOf c .words)
@@ -122,19 +122,19 @@ frame-five c = length-sets noWords 0 (numbersIn (fieldsOf c))
 -- ---- what holds of every row holds of every call
 
 module _ {A : Type 0} (f g : Call → A)
-    (same : (a b c d e : ℕ) → map f (rows (a ∷ b ∷ c ∷ d ∷ e ∷ [])) ≡ map g (rows (a ∷ b ∷ c ∷ d ∷ e ∷ []))) where
+    (same : (a b c d e : ℕ) → map f (entries (a ∷ b ∷ c ∷ d ∷ e ∷ [])) ≡ map g (entries (a ∷ b ∷ c ∷ d ∷ e ∷ []))) where
   all-rows : (c : Call) → f c ≡ g c
   unfolding callOf
   all-rows c =
       let n = frameOf c .number in
       let ws = frameOf c .words in
-      let all : map f (rows ws) ≡ map g (rows ws) = same (word ws 0) (word ws 1) (word ws 2) (word ws 3) (word ws 4) in
+      let all : map f (entries ws) ≡ map g (entries ws) = same (word ws 0) (word ws 1) (word ws 2) (word ws 3) (word ws 4) in
       let none : f Tick ≡ g Tick = ap (λ (l : List A). getD l 0 (f Tick)) all in
       ap f (sym (call-again c .call))
-      ∙ sym (List·getD-map f (rows ws) n Tick)
+      ∙ sym (List·getD-map f (entries ws) n Tick)
       ∙ ap (λ (l : List A). getD l n (f Tick)) all
-      ∙ ap (getD (map g (rows ws)) n) none
-      ∙ List·getD-map g (rows ws) n Tick
+      ∙ ap (getD (map g (entries ws)) n) none
+      ∙ List·getD-map g (entries ws) n Tick
       ∙ ap g (call-again c .call)
 
 abbrev askedIn : Frame → Asked

@@ -61,9 +61,9 @@ abbrev tells : Shape → List (List ℕ) → ℕ → Bool
 tells s [] n = same s (shapeOf n)
 tells s (ks ∷ kss) n = hasKey ks n || tells s kss n
 
-abbrev pub range : Shape → List (List ℕ) → ℕ → ℕ → Bool
-range s kss lo zero = true
-range s kss lo (suc k) = tells s kss lo && range s kss (suc lo) k
+abbrev pub rangeFits : Shape → List (List ℕ) → ℕ → ℕ → Bool
+rangeFits s kss lo zero = true
+rangeFits s kss lo (suc k) = tells s kss lo && rangeFits s kss (suc lo) k
 
 tells-is : (s : Shape) (kss : List (List ℕ)) (n : ℕ) → tells s kss n ≡ true → Nones kss n → s ≡ shapeOf n
 tells-is s [] n h o = same-is s (shapeOf n) h
@@ -73,13 +73,13 @@ tells-is s (ks ∷ kss) n h o = go (hasKey ks n) refl h (λ g. tells-is s kss n 
     go true e h ih = absurd (o .1 (hit ks n (subst T (sym e) tt)))
     go false e h ih = ih h
 
-pub ranged : (s : Shape) (kss : List (List ℕ)) (lo k : ℕ) → range s kss lo k ≡ true → (n : ℕ) → lo ≤ n → n < lo + k → Nones kss n → s ≡ shapeOf n
+pub ranged : (s : Shape) (kss : List (List ℕ)) (lo k : ℕ) → rangeFits s kss lo k ≡ true → (n : ℕ) → lo ≤ n → n < lo + k → Nones kss n → s ≡ shapeOf n
 ranged s kss lo zero h n l u o = absurd (omega arith)
 ranged s kss lo (suc k) h n l u o =
-    ⊎-elim (λ (e : lo < n). ranged s kss (suc lo) k (and-right (tells s kss lo) (range s kss (suc lo) k) h) n e (omega arith) o)
+    ⊎-elim (λ (e : lo < n). ranged s kss (suc lo) k (and-right (tells s kss lo) (rangeFits s kss (suc lo) k) h) n e (omega arith) o)
     (λ (e : n ≤ lo).
     let q : lo ≡ n = omega arith in
-    tells-is s kss n (subst (λ (m : ℕ). tells s kss m ≡ true) q (and-left (tells s kss lo) (range s kss (suc lo) k) h)) o)
+    tells-is s kss n (subst (λ (m : ℕ). tells s kss m ≡ true) q (and-left (tells s kss lo) (rangeFits s kss (suc lo) k) h)) o)
     (below-or lo n)
 
 -- ---- an arm for all other numbers

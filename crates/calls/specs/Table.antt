@@ -9,35 +9,35 @@ use Rattle.calls.specs.Named.{taskOf, objectOf}
 pub data Argument : Type 0 where
   aTask : TaskNo → Argument
   anObject aQueue aMutex : ObjNo → Argument
-  priority ticks capacity size wait : ℕ → Argument
-  item : Argument
+  aPriority someTicks aCapacity aSize aWait : ℕ → Argument
+  anItem : Argument
 
-pub record Row : Type 0 where
+pub record Entry : Type 0 where
   pub number : ℕ
   pub arguments : List Argument
 
-abbrev pub row : ℕ → List Argument → Row
-row n xs = record { number = n; arguments = xs }
+abbrev pub entry : ℕ → List Argument → Entry
+entry n xs = record { number = n; arguments = xs }
 
 -- No., and the call's arguments
-abbrev pub called : Call → Row
-called (Create p) = row 1 (priority p ∷ [])
-called (Delete t) = row 2 (aTask t ∷ [])
-called (Suspend t) = row 3 (aTask t ∷ [])
-called (Resume t) = row 4 (aTask t ∷ [])
-called (SetPriority t p) = row 5 (aTask t ∷ priority p ∷ [])
-called (Delay n) = row 6 (ticks n ∷ [])
-called Yield = row 7 []
-called Hold = row 8 []
-called Release = row 9 []
-called (MakeQueue c s) = row 10 (capacity c ∷ size s ∷ [])
-called MakeMutex = row 11 []
-called (Remove o) = row 12 (anObject o ∷ [])
-called (Send o w) = row 13 (aQueue o ∷ item ∷ wait w ∷ [])
-called (Receive o w) = row 14 (aQueue o ∷ wait w ∷ [])
-called (Take o w) = row 15 (aMutex o ∷ wait w ∷ [])
-called (Give o) = row 16 (aMutex o ∷ [])
-called Tick = row 17 []
+abbrev pub called : Call → Entry
+called (Create p) = entry 1 (aPriority p ∷ [])
+called (Delete t) = entry 2 (aTask t ∷ [])
+called (Suspend t) = entry 3 (aTask t ∷ [])
+called (Resume t) = entry 4 (aTask t ∷ [])
+called (SetPriority t p) = entry 5 (aTask t ∷ aPriority p ∷ [])
+called (Delay n) = entry 6 (someTicks n ∷ [])
+called Yield = entry 7 []
+called Hold = entry 8 []
+called Release = entry 9 []
+called (MakeQueue c s) = entry 10 (aCapacity c ∷ aSize s ∷ [])
+called MakeMutex = entry 11 []
+called (Remove o) = entry 12 (anObject o ∷ [])
+called (Send o w) = entry 13 (aQueue o ∷ anItem ∷ aWait w ∷ [])
+called (Receive o w) = entry 14 (aQueue o ∷ aWait w ∷ [])
+called (Take o w) = entry 15 (aMutex o ∷ aWait w ∷ [])
+called (Give o) = entry 16 (aMutex o ∷ [])
+called Tick = entry 17 []
 
 -- a word of a call, and 0 past the last
 abbrev pub word : List ℕ → ℕ → ℕ
@@ -67,8 +67,8 @@ calls ws =
     ∷ []
 
 -- all rows, by number; no call has the number 0
-abbrev pub rows : List ℕ → List Call
-rows ws = Tick ∷ calls ws
+abbrev pub entries : List ℕ → List Call
+entries ws = Tick ∷ calls ws
 
 unfoldable pub callOf : ℕ → List ℕ → Call
-callOf n ws = getD (rows ws) n Tick
+callOf n ws = getD (entries ws) n Tick

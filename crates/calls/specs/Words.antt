@@ -9,41 +9,41 @@ use lib.Dec.{eqb}
 use Rattle.lists.specs.Choice.{if_then_else_}
 use Rattle.lists.specs.Lists.{any, index}
 use Rattle.calls.specs.Types.{Call, Names, Nothing, ATask, AnObject, AQueue, AMutex, Shape, Frame, Asked}
-use Rattle.calls.specs.Table.{Argument, aTask, anObject, aQueue, aMutex, priority, ticks, capacity, size, wait, item, called, calls}
+use Rattle.calls.specs.Table.{Argument, aTask, anObject, aQueue, aMutex, aPriority, someTicks, aCapacity, aSize, aWait, anItem, called, calls}
 use Rattle.calls.specs.Named.{taskOf, objectOf}
 use Rattle.calls.specs.Door.{taskSlot, objSlot}
 use Rattle.calls.specs.Behind.{asked, nothing, onTask, onObject}
 
 -- what stands for an argument: a number, or the item's bytes
 pub data Field : Type 0 where
-  number : ℕ → Field
+  aNumber : ℕ → Field
   bytes : Field
 
 -- a task and an object are written by their numbers
 abbrev pub fieldOf : Argument → Field
-fieldOf (aTask t) = number (t .0)
-fieldOf (anObject o) = number (o .0)
-fieldOf (aQueue o) = number (o .0)
-fieldOf (aMutex o) = number (o .0)
-fieldOf (priority p) = number p
-fieldOf (ticks n) = number n
-fieldOf (capacity c) = number c
-fieldOf (size s) = number s
-fieldOf (wait w) = number w
-fieldOf item = bytes
+fieldOf (aTask t) = aNumber (t .0)
+fieldOf (anObject o) = aNumber (o .0)
+fieldOf (aQueue o) = aNumber (o .0)
+fieldOf (aMutex o) = aNumber (o .0)
+fieldOf (aPriority p) = aNumber p
+fieldOf (someTicks n) = aNumber n
+fieldOf (aCapacity c) = aNumber c
+fieldOf (aSize s) = aNumber s
+fieldOf (aWait w) = aNumber w
+fieldOf anItem = bytes
 
 -- "arguments in this order"
 abbrev pub fieldsOf : Call → List Field
 fieldsOf c = map fieldOf (called c .arguments)
 
 abbrev pub isBytes : Field → Bool
-isBytes (number n) = false
+isBytes (aNumber n) = false
 isBytes bytes = true
 
 -- the numbers among the fields
 abbrev pub numbersIn : List Field → List ℕ
 numbersIn [] = []
-numbersIn (number n ∷ xs) = n ∷ numbersIn xs
+numbersIn (aNumber n ∷ xs) = n ∷ numbersIn xs
 numbersIn (bytes ∷ xs) = numbersIn xs
 
 -- "each at most 4,294,967,295"
@@ -68,8 +68,8 @@ frameOf c = framed (called c .number) (asked c .names) (sets noWords 0 (numbersI
 abbrev pub shaped : Bool → ℕ → Bool → ℕ → Shape
 shaped k m i n = record { known = k; before = m; item = i; after = n }
 
-abbrev pub plain : ℕ → Shape
-plain n = shaped true n false 0
+abbrev pub numbersOnly : ℕ → Shape
+numbersOnly n = shaped true n false 0
 
 abbrev pub unknown : Shape
 unknown = shaped false 0 false 0

@@ -1,7 +1,7 @@
 // A call in words: its number, what it names and its numbers; and, by its number, how its words stand in a line.
 ghost use mathlib.Core.Path.{_≡_};
 ghost use mathlib.Core.List.{[], _∷_};
-ghost use Rattle.calls.specs.Words.{Small, numbersIn, fieldsOf, framed, frameOf, plain, shapeOf};
+ghost use Rattle.calls.specs.Words.{Small, numbersIn, fieldsOf, framed, frameOf, numbersOnly, shapeOf};
 use crate::Call;
 use crate::Frame;
 use crate::Names;
@@ -49,7 +49,7 @@ impl Call {
 impl Shape {
     // So many numbers and no item.
     fn plain(count: usize) -> Shape
-        ensures { λ r. ⌜ r ≡ plain count ⌝ }
+        ensures { λ r. ⌜ r ≡ numbersOnly count ⌝ }
     {
         Shape {
             known: true,

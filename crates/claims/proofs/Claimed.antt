@@ -4,7 +4,7 @@ use mathlib.Core.Path.{_≡_}
 use mathlib.Core.Logic.{inl, inr}
 use mathlib.Core.List.{List, []}
 use Rattle.journal.specs.Line.{lineOf, HasLine}
-use Rattle.journal.specs.Told.{refusal}
+use Rattle.journal.specs.Told.{refusedWith}
 use Rattle.journal.specs.Promise.{Tells, ReadsAs}
 use Rattle.journal.proofs.Theorems.{one-call, written-reads-back, always-written, one-line}
 use Rattle.kernel.proofs.Kernel.fresh.Met as fresh-code
@@ -71,7 +71,7 @@ journalled =
       others-refused = other;
     }
   where
-    other : (l : List ℕ) (r : Read) → ReadsAs l r → ((c : Call) (b : List ℕ) → HasLine c b → l ≡ lineOf c b → ⊥) → Tells r (refusal 3) []
+    other : (l : List ℕ) (r : Read) → ReadsAs l r → ((c : Call) (b : List ℕ) → HasLine c b → l ≡ lineOf c b → ⊥) → Tells r (refusedWith 3) []
     other l r (inl f) none = absurd (none (f .call) (f .item) (f .has) (f .line))
     other l r (inr f) none = f .tells
 

@@ -10,11 +10,11 @@ use Rattle.kernel.specs.Stands.{kernelOf, shown, standing}
 use Rattle.kernel.specs.Promises.{Steps}
 use Rattle.kernel.proofs.Shown.{stays-standing}
 use Rattle.kernel.proofs.StepEnds.{stands-on, stays}
-use Rattle.promises.specs.TurnedAway.{None, off, here, Exactly as RulesExactly}
+use Rattle.promises.specs.TurnedAway.{None, notThisRow, thisRow, ValueExactly as RulesExactly}
 use Rattle.promises.proofs.TurnedAway.{turned-away-exactly}
 use Rattle.claims.specs.Types.{Call, Kernel, Step}
 use Rattle.claims.specs.Values.{SoundValue, Stands}
-use Rattle.claims.specs.Exact.{Refusal, Accepted, rowsOf, Exactly}
+use Rattle.claims.specs.Exact.{ValueRefused, ValueAccepted, tableFor, ValueExactly}
 use Rattle.claims.proofs.Values.{test-says}
 
 module _ (k : Kernel) (c : Call) (item s : List ℕ) (r : Step) (after : List ℕ) (S : Steps k c item s r after) where
@@ -22,10 +22,10 @@ module _ (k : Kernel) (c : Call) (item s : List ℕ) (r : Step) (after : List �
   E : RulesExactly (shown k) c item s (step (shown k) c item s)
   E = turned-away-exactly (shown k) c item s
 
-  none-sound : None (rowsOf k c item s) → sound (shown k) ≡ true
-  none-sound (off a f) = on (sound (shown k)) a
+  none-sound : None (tableFor k c item s) → sound (shown k) ≡ true
+  none-sound (notThisRow a f) = on (sound (shown k)) a
 
-  pub accepted-so : None (rowsOf k c item s) → Accepted k c item s r after
+  pub accepted-so : None (tableFor k c item s) → ValueAccepted k c item s r after
   accepted-so f =
       let A = E .else f in
       record {
@@ -35,7 +35,7 @@ module _ (k : Kernel) (c : Call) (item s : List ℕ) (r : Step) (after : List �
         no-refusal = λ n e. A .no-refusal n (sym (S .answer) ∙ e);
       }
 
-  pub step-exactly : Stands k → Exactly k c item s r after
+  pub step-exactly : Stands k → ValueExactly k c item s r after
   step-exactly h =
       record {
         given = λ n f. let R = E .given n f in record { number = S .answer ∙ R .number; kernel = S .kernel ∙ ap (standing k) (R .kernel) ∙ sym (stays-standing k h); store = S .store ∙ R .store };
@@ -44,8 +44,8 @@ module _ (k : Kernel) (c : Call) (item s : List ℕ) (r : Step) (after : List �
       }
 
   -- a value that is not sound comes back, whatever its columns
-  pub unsound-stays : (SoundValue k → ⊥) → Refusal k s 1 r after
+  pub unsound-stays : (SoundValue k → ⊥) → ValueRefused k s 1 r after
   unsound-stays n =
       let e : sound (shown k) ≡ false = untrue (sound (shown k)) (λ q. n (test-says k q)) in
-      let R = E .given 1 (here refl (not-off (sound (shown k)) e)) in
+      let R = E .given 1 (thisRow refl (not-off (sound (shown k)) e)) in
       record { number = S .answer ∙ R .number; kernel = S .kernel ∙ stays k _ e; store = S .store ∙ R .store }

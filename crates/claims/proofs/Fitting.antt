@@ -37,7 +37,7 @@ use Rattle.promises.specs.Turns.{Turn}
 use Rattle.promises.proofs.LineForLine.{closed-stays}
 use Rattle.claims.specs.Types.{TaskNo, Call, Answer, Asked, Read, Written, Count, NotWritten, State, Kernel, Step, Session, Served}
 use Rattle.claims.specs.Values.{Stands}
-use Rattle.claims.specs.Runs.{Called, noCall, call, Port, Turned, noTurn, turn}
+use Rattle.claims.specs.Runs.{Called, noneCalled, call, Port, Turned, noTurn, turn}
 use Rattle.claims.specs.Claims.{OneFits, Total}
 use Rattle.claims.proofs.Unique.{no-second-step, no-second-line-step, no-second-block, no-second-end}
 use Rattle.claims.proofs.Runs.{valueAfter, called-is, turnOf, one-turn, turned-is}
@@ -165,7 +165,7 @@ closes n s lent =
 -- ── calls one after the other, and turns
 called-there : (k : Kernel) (ms : List CallMade) → Called k ms (foldl valueAfter k ms)
 unfolding foldl
-called-there k [] = noCall
+called-there k [] = noneCalled
 called-there k (m ∷ ms) =
     let a = steps k (m .call) (m .item) (m .store) in
     call (a .fits) (subst (λ (x : Kernel). Called x ms (foldl valueAfter (valueAfter k m) ms)) (sym (a .fits .kernel)) (called-there (valueAfter k m) ms))

@@ -9,7 +9,7 @@ use lib.Seq.{take-append-seam}
 use Rattle.lists.specs.Choice.{if_then_else_}
 use Rattle.lists.specs.Lists.{foldl}
 use Rattle.cuts.specs.declared.Cut.{Cut}
-use Rattle.cuts.specs.Keeping.{kept}
+use Rattle.cuts.specs.Keeping.{withByte}
 use Rattle.rules.specs.Tables.{fresh}
 use Rattle.rules.specs.Sound.{sound}
 use Rattle.rules.specs.Sessions.{readCut, lineStep, Run, answeredBy, fed, noRoom, run, begun, closed}
@@ -72,7 +72,7 @@ unfolding fed lineStep
 fed-keeps r b e = go (eqb b 10)
   where
     c : Cut
-    c = kept (r .cut) b
+    c = withByte (r .cut) b
 
     other : Run
     other = record { taken = r .taken + 1; kernel = r .kernel; store = r .store; cut = c; answers = r .answers }

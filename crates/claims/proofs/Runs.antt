@@ -12,7 +12,7 @@ use Rattle.kernel.specs.Stands.{shown, standing}
 use Rattle.kernel.specs.Promises.{Ran, Answers}
 use Rattle.promises.specs.Turns.{Turn}
 use Rattle.claims.specs.Types.{Kernel, Served}
-use Rattle.claims.specs.Runs.{Called, noCall, call, Port, servedTo, Turned, noTurn, turn}
+use Rattle.claims.specs.Runs.{Called, noneCalled, call, Port, servedTo, Turned, noTurn, turn}
 
 -- ── calls
 -- the kernel value after a call
@@ -21,7 +21,7 @@ valueAfter k m = standing k (step (shown k) (m .call) (m .item) (m .store) .kern
 
 pub called-is : {k j : Kernel} {ms : List CallMade} → Called k ms j → j ≡ foldl valueAfter k ms
 unfolding foldl
-called-is noCall = refl
+called-is noneCalled = refl
 called-is (call {k} {j} {m} {ms} {r} S f) = called-is f ∙ ap (λ (x : Kernel). foldl valueAfter x ms) (S .kernel)
 
 -- ── turns

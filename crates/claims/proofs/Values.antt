@@ -8,7 +8,7 @@ use Rattle.tasks.proofs.Tables.{tasks-back}
 use Rattle.objects.proofs.Tables.{objects-back}
 use Rattle.rules.specs.Sound.{sound}
 use Rattle.rules.proofs.SoundSays.{sound-says, says-sound}
-use Rattle.kernel.specs.Stands.{kernelOf, plain, rows, none, shown}
+use Rattle.kernel.specs.Stands.{kernelOf, plain, asRows, withoutTables, shown}
 use Rattle.kernel.proofs.Shown.{no-tables}
 use Rattle.claims.specs.Types.{Kernel}
 use Rattle.claims.specs.Values.{SoundValue, Full, Stands}
@@ -17,13 +17,13 @@ pub test-says : (k : Kernel) → sound (shown k) ≡ true → SoundValue k
 unfolding shown
 test-says k = go (plain k) refl
   where
-    go : (b : Bool) → plain k ≡ b → sound (if b then rows k else none k) ≡ true → SoundValue k
-    go true p e = record { unused = p; state = sound-says (rows k) e }
+    go : (b : Bool) → plain k ≡ b → sound (if b then asRows k else withoutTables k) ≡ true → SoundValue k
+    go true p e = record { unused = p; state = sound-says (asRows k) e }
     go false p e = absurd (no-tables k e)
 
 pub says-test : (k : Kernel) → SoundValue k → sound (shown k) ≡ true
 unfolding shown
-says-test k S = rw (S .unused) (says-sound (rows k) (S .state))
+says-test k S = rw (S .unused) (says-sound (asRows k) (S .state))
 
 -- where every number that is not used is 0, full columns are those of what they read as
 pub full-stands : (k : Kernel) → Full k → Stands k

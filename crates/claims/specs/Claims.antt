@@ -6,7 +6,7 @@ use mathlib.Core.List.{List, [], map}
 use lib.ListN.{length, take, replicate}
 use Rattle.calls.specs.Table.{called}
 use Rattle.journal.specs.Line.{lineOf, HasLine}
-use Rattle.journal.specs.Told.{aCall, refusal}
+use Rattle.journal.specs.Told.{tellsCall, refusedWith}
 use Rattle.journal.specs.Promise.{Tells, ReadsAs, WritesCall, WritesAnswer}
 use Rattle.rules.specs.Tables.{fresh}
 use Rattle.rules.specs.Sound.{sound}
@@ -24,7 +24,7 @@ use Rattle.kernel.proofs.Session.end.Statement as end-code
 use Rattle.journal.proofs.read_call.Statement as reader-code
 use Rattle.journal.proofs.write_call.Statement as writer-code
 use Rattle.journal.proofs.write_answer.Statement as teller-code
-use Rattle.promises.specs.TurnedAway.{rows, None, Decided}
+use Rattle.promises.specs.TurnedAway.{wholeTable, None, Decided}
 use Rattle.promises.specs.History.{reached, Placed}
 use Rattle.promises.specs.Cases.{Case, ran, cases}
 use Rattle.promises.specs.Program.{linesOf, answering}
@@ -34,7 +34,7 @@ use Rattle.promises.specs.Reached.{programCalls}
 use Rattle.histories.specs.Borrowed.{PaysBack}
 use Rattle.claims.specs.Types.{TaskSlot, TaskNo, Call, Answer, Asked, Read, Says, Written, Count, State, Kernel, Step, Session, Served}
 use Rattle.claims.specs.Values.{SoundValue, Full, Stands}
-use Rattle.claims.specs.Exact.{Refusal, Accepted, rowsOf, Exactly}
+use Rattle.claims.specs.Exact.{ValueRefused, ValueAccepted, tableFor, ValueExactly}
 use Rattle.claims.specs.Runs.{Called, Port, servedTo, Turned, freshPort, portOutcome, CameTo}
 
 -- one value fits, and no second
@@ -85,14 +85,14 @@ pub record Total : Type 0 where
 -- "A refusal carries its number, is given exactly where document 01 says, and leaves the kernel and every lent byte as they were."
 pub record Refused : Type 0 where
   -- of each value that code holds: the promise of `sound` says that it stands
-  pub exactly : (k : Kernel) → Stands k → (c : Call) (item store : List ℕ) (r : Step) (after : List ℕ) → Steps k c item store r after → Exactly k c item store r after
-  pub decided : (k : Kernel) (a : Asked) (item store : ℕ) → Decided (rows (shown k) a item store)
+  pub exactly : (k : Kernel) → Stands k → (c : Call) (item store : List ℕ) (r : Step) (after : List ℕ) → Steps k c item store r after → ValueExactly k c item store r after
+  pub decided : (k : Kernel) (a : Asked) (item store : ℕ) → Decided (wholeTable (shown k) a item store)
   -- of any value that is not sound, a number that is not used and not 0 among its faults
-  pub unsound : (k : Kernel) → (SoundValue k → ⊥) → (c : Call) (item store : List ℕ) (r : Step) (after : List ℕ) → Steps k c item store r after → Refusal k store 1 r after
+  pub unsound : (k : Kernel) → (SoundValue k → ⊥) → (c : Call) (item store : List ℕ) (r : Step) (after : List ℕ) → Steps k c item store r after → ValueRefused k store 1 r after
 
 -- 2. "Each call does what the rules say": one that no row turns away; a line, whatever its bytes; a journal's lines, one after the other, in any blocks; and P1 to P12.
 pub record Ruled : Type 0 where
-  pub calls : (k : Kernel) (c : Call) (item store : List ℕ) (r : Step) (after : List ℕ) → Steps k c item store r after → None (rowsOf k c item store) → Accepted k c item store r after
+  pub calls : (k : Kernel) (c : Call) (item store : List ℕ) (r : Step) (after : List ℕ) → Steps k c item store r after → None (tableFor k c item store) → ValueAccepted k c item store r after
   pub line : (k : Kernel) (line store : List ℕ) (r : Step) (after : List ℕ) → ReadsAndSteps k line store r after
       → (d : Stepped) → LineSteps (shown k) store line d → Is k d r after
   pub journal : (ts : List Turn) (p : Port) → Turned freshPort ts p → p .waits ≡ [] → (lent : List ℕ) → 256 ≤ length lent
@@ -105,10 +105,10 @@ pub record Journalled : Type 0 where
   pub has-line : (c : Call) (item line : List ℕ) (w : Written) (m : List ℕ) → WritesCall c item line w m → length item ≤ 64 → HasLine c item
   pub written : (c : Call) (item line : List ℕ) (w : Written) (m : List ℕ) → length line ≡ 256 → length item ≤ 64 → WritesCall c item line w m → w ≡ Count (length (lineOf c item))
   pub read-back : (c : Call) (item line : List ℕ) (n : ℕ) (m : List ℕ) (r : Read) → WritesCall c item line (Count n) m → ReadsAs (take n m) r
-      → (r .answer ≡ Says c) × Tells r (aCall (called c)) item
-  pub one-line : (c : Call) (item line : List ℕ) (r : Read) → ReadsAs line r → Tells r (aCall (called c)) item → line ≡ lineOf c item
+      → (r .answer ≡ Says c) × Tells r (tellsCall (called c)) item
+  pub one-line : (c : Call) (item line : List ℕ) (r : Read) → ReadsAs line r → Tells r (tellsCall (called c)) item → line ≡ lineOf c item
   pub one-call : (c d : Call) (item other : List ℕ) → HasLine c item → HasLine d other → lineOf c item ≡ lineOf d other → (c ≡ d) × (item ≡ other)
-  pub others-refused : (line : List ℕ) (r : Read) → ReadsAs line r → ((c : Call) (item : List ℕ) → HasLine c item → line ≡ lineOf c item → ⊥) → Tells r (refusal 3) []
+  pub others-refused : (line : List ℕ) (r : Read) → ReadsAs line r → ((c : Call) (item : List ℕ) → HasLine c item → line ≡ lineOf c item → ⊥) → Tells r (refusedWith 3) []
 
 -- 3. "From the fresh kernel, after any calls, refused ones among them": "each task in exactly one state and listed only where that state belongs; unless held, no ready task
 -- outranks the running one; borrowed priority is what the rule says." So it is after any calls, after every line of every journal, and at any time of a session, however its input is cut.

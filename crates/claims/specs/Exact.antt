@@ -1,4 +1,4 @@
--- What a step of the code is, by the table of refusals (`rows` in promises/specs/TurnedAway).
+-- What a step of the code is, by the table of refusals (`wholeTable` in promises/specs/TurnedAway).
 use Prim.Native.Nat.{ℕ}
 use mathlib.Core.Path.{_≡_}
 use mathlib.Core.List.{List}
@@ -10,28 +10,28 @@ use Rattle.rows.specs.Applies.{Row}
 use Rattle.rules.specs.Effects.{effect}
 use Rattle.rules.specs.Steps.{answered, stored}
 use Rattle.kernel.specs.Stands.{kernelOf, shown}
-use Rattle.promises.specs.TurnedAway.{rows, First, None}
+use Rattle.promises.specs.TurnedAway.{wholeTable, First, None}
 use Rattle.claims.specs.Types.{Call, Kernel, Step}
 
 -- r and the store `after` are a refusal n: it carries its number, and the kernel value and all lent bytes stay
-pub record Refusal (k : Kernel) (s : List ℕ) (n : ℕ) (r : Step) (after : List ℕ) : Type 0 where
+pub record ValueRefused (k : Kernel) (s : List ℕ) (n : ℕ) (r : Step) (after : List ℕ) : Type 0 where
   pub number : said (r .answer) ≡ says refused n
   pub kernel : r .kernel ≡ k
   pub store : after ≡ s
 
 -- r and the store `after` are what the call tables say, and no refusal
-pub record Accepted (k : Kernel) (c : Call) (item s : List ℕ) (r : Step) (after : List ℕ) : Type 0 where
+pub record ValueAccepted (k : Kernel) (c : Call) (item s : List ℕ) (r : Step) (after : List ℕ) : Type 0 where
   pub kernel : r .kernel ≡ kernelOf (chosen (effect (shown k) (asked c)))
   pub answer : said (r .answer) ≡ answered (shown k) (asked c) (chosen (effect (shown k) (asked c)))
   pub store : after ≡ stored (shown k) (asked c) item s
   pub no-refusal : (n : ℕ) → said (r .answer) ≡ says refused n → ⊥
 
 -- the table, of a kernel value and a call
-abbrev pub rowsOf : Kernel → Call → List ℕ → List ℕ → List Row
-rowsOf k c item s = rows (shown k) (asked c) (length item) (length s)
+abbrev pub tableFor : Kernel → Call → List ℕ → List ℕ → List Row
+tableFor k c item s = wholeTable (shown k) (asked c) (length item) (length s)
 
 -- refused n exactly if row n is the first that applies, and then nothing has changed; else accepted
-pub record Exactly (k : Kernel) (c : Call) (item s : List ℕ) (r : Step) (after : List ℕ) : Type 0 where
-  pub given : (n : ℕ) → First n (rowsOf k c item s) → Refusal k s n r after
-  pub only : (n : ℕ) → said (r .answer) ≡ says refused n → First n (rowsOf k c item s)
-  pub else : None (rowsOf k c item s) → Accepted k c item s r after
+pub record ValueExactly (k : Kernel) (c : Call) (item s : List ℕ) (r : Step) (after : List ℕ) : Type 0 where
+  pub given : (n : ℕ) → First n (tableFor k c item s) → ValueRefused k s n r after
+  pub only : (n : ℕ) → said (r .answer) ≡ says refused n → First n (tableFor k c item s)
+  pub else : None (tableFor k c item s) → ValueAccepted k c item s r after

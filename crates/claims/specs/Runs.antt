@@ -12,7 +12,7 @@ use Rattle.claims.specs.Types.{Kernel, Step, Session, Served}
 
 -- `Kernel::step`, from k on, of each call in turn: from the kernel value that the last one left, with any item and any store; the last one left j
 pub data Called : Kernel → List CallMade → Kernel → Type 0 where
-  noCall : {k : Kernel} → Called k [] k
+  noneCalled : {k : Kernel} → Called k [] k
   call : {k j : Kernel} {m : CallMade} {ms : List CallMade} {r : Step} {after : List ℕ}
       → Steps k (m .call) (m .item) (m .store) r after → Called (r .kernel) ms j → Called k (m ∷ ms) j
 

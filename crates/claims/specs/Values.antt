@@ -5,7 +5,7 @@ use Rattle.tasks.proofs.Columns.{Full as FullTasks}
 use Rattle.objects.proofs.Columns.{Full as FullObjects}
 use Rattle.rules.specs.Sound.{sound}
 use Rattle.rules.specs.Sentences.{Sound}
-use Rattle.kernel.specs.Stands.{kernelOf, plain, rows, shown}
+use Rattle.kernel.specs.Stands.{kernelOf, plain, asRows, shown}
 use Rattle.claims.specs.Types.{Kernel}
 
 -- "A kernel value is sound when"
@@ -13,7 +13,7 @@ pub record SoundValue (k : Kernel) : Type 0 where
   -- "a number that a state does not use is 0"
   pub unused : plain k ≡ true
   -- and every other sentence holds of what its tables read as
-  pub state : Sound (rows k)
+  pub state : Sound (asRows k)
 
 -- what the code's types say: each column of the two tables has its sixteen numbers
 pub record Full (k : Kernel) : Type 0 where

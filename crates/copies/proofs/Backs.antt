@@ -14,7 +14,7 @@ use Rattle.journal.specs.declared.Reading.{Reading}
 use Rattle.journal.specs.declared.Reading.the-variants.{Says, Refused}
 use Rattle.journal.specs.declared.Written.{Written}
 use Rattle.journal.specs.declared.Written.the-variants.{Count, Refused as NotWritten}
-use Rattle.journal.specs.Told.{refusal}
+use Rattle.journal.specs.Told.{refusedWith}
 use Rattle.journal.specs.Promise.{Tells, ReadsAs, lineRefusal, itemRefusal, WritesCall}
 use Rattle.journal.proofs.Theorems.{one-reading, within-64, as-written, turned-away, written-reads-back}
 use Rattle.copies.specs.Back.{Back, BackOr, ReadsBack}
@@ -31,7 +31,7 @@ came-back c b l w n m r e f g =
     record { reads = rw (as-written c b l n m h .none) record { call = t .0; tells = t .1 } }
 
 -- what was refused is told by its number
-pub refused-back : (c : Call) (b l : List ℕ) (w : Written) (n : ℕ) (m : List ℕ) (r : Read) → w ≡ NotWritten n → WritesCall c b l w m → Tells r (refusal n) [] → ReadsBack c b l r
+pub refused-back : (c : Call) (b l : List ℕ) (w : Written) (n : ℕ) (m : List ℕ) (r : Read) → w ≡ NotWritten n → WritesCall c b l w m → Tells r (refusedWith n) [] → ReadsBack c b l r
 refused-back c b l w n m r e f g =
     let h : WritesCall c b l (NotWritten n) m = rw e at f in
     let t = turned-away _ _ l n m (h .written) in
@@ -42,7 +42,7 @@ refused-back c b l w n m r e f g =
 back-or-within : (k : ℕ) (c : Call) (b : List ℕ) (r : Read) → (k ≡ 0 → length b ≤ 64) → BackOr k c b r → r .len ≤ 64
 back-or-within k c b r h = go (eqb k 0) refl
   where
-    go : (z : Bool) → eqb k 0 ≡ z → (if z then Back c b r else Tells r (refusal k) []) → r .len ≤ 64
+    go : (z : Bool) → eqb k 0 ≡ z → (if z then Back c b r else Tells r (refusedWith k) []) → r .len ≤ 64
     go true e f = omega (arith, f .tells .len, h (eqb-true k 0 e))
     go false e f = omega (arith, f .len)
 
@@ -57,7 +57,7 @@ back-or-refusal : (k : ℕ) (c : Call) (b : List ℕ) (r : Read) → BackOr k c 
 unfolding refusedBy
 back-or-refusal k c b r = go (eqb k 0) refl
   where
-    go : (z : Bool) → eqb k 0 ≡ z → (if z then Back c b r else Tells r (refusal k) []) → refusedBy (r .answer) ≡ k
+    go : (z : Bool) → eqb k 0 ≡ z → (if z then Back c b r else Tells r (refusedWith k) []) → refusedBy (r .answer) ≡ k
     go true e f = ap refusedBy (f .call) ∙ sym (eqb-true k 0 e)
     go false e f = ap refusedBy (one-reading (r .answer) (Refused k) (f .answer))
 

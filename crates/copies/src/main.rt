@@ -3,7 +3,7 @@ ghost use mathlib.Core.Path.{_≡_};
 ghost use Prim.Native.Nat.{_≤_};
 ghost use mathlib.Core.List.{[]};
 ghost use Rattle.journal.specs.Line.{itsItem};
-ghost use Rattle.journal.specs.Told.{refusal};
+ghost use Rattle.journal.specs.Told.{refusedWith};
 ghost use Rattle.journal.specs.Promise.{Tells, lineRefusal, itemRefusal};
 ghost use Rattle.copies.specs.Back.{ReadsBack};
 use calls::Call;
@@ -18,7 +18,7 @@ use libc::STDOUT_FILENO;
 
 // What is read of a line that the writer refused to write: the number of the refusal, and no bytes.
 fn refused(n: u32) -> Read
-    ensures { λ r. ⌜ Tells r (refusal n) [] ⌝ }
+    ensures { λ r. ⌜ Tells r (refusedWith n) [] ⌝ }
 {
     Read {
         answer: Reading::Refused(n),

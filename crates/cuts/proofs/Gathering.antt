@@ -10,16 +10,16 @@ use lib.Seq.{drop-drop}
 use borrow.Author.Tests.{eqb-true, lt-ltb, le-ltb}
 use Rattle.cuts.specs.declared.Cut.{Cut}
 use Rattle.cuts.specs.declared.Stop.{Stop}
-use Rattle.cuts.specs.Keeping.{cutOf, kept, Gathered, gathered, Gathers}
+use Rattle.cuts.specs.Keeping.{cutOf, withByte, Gathered, gathered, Gathers}
 
 -- ---- one byte
 
-pub kept-in : (bytes : List ℕ) (n b : ℕ) → n < 256 → cutOf (set bytes n b) (n + 1) ≡ kept (cutOf bytes n) b
-unfolding kept
+pub kept-in : (bytes : List ℕ) (n b : ℕ) → n < 256 → cutOf (set bytes n b) (n + 1) ≡ withByte (cutOf bytes n) b
+unfolding withByte
 kept-in bytes n b h = rw (lt-ltb n 256 h)
 
-pub kept-out : (bytes : List ℕ) (n b : ℕ) → 256 ≤ n → cutOf bytes 257 ≡ kept (cutOf bytes n) b
-unfolding kept
+pub kept-out : (bytes : List ℕ) (n b : ℕ) → 256 ≤ n → cutOf bytes 257 ≡ withByte (cutOf bytes n) b
+unfolding withByte
 kept-out bytes n b h = rw (le-ltb n 256 h)
 
 -- ---- byte by byte
@@ -28,7 +28,7 @@ pub gathered-newline : (i : ℕ) (c : Cut) (b : ℕ) (l : List ℕ) → eqb b 10
 unfolding gathered
 gathered-newline i c b l e = rw e
 
-pub gathered-other : (i : ℕ) (c : Cut) (b : ℕ) (l : List ℕ) → eqb b 10 ≡ false → gathered i c (b ∷ l) ≡ gathered (i + 1) (kept c b) l
+pub gathered-other : (i : ℕ) (c : Cut) (b : ℕ) (l : List ℕ) → eqb b 10 ≡ false → gathered i c (b ∷ l) ≡ gathered (i + 1) (withByte c b) l
 unfolding gathered
 gathered-other i c b l e = rw e
 
@@ -46,7 +46,7 @@ pub record Left (block : List ℕ) (i : ℕ) (g : Gathered) : Type 0 where
 pub left : (block l : List ℕ) (i : ℕ) (c : Cut) → drop i block ≡ l → Left block i (gathered i c l)
 unfolding gathered
 left block [] i c d = record { ends = λ e. absurd (false≢true e); within = λ e. absurd (false≢true e); none = λ e. d }
-left block (b ∷ l) i c d = go (eqb b 10) refl (left block l (i + 1) (kept c b) (one-on block l i b d))
+left block (b ∷ l) i c d = go (eqb b 10) refl (left block l (i + 1) (withByte c b) (one-on block l i b d))
   where
     inside : i < length block
     inside = omega (arith, ap length d, length-drop i block)
@@ -60,7 +60,7 @@ left block (b ∷ l) i c d = go (eqb b 10) refl (left block l (i + 1) (kept c b)
           none = λ f. absurd (false≢true (sym f));
         }
 
-    go : (t : Bool) → eqb b 10 ≡ t → Left block (i + 1) (gathered (i + 1) (kept c b) l) → Left block i (gathered i c (b ∷ l))
+    go : (t : Bool) → eqb b 10 ≡ t → Left block (i + 1) (gathered (i + 1) (withByte c b) l) → Left block i (gathered i c (b ∷ l))
     go true e h = rw (gathered-newline i c b l e) (here e)
     go false e h = rw (gathered-other i c b l e) record { ends = h .ends; within = λ f. let w = h .within f in (omega arith, w .1); none = h .none }
 

@@ -15,7 +15,7 @@ use Rattle.lists.specs.Choice.{if_then_else_}
 use Rattle.lists.specs.Lists.{foldl, index}
 use Rattle.lists.proofs.Loops.{front}
 use Rattle.cuts.specs.declared.Cut.{Cut}
-use Rattle.cuts.specs.Keeping.{cutOf, kept, isNewline, newlineFrom, Gathered, gathered, Gathers}
+use Rattle.cuts.specs.Keeping.{cutOf, withByte, isNewline, newlineFrom, Gathered, gathered, Gathers}
 use Rattle.cuts.proofs.Gathering.{kept-in, kept-out, gathered-newline, gathered-other}
 
 -- ---- the search
@@ -80,7 +80,7 @@ module _ {block : List ℕ} {at : ℕ} {d : List ℕ} {len n : ℕ} where
 -- ---- what the bytes stored make of a line
 
 -- as many as there is room for
-fits : (xs bytes : List ℕ) (len : ℕ) → len + length xs ≤ 256 → foldl kept (cutOf bytes len) xs ≡ cutOf (sets bytes len xs) (len + length xs)
+fits : (xs bytes : List ℕ) (len : ℕ) → len + length xs ≤ 256 → foldl withByte (cutOf bytes len) xs ≡ cutOf (sets bytes len xs) (len + length xs)
 unfolding foldl
 fits [] bytes len h = rw add-zero
 fits (x ∷ xs) bytes len h =
@@ -89,12 +89,12 @@ fits (x ∷ xs) bytes len h =
     rw (← kept-in bytes len x k, add-one, ← e) (fits xs (set bytes len x) (suc len) (omega arith))
 
 -- above 256 no more is known
-above : (xs bytes : List ℕ) → foldl kept (cutOf bytes 257) xs ≡ cutOf bytes 257
+above : (xs bytes : List ℕ) → foldl withByte (cutOf bytes 257) xs ≡ cutOf bytes 257
 unfolding foldl
 above [] bytes = refl
 above (x ∷ xs) bytes = rw (← kept-out bytes 257 x (omega arith)) (above xs bytes)
 
-full : (xs bytes : List ℕ) (len : ℕ) → 256 ≤ len → 0 < length xs → foldl kept (cutOf bytes len) xs ≡ cutOf bytes 257
+full : (xs bytes : List ℕ) (len : ℕ) → 256 ≤ len → 0 < length xs → foldl withByte (cutOf bytes len) xs ≡ cutOf bytes 257
 unfolding foldl
 full [] bytes len h p = absurd (omega arith)
 full (x ∷ xs) bytes len h p = rw (← kept-out bytes len x h) (above xs bytes)
@@ -102,7 +102,7 @@ full (x ∷ xs) bytes len h p = rw (← kept-out bytes len x h) (above xs bytes)
 -- the bytes of a block from `at` up to `end`
 module _ (block bytes : List ℕ) (at end len : ℕ) (inside : end - at ≤ length block - at) where
   abbrev Kept : List ℕ → ℕ → Type 0
-  Kept after r = cutOf after r ≡ foldl kept (cutOf bytes len) (take (end - at) (drop at block))
+  Kept after r = cutOf after r ≡ foldl withByte (cutOf bytes len) (take (end - at) (drop at block))
 
   count : (m : ℕ) → m ≤ end - at → length (take m (drop at block)) ≡ m
   count m h = rw (length-take, length-drop) (omega arith)
@@ -125,7 +125,7 @@ module _ (block bytes : List ℕ) (at end len : ℕ) (inside : end - at ≤ leng
           let m : length (take room (drop at block)) ≡ room = count room (omega arith) in
           let w : len + length (take room (drop at block)) ≤ 256 = omega arith in
           let y : 0 < length (take more (drop room (drop at block))) = rw (length-take, length-drop, length-drop) (omega arith) in
-          let two = fold-append kept (cutOf bytes len) (take room (drop at block)) (take more (drop room (drop at block))) in
+          let two = fold-append withByte (cutOf bytes len) (take room (drop at block)) (take more (drop room (drop at block))) in
           rw (e, take-add room more (drop at block), two, fits (take room (drop at block)) bytes len w, m, ← t)
           (sym (full (take more (drop room (drop at block))) after (len + room) (omega arith) y))
 
@@ -147,8 +147,8 @@ index-within (b ∷ l) = go (eqb b 10) (index-within l)
     go true h = omega arith
     go false h = omega arith
 
-pub place-within : (block : List ℕ) (at end : ℕ) → end ≡ newlineFrom at (drop at block) → end - at ≤ length block - at
-place-within block at end e = omega (arith, index-within (drop at block), length-drop at block)
+pub newline-within : (block : List ℕ) (at end : ℕ) → end ≡ newlineFrom at (drop at block) → end - at ≤ length block - at
+newline-within block at end e = omega (arith, index-within (drop at block), length-drop at block)
 
 -- the place is inside of the block where it is inside of what was left
 same-test : (end length place rest at : ℕ) → end ≡ at + place → rest ≡ length - at → place ≤ rest → ltb end length ≡ ltb place rest
@@ -161,14 +161,14 @@ same-test end length place rest at e f w = go (ltb place rest) refl
 -- a block is left where its next newline stands, with what the bytes before it make of the line
 record TwoSteps (i : ℕ) (c : Cut) (l : List ℕ) (g : Gathered) : Type 0 where
   pub next : newlineFrom i l ≡ g .next
-  pub cut : foldl kept c (take (index isNewline l) l) ≡ g .cut
+  pub cut : foldl withByte c (take (index isNewline l) l) ≡ g .cut
   pub newline : ltb (index isNewline l) (length l) ≡ g .newline
 
 at-once : (i : ℕ) (c : Cut) (b : ℕ) (l : List ℕ) → eqb b 10 ≡ true → TwoSteps i c (b ∷ l) record { next = i; cut = c; newline = true }
 unfolding index foldl
 at-once i c b l e = record { next = rw (e, add-zero); cut = rw e; newline = rw e (lt-ltb 0 (suc (length l)) (omega arith)) }
 
-one-later : (i : ℕ) (c : Cut) (b : ℕ) (l : List ℕ) (g : Gathered) → eqb b 10 ≡ false → TwoSteps (i + 1) (kept c b) l g → TwoSteps i c (b ∷ l) g
+one-later : (i : ℕ) (c : Cut) (b : ℕ) (l : List ℕ) (g : Gathered) → eqb b 10 ≡ false → TwoSteps (i + 1) (withByte c b) l g → TwoSteps i c (b ∷ l) g
 unfolding index foldl
 one-later i c b l g e h =
     let m : i + suc (index isNewline l) ≡ newlineFrom (i + 1) l = omega arith in
@@ -178,20 +178,20 @@ one-later i c b l g e h =
 two-steps : (l : List ℕ) (i : ℕ) (c : Cut) → TwoSteps i c l (gathered i c l)
 unfolding gathered index foldl
 two-steps [] i c = record { next = add-zero i; cut = refl; newline = refl }
-two-steps (b ∷ l) i c = go (eqb b 10) refl (two-steps l (i + 1) (kept c b))
+two-steps (b ∷ l) i c = go (eqb b 10) refl (two-steps l (i + 1) (withByte c b))
   where
-    go : (t : Bool) → eqb b 10 ≡ t → TwoSteps (i + 1) (kept c b) l (gathered (i + 1) (kept c b) l) → TwoSteps i c (b ∷ l) (gathered i c (b ∷ l))
+    go : (t : Bool) → eqb b 10 ≡ t → TwoSteps (i + 1) (withByte c b) l (gathered (i + 1) (withByte c b) l) → TwoSteps i c (b ∷ l) (gathered i c (b ∷ l))
     go true e h = rw (gathered-newline i c b l e) (at-once i c b l e)
-    go false e h = rw (gathered-other i c b l e) (one-later i c b l (gathered (i + 1) (kept c b) l) e h)
+    go false e h = rw (gathered-other i c b l e) (one-later i c b l (gathered (i + 1) (withByte c b) l) e h)
 
 pub gathers : (block bytes after : List ℕ) (at len end n : ℕ) → end ≡ newlineFrom at (drop at block)
-    → cutOf after n ≡ foldl kept (cutOf bytes len) (take (end - at) (drop at block))
+    → cutOf after n ≡ foldl withByte (cutOf bytes len) (take (end - at) (drop at block))
     → Gathers (gathered at (cutOf bytes len) (drop at block)) record { next = end; len = n; newline = ltb end (length block) } after
 gathers block bytes after at len end n e k =
     let t = two-steps (drop at block) at (cutOf bytes len) in
     let d : end - at ≡ index isNewline (drop at block) = omega arith in
     record {
       next = e ∙ t .next;
-      cut = k ∙ ap (λ m. foldl kept (cutOf bytes len) (take m (drop at block))) d ∙ t .cut;
+      cut = k ∙ ap (λ m. foldl withByte (cutOf bytes len) (take m (drop at block))) d ∙ t .cut;
       newline = same-test end (length block) (index isNewline (drop at block)) (length (drop at block)) at e (length-drop at block) (index-within (drop at block)) ∙ t .newline;
     }

@@ -17,12 +17,12 @@ cutOf bytes n = record { bytes = bytes; len = n }
 unfoldable pub noByte : Cut
 noByte = cutOf (replicate 256 0) 0
 
-abbrev pub isEmpty : Cut → Bool
-isEmpty c = eqb (c .len) 0
+abbrev pub isBlank : Cut → Bool
+isBlank c = eqb (c .len) 0
 
 -- one more byte of a line. "A line has at most 256 bytes with its newline": of a longer one it is only known that it is longer
-unfoldable pub kept : Cut → ℕ → Cut
-kept c b = if ltb (c .len) 256 then cutOf (set (c .bytes) (c .len) b) (c .len + 1) else cutOf (c .bytes) 257
+unfoldable pub withByte : Cut → ℕ → Cut
+withByte c b = if ltb (c .len) 256 then cutOf (set (c .bytes) (c .len) b) (c .len + 1) else cutOf (c .bytes) 257
 
 -- no byte yet of the next line
 unfoldable pub ended : Cut → Cut
@@ -45,7 +45,7 @@ pub record Gathered : Type 0 where
 -- the bytes l of a block, from the place i on, are kept as far as the next newline
 unfoldable pub gathered : ℕ → Cut → List ℕ → Gathered
 gathered i c [] = record { next = i; cut = c; newline = false }
-gathered i c (b ∷ l) = if eqb b 10 then record { next = i; cut = c; newline = true } else gathered (i + 1) (kept c b) l
+gathered i c (b ∷ l) = if eqb b 10 then record { next = i; cut = c; newline = true } else gathered (i + 1) (withByte c b) l
 
 -- r and the bytes afterwards say so
 pub record Gathers (g : Gathered) (r : Stop) (bytes : List ℕ) : Type 0 where

@@ -4,7 +4,7 @@ ghost use Prim.Native.Nat.{_+_, _-_, _≤_};
 ghost use lib.ListN.{length, take, drop};
 ghost use lib.Seq.{sets};
 ghost use Rattle.lists.specs.Lists.{foldl};
-ghost use Rattle.cuts.specs.Keeping.{cutOf, noByte, isEmpty, kept, newlineFrom, gathered, Gathers};
+ghost use Rattle.cuts.specs.Keeping.{cutOf, noByte, isBlank, withByte, newlineFrom, gathered, Gathers};
 
 // The first `len` bytes of a line; above 256, it is only known to be too long.
 pub struct Cut {
@@ -30,7 +30,7 @@ impl Cut {
     }
 
     pub fn is_empty(self) -> bool
-        ensures { λ r. ⌜ r ≡ isEmpty self ⌝ }
+        ensures { λ r. ⌜ r ≡ isBlank self ⌝ }
     {
         self.len == 0
     }
@@ -38,7 +38,7 @@ impl Cut {
 
 // One more byte of a line; how many there are then.
 pub fn keep(bytes: &mut [u8; 256], len: usize, b: u8) -> usize
-    ensures { λ r. ⌜ cutOf (now (bytes .exit)) r ≡ kept (cutOf (now (bytes .entry)) len) b ⌝ }
+    ensures { λ r. ⌜ cutOf (now (bytes .exit)) r ≡ withByte (cutOf (now (bytes .entry)) len) b ⌝ }
 {
     if len < 256 {
         bytes[len] = b;
@@ -76,7 +76,7 @@ fn copied(block: &[u8], at: usize, n: usize, bytes: &mut [u8; 256], len: usize)
 // The bytes of a block from `at` up to `end` are kept; how many there are of the line then.
 fn kept_all(block: &[u8], at: usize, end: usize, bytes: &mut [u8; 256], len: usize) -> usize
     requires { ⌜ end - at ≤ length (now block) - at ⌝ }
-    ensures { λ r. ⌜ cutOf (now (bytes .exit)) r ≡ foldl kept (cutOf (now (bytes .entry)) len) (take (end - at) (drop at (now (block .entry)))) ⌝ }
+    ensures { λ r. ⌜ cutOf (now (bytes .exit)) r ≡ foldl withByte (cutOf (now (bytes .entry)) len) (take (end - at) (drop at (now (block .entry)))) ⌝ }
 {
     if end <= at {
         return len;

@@ -8,7 +8,7 @@ use lib.ListN.{length, drop, getD, length-append}
 use borrow.Author.Tests.{lt-ltb, le-ltb, eq-eqb, ne-eqb}
 use Rattle.fields.specs.Decimal.{digits, dec}
 use Rattle.fields.specs.Digit.{among, digitOf}
-use Rattle.fields.specs.Number.{grow, more, number}
+use Rattle.fields.specs.Number.{grow, more, readNumber}
 use Rattle.fields.specs.declared.Number.the-variants.{Got}
 use Rattle.lists.proofs.Tests.{below-or}
 use Rattle.fields.proofs.LinePlaces.{past}
@@ -134,7 +134,7 @@ module _ (line : List ℕ) where
   more-ends [] v i w j d p b e = stopped [] v i w j d b e
   more-ends (x ∷ l) v i w j d p b e = grows x l v i w j d p b (λ u k f. more-ends l u (i + 1) w j (next i x l d) k f) e
 
-  number-ends : (l : List ℕ) (i w j : ℕ) → drop i line ≡ l → number i l ≡ Got w j → Ends l w j
+  number-ends : (l : List ℕ) (i w j : ℕ) → drop i line ≡ l → readNumber i l ≡ Got w j → Ends l w j
   number-ends [] i w j d e = let z : _≡_ {A = ℕ} 0 1 = cc in absurd (omega arith)
   number-ends (x ∷ l) i w j d e = go (below-or (digitOf x) 256) (below-or 0 (digitOf x)) e
     where
@@ -143,7 +143,7 @@ module _ (line : List ℕ) where
           let q = digit-is x a in
           ap (λ (y : ℕ). y ∷ l) (q .1) ∙ ap (λ (h : List ℕ). h ++ l) (sym (dec-small (digitOf x) (q .0)))
 
-      go : (digitOf x < 256) ⊎ (256 ≤ digitOf x) → (0 < digitOf x) ⊎ (digitOf x ≤ 0) → number i (x ∷ l) ≡ Got w j → Ends (x ∷ l) w j
+      go : (digitOf x < 256) ⊎ (256 ≤ digitOf x) → (0 < digitOf x) ⊎ (digitOf x ≤ 0) → readNumber i (x ∷ l) ≡ Got w j → Ends (x ∷ l) w j
       go (inl a) (inl p) = rw (lt-ltb (digitOf x) 256 a, ne-eqb (digitOf x) 0 (omega arith)) (λ e.
           let s = more-ends l (digitOf x) (i + 1) w j (next i x l d) p (omega arith) e in
           (first a ∙ s .0, s .1))
@@ -153,7 +153,7 @@ module _ (line : List ℕ) where
           (first a ∙ ap (λ (v : ℕ). dec v ++ l) z ∙ s .0, s .1))
       go (inr a) p = rw (le-ltb (digitOf x) 256 a) (λ e. let z : _≡_ {A = ℕ} 0 1 = cc in absurd (omega arith))
 
-  pub number-front : (at w j : ℕ) → number at (drop at line) ≡ Got w j → (drop at line ≡ dec w ++ drop j line) × (w ≤ 4294967295)
+  pub number-front : (at w j : ℕ) → readNumber at (drop at line) ≡ Got w j → (drop at line ≡ dec w ++ drop j line) × (w ≤ 4294967295)
   number-front at w j e = number-ends (drop at line) at w j refl e
 
 -- ---- a number's digits are read whole
@@ -172,10 +172,10 @@ last-digit n i l f =
     let g : grow (n / 10) (48 + n % 10) ≡ n = grow-to (n / 10) (n % 10) (omega arith) (omega arith) ∙ e in
     rw (g, lt-ltb n 4294967296 f)
 
-one-digit : (n i : ℕ) (l : List ℕ) → 0 < n → n < 10 → number i ((48 + n) ∷ l) ≡ more n (i + 1) l
+one-digit : (n i : ℕ) (l : List ℕ) → 0 < n → n < 10 → readNumber i ((48 + n) ∷ l) ≡ more n (i + 1) l
 one-digit n i l p b = rw (digit-of n b, lt-ltb n 256 (omega arith), ne-eqb n 0 (omega arith))
 
-number-digits : (k n i : ℕ) (l : List ℕ) → 0 < n → n < tens k → n < 4294967296 → number i (digits k n ++ l) ≡ more n (i + length (digits k n)) l
+number-digits : (k n i : ℕ) (l : List ℕ) → 0 < n → n < tens k → n < 4294967296 → readNumber i (digits k n ++ l) ≡ more n (i + length (digits k n)) l
 number-digits zero n i l p b f = rw (digits-small 0 n b) (one-digit n i l p b)
 number-digits (suc k) n i l p b f =
     ⊎-elim (λ (a : n < 10). rw (digits-small (suc k) n a) (one-digit n i l p a))
@@ -183,13 +183,13 @@ number-digits (suc k) n i l p b f =
     let d : List ℕ = (48 + n % 10) ∷ [] in
     let e : i + length (digits k (n / 10)) + 1 ≡ i + length (digits k (n / 10) ++ d) = omega (arith, length-append (digits k (n / 10)) d) in
     rw (digits-step k n a)
-    (ap (number i) (append-assoc (digits k (n / 10)) d l)
+    (ap (readNumber i) (append-assoc (digits k (n / 10)) d l)
     ∙ number-digits k (n / 10) i ((48 + n % 10) ∷ l) (omega arith) (omega arith) (omega arith)
     ∙ last-digit n (i + length (digits k (n / 10))) l f
     ∙ ap (λ (m : ℕ). more n m l) e))
     (below-or n 10)
 
-pub number-whole : (n i : ℕ) (l : List ℕ) → n ≤ 4294967295 → Stops l → number i (dec n ++ l) ≡ Got n (i + length (dec n))
+pub number-whole : (n i : ℕ) (l : List ℕ) → n ≤ 4294967295 → Stops l → readNumber i (dec n ++ l) ≡ Got n (i + length (dec n))
 unfolding dec
 number-whole n i l b s =
     ⊎-elim (λ (p : 0 < n). number-digits 19 n i l p (omega arith) (omega arith) ∙ more-stops n (i + length (digits 19 n)) l s)

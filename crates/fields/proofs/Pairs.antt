@@ -11,7 +11,7 @@ use borrow.Author.Tests.{lt-ltb, le-ltb}
 use Rattle.fields.specs.Texts.{texts}
 use Rattle.fields.specs.Hex.{hexDigit, twoDigits, hex, Bytes}
 use Rattle.fields.specs.Digit.{among, nibbleOf}
-use Rattle.fields.specs.Item.{pairOf, byteOf, bytesOf}
+use Rattle.fields.specs.Item.{pairOf, byteOf, bytesIn}
 use Rattle.fields.specs.declared.Item.{Item}
 use Rattle.lists.proofs.Tests.{below-or}
 
@@ -86,39 +86,39 @@ byte-within l i = go (drop i l) (length-drop i l)
 
 -- ---- what is read is an item's digits
 
-bytes-front : (k : ℕ) (l : List ℕ) → l ≡ hex (bytesOf k l) ++ drop (2 * length (bytesOf k l)) l
-unfolding bytesOf texts
+bytes-front : (k : ℕ) (l : List ℕ) → l ≡ hex (bytesIn k l) ++ drop (2 * length (bytesIn k l)) l
+unfolding bytesIn texts
 bytes-front zero l = refl
 bytes-front (suc k) l = go (bytes-front k (drop 2 l)) (below-or (byteOf l) 256)
   where
-    go : drop 2 l ≡ hex (bytesOf k (drop 2 l)) ++ drop (2 * length (bytesOf k (drop 2 l))) (drop 2 l)
-        → (byteOf l < 256) ⊎ (256 ≤ byteOf l) → l ≡ hex (bytesOf (suc k) l) ++ drop (2 * length (bytesOf (suc k) l)) l
+    go : drop 2 l ≡ hex (bytesIn k (drop 2 l)) ++ drop (2 * length (bytesIn k (drop 2 l))) (drop 2 l)
+        → (byteOf l < 256) ⊎ (256 ≤ byteOf l) → l ≡ hex (bytesIn (suc k) l) ++ drop (2 * length (bytesIn (suc k) l)) l
     go ih (inr a) = rw (le-ltb (byteOf l) 256 a) refl
     go ih (inl a) =
-        let n : ℕ = length (bytesOf k (drop 2 l)) in
+        let n : ℕ = length (bytesIn k (drop 2 l)) in
         let e : 2 + 2 * n ≡ 2 * suc n = omega arith in
         rw (lt-ltb (byteOf l) 256 a)
-        (byte-is l a ∙ ap (λ (m : List ℕ). twoDigits (byteOf l) ++ m) (ih ∙ ap (λ (m : List ℕ). hex (bytesOf k (drop 2 l)) ++ m) (drop-drop (2 * n) 2 l ∙ ap (λ (m : ℕ). drop m l) e)))
+        (byte-is l a ∙ ap (λ (m : List ℕ). twoDigits (byteOf l) ++ m) (ih ∙ ap (λ (m : List ℕ). hex (bytesIn k (drop 2 l)) ++ m) (drop-drop (2 * n) 2 l ∙ ap (λ (m : ℕ). drop m l) e)))
 
-pub item-front : (line : List ℕ) (at : ℕ) → drop at line ≡ hex (bytesOf 64 (drop at line)) ++ drop (at + 2 * length (bytesOf 64 (drop at line))) line
+pub item-front : (line : List ℕ) (at : ℕ) → drop at line ≡ hex (bytesIn 64 (drop at line)) ++ drop (at + 2 * length (bytesIn 64 (drop at line))) line
 item-front line at =
     bytes-front 64 (drop at line)
-    ∙ ap (λ (m : List ℕ). hex (bytesOf 64 (drop at line)) ++ m) (drop-drop (2 * length (bytesOf 64 (drop at line))) at line)
+    ∙ ap (λ (m : List ℕ). hex (bytesIn 64 (drop at line)) ++ m) (drop-drop (2 * length (bytesIn 64 (drop at line))) at line)
 
-pub bytes-fit : (k : ℕ) (l : List ℕ) → (length (bytesOf k l) ≤ k) × Bytes (bytesOf k l)
-unfolding bytesOf
+pub bytes-fit : (k : ℕ) (l : List ℕ) → (length (bytesIn k l) ≤ k) × Bytes (bytesIn k l)
+unfolding bytesIn
 bytes-fit zero l = (omega arith, tt)
 bytes-fit (suc k) l = go (bytes-fit k (drop 2 l)) (below-or (byteOf l) 256)
   where
-    go : (length (bytesOf k (drop 2 l)) ≤ k) × Bytes (bytesOf k (drop 2 l)) → (byteOf l < 256) ⊎ (256 ≤ byteOf l)
-        → (length (bytesOf (suc k) l) ≤ suc k) × Bytes (bytesOf (suc k) l)
+    go : (length (bytesIn k (drop 2 l)) ≤ k) × Bytes (bytesIn k (drop 2 l)) → (byteOf l < 256) ⊎ (256 ≤ byteOf l)
+        → (length (bytesIn (suc k) l) ≤ suc k) × Bytes (bytesIn (suc k) l)
     go ih (inl a) = rw (lt-ltb (byteOf l) 256 a) (omega arith, (a, ih .1))
     go ih (inr a) = rw (le-ltb (byteOf l) 256 a) (omega arith, tt)
 
 -- ---- an item's digits are read whole
 
-pub bytes-whole : (b : List ℕ) (k : ℕ) (l : List ℕ) → Bytes b → length b ≤ k → byteOf l ≡ 256 → bytesOf k (hex b ++ l) ≡ b
-unfolding bytesOf texts
+pub bytes-whole : (b : List ℕ) (k : ℕ) (l : List ℕ) → Bytes b → length b ≤ k → byteOf l ≡ 256 → bytesIn k (hex b ++ l) ≡ b
+unfolding bytesIn texts
 bytes-whole [] zero l w h s = refl
 bytes-whole [] (suc k) l w h s = rw s
 bytes-whole (x ∷ b) zero l w h s = absurd (omega arith)
@@ -137,29 +137,29 @@ tab-stops (y ∷ l) = rw tab-none (omega arith)
 
 -- ---- the loop that reads an item: n bytes are in bs, the place is i, l is left, and up to k more are taken
 
-abbrev pub left : ℕ → ℕ → List ℕ → ℕ → List ℕ → Item
-left k n bs i l = record { bytes = sets bs n (bytesOf k l); len = n + length (bytesOf k l); next = i + 2 * length (bytesOf k l) }
+abbrev pub leftOver : ℕ → ℕ → List ℕ → ℕ → List ℕ → Item
+leftOver k n bs i l = record { bytes = sets bs n (bytesIn k l); len = n + length (bytesIn k l); next = i + 2 * length (bytesIn k l) }
 
-abbrev pub so-far : List ℕ → ℕ → ℕ → Item
-so-far bs n i = record { bytes = bs; len = n; next = i }
+abbrev pub itemSoFar : List ℕ → ℕ → ℕ → Item
+itemSoFar bs n i = record { bytes = bs; len = n; next = i }
 
 -- the same record, part by part
-same-item : (bs cs : List ℕ) (m n i j : ℕ) → bs ≡ cs → m ≡ n → i ≡ j → so-far bs m i ≡ so-far cs n j
-same-item bs cs m n i j p q r = ap (λ (b : List ℕ). so-far b m i) p ∙ ap (λ (k : ℕ). so-far cs k i) q ∙ ap (so-far cs n) r
+same-item : (bs cs : List ℕ) (m n i j : ℕ) → bs ≡ cs → m ≡ n → i ≡ j → itemSoFar bs m i ≡ itemSoFar cs n j
+same-item bs cs m n i j p q r = ap (λ (b : List ℕ). itemSoFar b m i) p ∙ ap (λ (k : ℕ). itemSoFar cs k i) q ∙ ap (itemSoFar cs n) r
 
-pub left-first : (k : ℕ) (bs : List ℕ) (i : ℕ) (l : List ℕ) → left k 0 bs i l ≡ so-far (sets bs 0 (bytesOf k l)) (length (bytesOf k l)) (i + 2 * length (bytesOf k l))
+pub left-first : (k : ℕ) (bs : List ℕ) (i : ℕ) (l : List ℕ) → leftOver k 0 bs i l ≡ itemSoFar (sets bs 0 (bytesIn k l)) (length (bytesIn k l)) (i + 2 * length (bytesIn k l))
 left-first k bs i l = same-item _ _ _ _ _ _ refl (omega arith) refl
 
-pub left-last : (n : ℕ) (bs : List ℕ) (i : ℕ) (l : List ℕ) → left 0 n bs i l ≡ so-far bs n i
-unfolding bytesOf
+pub left-last : (n : ℕ) (bs : List ℕ) (i : ℕ) (l : List ℕ) → leftOver 0 n bs i l ≡ itemSoFar bs n i
+unfolding bytesIn
 left-last n bs i l = same-item _ _ _ _ _ _ refl (omega arith) (omega arith)
 
-pub left-stop : (k n : ℕ) (bs : List ℕ) (i : ℕ) (l : List ℕ) → 256 ≤ byteOf l → left (suc k) n bs i l ≡ so-far bs n i
-unfolding bytesOf
+pub left-stop : (k n : ℕ) (bs : List ℕ) (i : ℕ) (l : List ℕ) → 256 ≤ byteOf l → leftOver (suc k) n bs i l ≡ itemSoFar bs n i
+unfolding bytesIn
 left-stop k n bs i l h = rw (le-ltb (byteOf l) 256 h) (same-item _ _ _ _ _ _ refl (omega arith) (omega arith))
 
 pub left-more : (k n : ℕ) (bs line : List ℕ) (i b : ℕ) → b ≡ byteOf (drop i line) → b < 256
-    → left (suc k) n bs i (drop i line) ≡ left k (n + 1) (set bs n b) (i + 2) (drop (i + 2) line)
-unfolding bytesOf
+    → leftOver (suc k) n bs i (drop i line) ≡ leftOver k (n + 1) (set bs n b) (i + 2) (drop (i + 2) line)
+unfolding bytesIn
 left-more k n bs line i b e h =
     rw (← e, lt-ltb b 256 h, drop-drop 2 i line) (same-item _ _ _ _ _ _ (rw add-one) (omega arith) (omega arith))

@@ -19,18 +19,18 @@ byteOf (x ∷ []) = 256
 byteOf (x ∷ y ∷ l) = pairOf x y
 
 -- the bytes of the longest item at the front, up to k of them
-unfoldable pub bytesOf : ℕ → List ℕ → List ℕ
-bytesOf zero l = []
-bytesOf (suc k) l = if ltb (byteOf l) 256 then byteOf l ∷ bytesOf k (drop 2 l) else []
+unfoldable pub bytesIn : ℕ → List ℕ → List ℕ
+bytesIn zero l = []
+bytesIn (suc k) l = if ltb (byteOf l) 256 then byteOf l ∷ bytesIn k (drop 2 l) else []
 
 -- the bytes b with zeros after them
 abbrev pub filled : List ℕ → List ℕ
 filled b = sets (replicate 64 0) 0 b
 
 -- the bytes b, whose digits begin at the place i
-abbrev pub itemAt : ℕ → List ℕ → Item
-itemAt i b = record { bytes = filled b; len = length b; next = i + 2 * length b }
+abbrev pub itemFrom : ℕ → List ℕ → Item
+itemFrom i b = record { bytes = filled b; len = length b; next = i + 2 * length b }
 
 -- the longest item at the front of l, which begins at the place i
-abbrev pub item : ℕ → List ℕ → Item
-item i l = itemAt i (bytesOf 64 l)
+abbrev pub readItem : ℕ → List ℕ → Item
+readItem i l = itemFrom i (bytesIn 64 l)

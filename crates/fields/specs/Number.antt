@@ -17,6 +17,6 @@ more v i [] = Got v i
 more v i (x ∷ l) = if ltb (grow v x) 4294967296 then more (grow v x) (i + 1) l else Got v i
 
 -- the longest number at the front of l, which begins at the place i
-abbrev pub number : ℕ → List ℕ → Number
-number i [] = Missing
-number i (x ∷ l) = if ltb (digitOf x) 256 then if eqb (digitOf x) 0 then Got 0 (i + 1) else more (digitOf x) (i + 1) l else Missing
+abbrev pub readNumber : ℕ → List ℕ → Number
+readNumber i [] = Missing
+readNumber i (x ∷ l) = if ltb (digitOf x) 256 then if eqb (digitOf x) 0 then Got 0 (i + 1) else more (digitOf x) (i + 1) l else Missing

@@ -2,7 +2,7 @@
 ghost use mathlib.Core.Path.{_≡_};
 ghost use lib.ListN.{drop};
 ghost use Rattle.fields.specs.Decimal.{dec};
-ghost use Rattle.fields.specs.Number.{grow, number};
+ghost use Rattle.fields.specs.Number.{grow, readNumber};
 ghost use Rattle.fields.specs.Wrote.{Wrote};
 use crate::Number;
 use crate::bytes::put;
@@ -25,7 +25,7 @@ fn grown(v: u32, b: u8) -> u64
 
 // The longest number at a place. What is needless or too large is left, and whatever is to come next refuses it.
 pub fn read_number(line: &[u8], at: usize) -> Number
-    ensures { λ r. ⌜ r ≡ number at (drop at (now (line .entry))) ⌝ }
+    ensures { λ r. ⌜ r ≡ readNumber at (drop at (now (line .entry))) ⌝ }
 {
     if at >= line.len() {
         return Number::Missing;

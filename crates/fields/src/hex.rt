@@ -3,7 +3,7 @@ ghost use mathlib.Core.Path.{_≡_};
 ghost use Prim.Native.Nat.{_<_};
 ghost use lib.ListN.{drop};
 ghost use Rattle.fields.specs.Hex.{hexDigit, twoDigits, hex};
-ghost use Rattle.fields.specs.Item.{pairOf, byteOf, item};
+ghost use Rattle.fields.specs.Item.{pairOf, byteOf, readItem};
 ghost use Rattle.fields.specs.Wrote.{Wrote};
 use crate::Item;
 use crate::bytes::put;
@@ -31,7 +31,7 @@ fn byte_at(line: &[u8], at: usize) -> u32
 
 // The longest item at a place, of up to 64 bytes. A 65th is left, and whatever is to come next refuses it.
 pub fn read_item(line: &[u8], at: usize) -> Item
-    ensures { λ r. ⌜ r ≡ item at (drop at (now (line .entry))) ⌝ }
+    ensures { λ r. ⌜ r ≡ readItem at (drop at (now (line .entry))) ⌝ }
 {
     let mut bytes = [0u8; 64];
     let mut i = at;

@@ -10,7 +10,7 @@ use Rattle.rules.specs.Parts.{itemAt}
 use Rattle.rules.specs.Queues.{outlet, sent, storeSent, received, storeReceived}
 use Rattle.rules.specs.Lines.{line, those, highest, leader, first, chosen, toTail, toHead, leaves}
 use Rattle.rules.specs.Loans.{moved, movedIf, prioritized, newPriority, lent, ownAgain}
-use Rattle.rows.specs.Applies.{outOfRange, namesNone, wrongSize, notForIdle, notWithHold, noSlot, notHis, hisAlready, notSuspended, mustWait, noDepth}
+use Rattle.rows.specs.Applies.{outOfRange, namesNone, wrongSize, notForIdle, notWithHold, noneFree, notHis, hisAlready, notSuspended, mustWait, noDepth}
 use Rattle.rules.specs.Refusals.{heldOrWaited, inUse}
 use Rattle.rows.specs.Applies.{noTick, table}
 use Rattle.rules.specs.Refusals.{laterRow, refusal}
@@ -24,7 +24,7 @@ use Rattle.numbers.specs.Numbers.{byNumber}
 use Rattle.rules.specs.Ticks.{wokenIfDue, wakes, oneTick, turned, ticked, ticks, released, held}
 use Rattle.rules.specs.Waits.{arrives, waitFor}
 use Rattle.histories.specs.Moments.{tasksBelow}
-use Rattle.histories.specs.Borrowed.{largest, givenAt, lastGiven, lentAt, counted, due}
+use Rattle.histories.specs.Borrowed.{largest, givenAt, lastGiven, lentAt, countedSince, due}
 use Rattle.histories.specs.Tales.{shownAfter, shownBy, twoGives, setWithLoan, timeRunsOut, handedWithWaiter, lendsBorrowed, refusedChange, slotUsedAgain}
 
 pub record TalesFit : Type 0 where
@@ -45,10 +45,10 @@ pub record TalesFit : Type 0 where
 
 pub tales-fit : TalesFit
 unfolding trace shownAfter twoGives setWithLoan timeRunsOut handedWithWaiter lendsBorrowed refusedChange slotUsedAgain tasksBelow largest givenAt
-    lastGiven lentAt counted due every allBelow foldl upTo index any kept asked ordered without count tidy putAt created deleted suspended
+    lastGiven lentAt countedSince due every allBelow foldl upTo index any kept asked ordered without count tidy putAt created deleted suspended
     resumed yielded delayed queueMade mutexMade removed taken handedOn given effect itemAt outlet sent storeSent received storeReceived line
     those highest leader first chosen toTail toHead leaves moved movedIf prioritized newPriority lent ownAgain outOfRange namesNone wrongSize
-    notForIdle notWithHold noSlot heldOrWaited inUse notHis hisAlready notSuspended mustWait noDepth noTick table laterRow refusal noHigher
+    notForIdle notWithHold noneFree heldOrWaited inUse notHis hisAlready notSuspended mustWait noDepth noTick table laterRow refusal noHigher
     runsFine tablesFine levelsFine listingFine clockFine sound stored answered accepted step fresh taskAt kindAt holds freeSlot freeObject wokenIfDue wakes byNumber oneTick turned ticked
     ticks released held arrives waitFor
 tales-fit = record {

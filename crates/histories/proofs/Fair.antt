@@ -29,22 +29,22 @@ pub record Fair (m : Moment CallMade) (t : TaskSlot) : Type 0 where
   pub first : hasMutex (m .gave .kernel) t ≡ true → hasMutex (m .before) t ≡ false → level (m .gave .kernel .tasks) t ≡ level (m .before .tasks) t
 
 -- the object that u waits on after the moment
-abbrev pub on : Moment CallMade → TaskSlot → ObjSlot
-on m u = waited (taskAt (m .gave .kernel .tasks) u .place)
+abbrev pub waitedObject : Moment CallMade → TaskSlot → ObjSlot
+waitedObject m u = waited (taskAt (m .gave .kernel .tasks) u .place)
 
 -- who lends waits afterwards, and not before, on a mutex of t
 pub record Lends (t : TaskSlot) (m : Moment CallMade) (u : TaskSlot) : Type 0 where
-  pub now : waitsIn (m .gave .kernel) u (on m u) ≡ true
-  pub not-before : waitsIn (m .before) u (on m u) ≡ false
-  pub his : Holds (m .gave .kernel .objects) t (on m u)
+  pub now : waitsIn (m .gave .kernel) u (waitedObject m u) ≡ true
+  pub not-before : waitsIn (m .before) u (waitedObject m u) ≡ false
+  pub his : Holds (m .gave .kernel .objects) t (waitedObject m u)
 
 pub lends-so : (t : TaskSlot) (m : Moment CallMade) (u : TaskSlot) → lends t m u ≡ true → Lends t m u
 lends-so t m u e =
-    let b : beginsToWait m u (on m u) ≡ true = and-left (beginsToWait m u (on m u)) _ e in
+    let b : beginsToWait m u (waitedObject m u) ≡ true = and-left (beginsToWait m u (waitedObject m u)) _ e in
     record {
-      now = and-left (waitsIn (m .gave .kernel) u (on m u)) _ b;
-      not-before = off (waitsIn (m .before) u (on m u)) (and-right (waitsIn (m .gave .kernel) u (on m u)) _ b);
-      his = held-one t (kindAt (m .gave .kernel .objects) (on m u)) (and-right (beginsToWait m u (on m u)) _ e);
+      now = and-left (waitsIn (m .gave .kernel) u (waitedObject m u)) _ b;
+      not-before = off (waitsIn (m .before) u (waitedObject m u)) (and-right (waitsIn (m .gave .kernel) u (waitedObject m u)) _ b);
+      his = held-one t (kindAt (m .gave .kernel .objects) (waitedObject m u)) (and-right (beginsToWait m u (waitedObject m u)) _ e);
     }
 
 pub none-given : (t : TaskSlot) (m : Moment CallMade) → isCreated t m ≡ false → isChanged t m ≡ false → givenAt t m ≡ []
@@ -68,7 +68,7 @@ module _ (m : Moment CallMade) (t : TaskSlot) where
       }
     where
       calm : (u : TaskSlot) → Lends t m u → ⊥
-      calm u l = false≢true (sym (l .not-before) ∙ q .calm u (on m u) (l .his) (l .now))
+      calm u l = false≢true (sym (l .not-before) ∙ q .calm u (waitedObject m u) (l .his) (l .now))
 
   -- without a mutex afterwards the own priority is all
   pub bare-fair : hasMutex (m .gave .kernel) t ≡ false

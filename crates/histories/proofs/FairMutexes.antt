@@ -37,7 +37,7 @@ use Rattle.histories.specs.Borrowed.{largest, givenAt, lends, lentAt}
 use Rattle.histories.proofs.Largest.{one-passes}
 use Rattle.histories.proofs.Quiet.{Quiet, still, onward, each}
 use Rattle.histories.proofs.QuietCalls.{Quietly, wait-quiet, handed-quiet}
-use Rattle.histories.proofs.Fair.{Fair, Lends, lends-so, on, none-given, quiet-fair, bare-fair}
+use Rattle.histories.proofs.Fair.{Fair, Lends, lends-so, waitedObject, none-given, quiet-fair, bare-fair}
 use Rattle.histories.proofs.FairTasks.{moment, that-or-other, places-kept, ranked-at, prioritized-quiet}
 
 -- a task's effective priority changed leaves every own one
@@ -131,7 +131,7 @@ module _ (k : State) (S : Sound k) (n : ℕ) (a : Saying) where
         go false q =
             let same : taskAt (waitFor j o w .tasks) v .place ≡ taskAt (k .tasks) v .place =
             ap (λ (x : Task). x .place) (other-now v (eqb-false (v .0) (r .0) q)) ∙ places-kept k h (taskAt (k .tasks) h .own) eff v in
-            absurd (false≢true (sym (l .not-before) ∙ sym (ap (waitsOn (on wait v)) same) ∙ l .now))
+            absurd (false≢true (sym (l .not-before) ∙ sym (ap (waitsOn (waitedObject wait v)) same) ∙ l .now))
 
     lent-one : largest (lentAt h wait) ≡ level (k .tasks) r
     unfolding lentAt

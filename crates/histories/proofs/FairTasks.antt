@@ -36,7 +36,7 @@ use Rattle.histories.specs.Moments.{isRefusal}
 use Rattle.histories.specs.Borrowed.{largest, givenAt}
 use Rattle.histories.proofs.Quiet.{Quiet, each, slot-quiet, ranked-quiet}
 use Rattle.histories.proofs.QuietCalls.{Quietly}
-use Rattle.histories.proofs.Fair.{Fair, Lends, on, none-given, none-lent, quiet-fair, bare-fair}
+use Rattle.histories.proofs.Fair.{Fair, Lends, waitedObject, none-given, none-lent, quiet-fair, bare-fair}
 
 -- the moment of an accepted call
 abbrev pub moment : State → Call → Saying → State → Moment CallMade
@@ -169,7 +169,7 @@ module _ (k : State) (S : Sound k) (n : ℕ) (a : Saying) where
 
     nobody : (v : TaskSlot) → Lends u change v → ⊥
     unfolding newPriority
-    nobody v l = false≢true (sym (l .not-before) ∙ sym (ap (waitsOn (on change v)) (places-kept k u p eff v)) ∙ l .now)
+    nobody v l = false≢true (sym (l .not-before) ∙ sym (ap (waitsOn (waitedObject change v)) (places-kept k u p eff v)) ∙ l .now)
 
     raised : holds (k .objects) u ≡ true → level (newPriority k u p .tasks) u ≡ larger (larger p 0) (larger 0 (level (k .tasks) u))
     raised h =

@@ -24,7 +24,7 @@ use Rattle.promises.proofs.Reaches.{program-reached, session-so-far}
 use Rattle.rules.specs.Trace.{Moment, momentOf, trace, stateAfter, CallMade, stepMade}
 use Rattle.histories.specs.Types.{TaskSlot, State}
 use Rattle.histories.specs.Moments.{onto, moments, hasMutex}
-use Rattle.histories.specs.Borrowed.{largest, givenAt, lastOf, lastGiven, lentAt, counted, due, PaysBack}
+use Rattle.histories.specs.Borrowed.{largest, givenAt, lastOf, lastGiven, lentAt, countedSince, due, PaysBack}
 use Rattle.histories.proofs.Largest.{largest-append, larger-none}
 use Rattle.histories.proofs.Fair.{Fair}
 use Rattle.histories.proofs.FairSteps.{step-fair}
@@ -35,7 +35,7 @@ record Accounts (k : State) (past : List (Moment CallMade)) : Type 0 where
   -- every task's own priority is the last given
   own : (t : TaskSlot) → isFree (taskAt (k .tasks) t .place) ≡ false → taskAt (k .tasks) t .own ≡ lastGiven t past
   -- the effective one of a task with a mutex is the largest of those counted
-  borrowed : (t : TaskSlot) → hasMutex k t ≡ true → level (k .tasks) t ≡ largest (counted t past)
+  borrowed : (t : TaskSlot) → hasMutex k t ≡ true → level (k .tasks) t ≡ largest (countedSince t past)
 
 -- the fresh kernel: idle alone, with 0
 fresh-own : (n : ℕ) → getD (fresh .tasks) n freeTask .own ≡ 0
@@ -68,15 +68,15 @@ module _ (k : State) (past : List (Moment CallMade)) (s : List ℕ) (m : CallMad
       go [] n = A .own t (F t .there e n)
       go (p ∷ ps) n = refl
 
-  borrowed-now : (t : TaskSlot) → hasMutex (now .gave .kernel) t ≡ true → level (now .gave .kernel .tasks) t ≡ largest (counted t (now ∷ past))
-  unfolding counted largest
+  borrowed-now : (t : TaskSlot) → hasMutex (now .gave .kernel) t ≡ true → level (now .gave .kernel .tasks) t ≡ largest (countedSince t (now ∷ past))
+  unfolding countedSince largest
   borrowed-now t e = go (hasMutex k t) refl
     where
-      go : (b : Bool) → hasMutex k t ≡ b → level (now .gave .kernel .tasks) t ≡ largest (if b then givenAt t now ++ (lentAt t now ++ counted t past) else level (k .tasks) t ∷ [])
+      go : (b : Bool) → hasMutex k t ≡ b → level (now .gave .kernel .tasks) t ≡ largest (if b then givenAt t now ++ (lentAt t now ++ countedSince t past) else level (k .tasks) t ∷ [])
       go true h =
           F t .kept e h
-          ∙ sym (largest-append (givenAt t now) (lentAt t now ++ counted t past)
-          ∙ ap (larger (largest (givenAt t now))) (largest-append (lentAt t now) (counted t past) ∙ ap (larger (largest (lentAt t now))) (sym (A .borrowed t h))))
+          ∙ sym (largest-append (givenAt t now) (lentAt t now ++ countedSince t past)
+          ∙ ap (larger (largest (givenAt t now))) (largest-append (lentAt t now) (countedSince t past) ∙ ap (larger (largest (lentAt t now))) (sym (A .borrowed t h))))
       go false h = F t .first e h ∙ sym (larger-none (level (k .tasks) t) .0)
 
   one-more : Accounts (now .gave .kernel) (now ∷ past)
@@ -99,7 +99,7 @@ module _ (ms : List CallMade) (t : TaskSlot) (there : Exists ((reached ms) .task
       ∙ A .own t (exists-there (taskAt ((reached ms) .tasks) t .place) there)
 
   -- "A task with one has the largest of" those counted since it went from none to one
-  pub with-mutex : hasMutex (reached ms) t ≡ true → level ((reached ms) .tasks) t ≡ largest (counted t (moments ms))
+  pub with-mutex : hasMutex (reached ms) t ≡ true → level ((reached ms) .tasks) t ≡ largest (countedSince t (moments ms))
   with-mutex e = A .borrowed t e
 
   -- both
@@ -107,7 +107,7 @@ module _ (ms : List CallMade) (t : TaskSlot) (there : Exists ((reached ms) .task
   unfolding due
   paid-back = go (hasMutex (reached ms) t) refl
     where
-      go : (b : Bool) → hasMutex (reached ms) t ≡ b → level ((reached ms) .tasks) t ≡ (if b then largest (counted t (moments ms)) else lastGiven t (moments ms))
+      go : (b : Bool) → hasMutex (reached ms) t ≡ b → level ((reached ms) .tasks) t ≡ (if b then largest (countedSince t (moments ms)) else lastGiven t (moments ms))
       go true e = with-mutex e
       go false e = without-mutex e
 

@@ -52,14 +52,14 @@ unfoldable pub lentAt : TaskSlot → Moment CallMade → List ℕ
 lentAt t m = map (level (m .gave .kernel .tasks)) (kept (lends t m) (tasksBelow 16))
 
 -- "the priority it had when it went from none to one, those given to it since, and, for each later moment .., the waiter's effective priority"
-unfoldable pub counted : TaskSlot → List (Moment CallMade) → List ℕ
-counted t [] = []
-counted t (m ∷ earlier) =
-    if hasMutex (m .before) t then givenAt t m ++ (lentAt t m ++ counted t earlier) else level (m .before .tasks) t ∷ []
+unfoldable pub countedSince : TaskSlot → List (Moment CallMade) → List ℕ
+countedSince t [] = []
+countedSince t (m ∷ earlier) =
+    if hasMutex (m .before) t then givenAt t m ++ (lentAt t m ++ countedSince t earlier) else level (m .before .tasks) t ∷ []
 
 -- "a task without a mutex has exactly the priority last given to it"; "A task with one has the largest of" those counted
 unfoldable pub due : State → List (Moment CallMade) → TaskSlot → ℕ
-due k past t = if hasMutex k t then largest (counted t past) else lastGiven t past
+due k past t = if hasMutex k t then largest (countedSince t past) else lastGiven t past
 
 -- a task that exists in k, which these calls reach, has the effective priority that their history says
 abbrev pub PaysBack : List CallMade → State → TaskSlot → Type 0

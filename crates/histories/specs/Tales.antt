@@ -22,8 +22,8 @@ shownAfter t past [] = []
 shownAfter t past (m ∷ ms) = shownIn t (m .gave .kernel) (m ∷ past) ∷ shownAfter t (m ∷ past) ms
 
 -- a call with an empty item and a store of zeros
-abbrev pub bare : Call → CallMade
-bare c = record { call = c; item = []; store = replicate 9216 0 }
+abbrev pub unlent : Call → CallMade
+unlent c = record { call = c; item = []; store = replicate 9216 0 }
 
 pub record Tale : Type 0 where
   pub task : TaskSlot
@@ -32,7 +32,7 @@ pub record Tale : Type 0 where
 
 -- from the fresh kernel
 abbrev pub shownBy : Tale → List (List ℕ)
-shownBy w = shownAfter (w .task) [] (trace stepMade fresh [] (map bare (w .calls)))
+shownBy w = shownAfter (w .task) [] (trace stepMade fresh [] (map unlent (w .calls)))
 
 -- kernel and history agree; there is no such task
 abbrev pub both : ℕ → List ℕ

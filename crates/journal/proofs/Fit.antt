@@ -10,7 +10,7 @@ use mir.Syntax.{w8}
 use mir.Val.{Fits}
 use Rattle.lists.specs.Choice.{if_then_else_}
 use Rattle.lists.specs.Lists.{any}
-use Rattle.calls.specs.Words.{Field, number, bytes, fieldsOf, isBytes, numbersIn, Small, noWords, frameOf}
+use Rattle.calls.specs.Words.{Field, aNumber, bytes, fieldsOf, isBytes, numbersIn, Small, noWords, frameOf}
 use Rattle.fields.specs.Hex.{Bytes}
 use Rattle.journal.specs.Types.{Call}
 use Rattle.journal.specs.Line.{carries, itsItem, AllFit, HasLine}
@@ -44,19 +44,19 @@ small-filled a w = small-sets noWords 0 a (omega arith, (omega arith, (omega ari
 
 fits-small : (b : List ℕ) (fs : List Field) → AllFit b fs → Small (numbersIn fs)
 fits-small b [] w = tt
-fits-small b (number n ∷ fs) w = (w .0, fits-small b fs (w .1))
+fits-small b (aNumber n ∷ fs) w = (w .0, fits-small b fs (w .1))
 fits-small b (bytes ∷ fs) w = fits-small b fs (w .1)
 
 fits-item : (b : List ℕ) (fs : List Field) → AllFit b fs → any isBytes fs ≡ true → (length b ≤ 64) × Bytes b
 unfolding any
 fits-item b [] w e = absurd (false≢true e)
-fits-item b (number n ∷ fs) w e = fits-item b fs (w .1) e
+fits-item b (aNumber n ∷ fs) w e = fits-item b fs (w .1) e
 fits-item b (bytes ∷ fs) w e = w .0
 
 all-fit : (b : List ℕ) (fs : List Field) → Small (numbersIn fs) → (any isBytes fs ≡ true → (length b ≤ 64) × Bytes b) → AllFit b fs
 unfolding any
 all-fit b [] w h = tt
-all-fit b (number n ∷ fs) w h = (w .0, all-fit b fs (w .1) h)
+all-fit b (aNumber n ∷ fs) w h = (w .0, all-fit b fs (w .1) h)
 all-fit b (bytes ∷ fs) w h = (h refl, all-fit b fs w (λ e. h refl))
 
 item-sent : (i : Bool) (b : List ℕ) → ItemFits i b → i ≡ true → (length b ≤ 64) × Bytes b

@@ -21,7 +21,7 @@ use Rattle.fields.proofs.Stores.{wrote-then}
 use Rattle.journal.specs.Types.{Call, Answer, TaskNo, Shape, Frame, Count, NotWritten}
 use Rattle.journal.specs.Line.{lineOf, carries, itsItem}
 use Rattle.journal.specs.Reply.{wordOf, reply, replyOf}
-use Rattle.journal.specs.Told.{count}
+use Rattle.journal.specs.Told.{wrote}
 use Rattle.journal.specs.Promise.{Writes, lineRefusal, itemRefusal, WritesAnswer}
 use Rattle.journal.specs.Writer.{tabbed, sentText, shapeText, frameText}
 use Rattle.journal.proofs.LineWords.{line-frame, item-frame}
@@ -115,7 +115,7 @@ written : (text l m : List ℕ) (r : ℕ) → length l ≡ 256 → length text �
 written text l m r h k w =
     let z : 0 + length text ≡ length text = omega arith in
     record {
-      answer = ap count (omega (arith, w .next));
+      answer = ap wrote (omega (arith, w .next));
       line = w .line ∙ sets-eq text l 0 (omega arith) ∙ ap (λ (n : ℕ). text ++ drop n l) z;
     }
 

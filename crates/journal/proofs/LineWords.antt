@@ -12,7 +12,7 @@ use Rattle.fields.specs.Decimal.{dec}
 use Rattle.fields.specs.Hex.{hex}
 use Rattle.fields.specs.Texts.{texts}
 use Rattle.journal.specs.Types.{Call, Shape}
-use Rattle.journal.specs.Line.{after, lineOf, carries}
+use Rattle.journal.specs.Line.{fieldsText, lineOf, carries}
 use Rattle.journal.specs.Writer.{tabbed, sentText, shapeText}
 
 -- the text with what comes after it, which computes in every row
@@ -42,9 +42,9 @@ rest-text b ws s =
     ∙ ap (λ (l : List ℕ). texts tabbed (take (s .before) ws) ++ l)
     (sent-text (s .item) b _ ∙ ap (λ (l : List ℕ). sentText (s .item) b ++ l) (tabs-texts (take (s .after) (drop (s .before) ws)) (10 ∷ [])))
 
-row-text : (b : List ℕ) (n : ℕ) (ws : List ℕ) → length ws ≡ 5 → after b (fieldsOf (callOf n ws)) ≡ rest b ws (shapeOf n)
+row-text : (b : List ℕ) (n : ℕ) (ws : List ℕ) → length ws ≡ 5 → fieldsText b (fieldsOf (callOf n ws)) ≡ rest b ws (shapeOf n)
 unfolding index any
-row-text b = by-row (λ c. after b (fieldsOf c)) (λ ws s. rest b ws s) (λ u v x y z. refl)
+row-text b = by-row (λ c. fieldsText b (fieldsOf c)) (λ ws s. rest b ws s) (λ u v x y z. refl)
 
 -- the line of a known frame is its call's
 pub frame-line : (n : ℕ) (ws b : List ℕ) → length ws ≡ 5 → shapeOf n .known ≡ true
@@ -52,7 +52,7 @@ pub frame-line : (n : ℕ) (ws b : List ℕ) → length ws ≡ 5 → shapeOf n .
 unfolding lineOf
 frame-line n ws b h k =
     ap (λ (l : List ℕ). dec n ++ l) (sym (rest-text b ws (shapeOf n)) ∙ sym (row-text b n ws h))
-    ∙ ap (λ (m : ℕ). dec m ++ after b (fieldsOf (callOf n ws))) (sym (row-number n ws k))
+    ∙ ap (λ (m : ℕ). dec m ++ fieldsText b (fieldsOf (callOf n ws))) (sym (row-number n ws k))
 
 pub row-carries : (n : ℕ) (ws : List ℕ) → length ws ≡ 5 → carries (callOf n ws) ≡ shapeOf n .item
 unfolding carries

@@ -11,15 +11,15 @@ use borrow.Author.Tests.{lt-ltb, le-ltb, ne-eqb}
 use Rattle.lists.specs.Lists.{index}
 use Rattle.calls.specs.Said.{Word, done, made, waiting, refused, Saying}
 use Rattle.calls.specs.Table.{called}
-use Rattle.calls.specs.Words.{Field, number, bytes, fieldsOf}
+use Rattle.calls.specs.Words.{Field, aNumber, bytes, fieldsOf}
 use Rattle.fields.specs.Decimal.{digits, dec}
 use Rattle.fields.specs.Hex.{hexDigit, hex}
 use Rattle.fields.specs.Texts.{texts}
 use Rattle.lists.proofs.Tests.{below-or}
 use Rattle.journal.specs.Types.{Call, TaskNo, Read}
-use Rattle.journal.specs.Line.{text, after, lineOf}
+use Rattle.journal.specs.Line.{text, fieldsText, lineOf}
 use Rattle.journal.specs.Reply.{wordOf, reply}
-use Rattle.journal.specs.Told.{refusal}
+use Rattle.journal.specs.Told.{refusedWith}
 use Rattle.journal.specs.Promise.{Tells, ReadsAs}
 
 abbrev pub isNewline : ℕ → Bool
@@ -107,19 +107,19 @@ word-clear waiting = refl
 word-clear refused = refl
 
 text-clear : (b : List ℕ) (x : Field) → Clear (text b x)
-text-clear b (number n) = dec-clear n
+text-clear b (aNumber n) = dec-clear n
 text-clear b bytes = hex-clear b
 
 -- ---- the lines
 
-after-ended : (b : List ℕ) (fs : List Field) → Ended (after b fs)
+after-ended : (b : List ℕ) (fs : List Field) → Ended (fieldsText b fs)
 unfolding index
 after-ended b [] = refl
-after-ended b (x ∷ fs) = ended-tab (text b x ++ after b fs) (ended-append (text b x) (after b fs) (text-clear b x) (after-ended b fs))
+after-ended b (x ∷ fs) = ended-tab (text b x ++ fieldsText b fs) (ended-append (text b x) (fieldsText b fs) (text-clear b x) (after-ended b fs))
 
 pub line-ended : (c : Call) (b : List ℕ) → Ended (lineOf c b)
 unfolding lineOf
-line-ended c b = ended-append (dec (called c .number)) (after b (fieldsOf c)) (dec-clear (called c .number)) (after-ended b (fieldsOf c))
+line-ended c b = ended-append (dec (called c .number)) (fieldsText b (fieldsOf c)) (dec-clear (called c .number)) (after-ended b (fieldsOf c))
 
 field-ended : (n : ℕ) (l : List ℕ) → Ended l → Ended (9 ∷ (dec n ++ l))
 field-ended n l e = ended-tab (dec n ++ l) (ended-append (dec n) l (dec-clear n) e)
@@ -132,7 +132,7 @@ reply-ended s t =
     (field-ended (s .number) task (field-ended (t .0) (10 ∷ []) refl))
 
 -- "a byte after its newline makes it refusal 3"
-pub more-refused : (c : Call) (b : List ℕ) (x : ℕ) (m : List ℕ) (r : Read) → ReadsAs (lineOf c b ++ (x ∷ m)) r → Tells r (refusal 3) []
+pub more-refused : (c : Call) (b : List ℕ) (x : ℕ) (m : List ℕ) (r : Read) → ReadsAs (lineOf c b ++ (x ∷ m)) r → Tells r (refusedWith 3) []
 more-refused c b x m r (inl f) =
     let l = lineOf c b in
     let e : index isNewline (l ++ (x ∷ m)) ≡ index isNewline l = ended-past l (x ∷ m) (omega (arith, line-ended c b)) in
@@ -140,6 +140,6 @@ more-refused c b x m r (inl f) =
 more-refused c b x m r (inr f) = f .tells
 
 -- "and so is a last line without a newline"
-pub cut-refused : (l : List ℕ) (r : Read) → Clear l → ReadsAs l r → Tells r (refusal 3) []
+pub cut-refused : (l : List ℕ) (r : Read) → Clear l → ReadsAs l r → Tells r (refusedWith 3) []
 cut-refused l r h (inl f) = absurd (omega (arith, ap (index isNewline) (f .line), ap length (f .line), line-ended (f .call) (f .item)))
 cut-refused l r h (inr f) = f .tells

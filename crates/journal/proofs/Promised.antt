@@ -11,7 +11,7 @@ use borrow.Author.Tests.{not-true, not-false}
 use Rattle.lists.proofs.Bools.{and-left, and-right}
 use Rattle.calls.specs.Table.{callOf}
 use Rattle.calls.specs.Words.{fieldsOf, numbersIn, Small, noWords, frameOf, shapeOf}
-use Rattle.calls.proofs.CallAgain.{known-below, row-numbers, shape-small, kept, call-again, frame-five}
+use Rattle.calls.proofs.CallAgain.{known-below, row-numbers, shape-small, wordsKept, call-again, frame-five}
 use Rattle.fields.specs.Decimal.{dec}
 use Rattle.fields.specs.Texts.{texts}
 use Rattle.fields.specs.Item.{filled}
@@ -22,7 +22,7 @@ use Rattle.journal.specs.Types.{Call, Item, Says, NoCall, Read, Place, N
 use Rattle.journal.specs.Line.{lineOf, carries, HasLine}
 use Rattle.journal.specs.Promise.{IsLine, NoLine, ReadsAs}
 use Rattle.journal.specs.Writer.{tabbed, sentText, shapeText}
-use Rattle.journal.specs.Reader.{numberAt, nums, sentAt, endOf, says, noCall, readEnd, readSent, readOf}
+use Rattle.journal.specs.Reader.{numberAt, nums, sentAt, endOf, readAs, noCall, readEnd, readSent, readOf}
 use Rattle.journal.proofs.LineWords.{frame-line, row-carries, line-frame, item-frame}
 use Rattle.journal.proofs.Fit.{small-append, small-take, small-drop, has-line, line-fits}
 use Rattle.journal.proofs.ReadSteps.{ItemFits, tabbed-stops, sent-stops, tabbed-halts, place-front, place-whole, Listed, nums-front, nums-whole, Sent, sent-front, sent-whole, end-front}
@@ -60,7 +60,7 @@ module _ (l : List ℕ) (p : Place) (f r : Numbers) (i : Item) where
 
   is-line : drop 0 l ≡ dec (p .value) ++ drop (p .next) l → Listed l (s .before) 0 noWords (p .next) f → Sent l (f .next) (s .item) i
       → Listed l (s .after) (s .before) (f .values) (i .next) r → drop (r .next) l ≡ 10 ∷ [] → s .known ≡ true
-      → IsLine l (says (callOf (p .value) (r .values)) (i .bytes) (i .len))
+      → IsLine l (readAs (callOf (p .value) (r .values)) (i .bytes) (i .len))
   is-line d a b c e k =
       let n = p .value in
       let vs = r .values in
@@ -88,7 +88,7 @@ still-left l j e = omega (arith, length-drop j l, ap length e)
 
 read-line : (l : List ℕ) (p : Place) (f r : Numbers) (i : Item) → p ≡ numberAt l 0 → f ≡ nums l (shapeOf (p .value) .before) 0 noWords (p .next)
     → i ≡ sentAt l (f .next) (shapeOf (p .value) .item) → r ≡ nums l (shapeOf (p .value) .after) (shapeOf (p .value) .before) (f .values) (i .next)
-    → shapeOf (p .value) .known ≡ true → endOf (drop (r .next) l) ≡ true → IsLine l (says (callOf (p .value) (r .values)) (i .bytes) (i .len))
+    → shapeOf (p .value) .known ≡ true → endOf (drop (r .next) l) ≡ true → IsLine l (readAs (callOf (p .value) (r .values)) (i .bytes) (i .len))
 read-line l p f r i ep ef ei er k e =
     let s = shapeOf (p .value) in
     let d = end-front (drop (r .next) l) e in
@@ -106,13 +106,13 @@ read-line l p f r i ep ef ei er k e =
 
 -- the end of a line that was read to its newline
 ended : (l : List ℕ) (n : ℕ) (s : Shape) (i : Item) (r : Numbers) (vs b : List ℕ) → s .known ≡ true → drop (r .next) l ≡ 10 ∷ []
-    → r .values ≡ vs → i .bytes ≡ filled b → i .len ≡ length b → readEnd l n s i r ≡ says (callOf n vs) (filled b) (length b)
+    → r .values ≡ vs → i .bytes ≡ filled b → i .len ≡ length b → readEnd l n s i r ≡ readAs (callOf n vs) (filled b) (length b)
 ended l n s i r vs b k e v x y =
-    let t : readEnd l n s i r ≡ says (callOf n (r .values)) (i .bytes) (i .len) = rw (k, e) in
+    let t : readEnd l n s i r ≡ readAs (callOf n (r .values)) (i .bytes) (i .len) = rw (k, e) in
     t
-    ∙ ap (λ (q : List ℕ). says (callOf n q) (i .bytes) (i .len)) v
-    ∙ ap (λ (q : List ℕ). says (callOf n vs) q (i .len)) x
-    ∙ ap (says (callOf n vs) (filled b)) y
+    ∙ ap (λ (q : List ℕ). readAs (callOf n q) (i .bytes) (i .len)) v
+    ∙ ap (λ (q : List ℕ). readAs (callOf n vs) q (i .len)) x
+    ∙ ap (readAs (callOf n vs) (filled b)) y
 
 module _ (l : List ℕ) (n : ℕ) (vs b : List ℕ) (h : length vs ≡ 5) (w : Small vs) (f : ItemFits (shapeOf n .item) b) (k : shapeOf n .known ≡ true) where
   abbrev shape : Shape
@@ -124,7 +124,7 @@ module _ (l : List ℕ) (n : ℕ) (vs b : List ℕ) (h : length vs ≡ 5) (w : S
   abbrev lasts : List ℕ
   lasts = take (shape .after) (drop (shape .before) vs)
 
-  rest-read : (at : ℕ) → drop at l ≡ shapeText shape vs b → readSent l n shape (nums l (shape .before) 0 noWords at) ≡ says (callOf n (kept shape vs)) (filled b) (length b)
+  rest-read : (at : ℕ) → drop at l ≡ shapeText shape vs b → readSent l n shape (nums l (shape .before) 0 noWords at) ≡ readAs (callOf n (wordsKept shape vs)) (filled b) (length b)
   unfolding among
   rest-read at e =
       let m = shape-small n in
@@ -138,10 +138,10 @@ module _ (l : List ℕ) (n : ℕ) (vs b : List ℕ) (h : length vs ≡ 5) (w : S
       let g = sent-whole l (p .next) (shape .item) b tail (a .1) f (tabbed-halts lasts) in
       let small = small-take (shape .after) (drop (shape .before) vs) (small-drop (shape .before) vs w) in
       let z = nums-whole l (shape .after) lasts (shape .before) (p .values) (i .next) (10 ∷ []) d (g .2) small refl in
-      ended l n shape i (nums l (shape .after) (shape .before) (p .values) (i .next)) (kept shape vs) b k (z .1)
+      ended l n shape i (nums l (shape .after) (shape .before) (p .values) (i .next)) (wordsKept shape vs) b k (z .1)
       (z .0 ∙ ap (λ (q : List ℕ). sets q (shape .before) lasts) (a .0)) (g .0) (g .1)
 
-  frame-read : n ≤ 4294967295 → l ≡ dec n ++ shapeText shape vs b → readOf l ≡ says (callOf n (kept shape vs)) (filled b) (length b)
+  frame-read : n ≤ 4294967295 → l ≡ dec n ++ shapeText shape vs b → readOf l ≡ readAs (callOf n (wordsKept shape vs)) (filled b) (length b)
   unfolding readOf among
   frame-read u e =
       let p = place-whole l 0 n (shapeText shape vs b) e u (tabbed-stops firsts _ (sent-stops (shape .item) b _ (tabbed-stops lasts (10 ∷ []) refl))) in
@@ -151,16 +151,16 @@ module _ (l : List ℕ) (n : ℕ) (vs b : List ℕ) (h : length vs ≡ 5) (w : S
 -- ---- the promise
 
 -- the round trip: the line of a call with its item is read as the call and the item
-pub line-read : (c : Call) (b : List ℕ) → HasLine c b → readOf (lineOf c b) ≡ says c (filled b) (length b)
+pub line-read : (c : Call) (b : List ℕ) → HasLine c b → readOf (lineOf c b) ≡ readAs c (filled b) (length b)
 line-read c b h =
     let n = frameOf c .number in
     let vs = frameOf c .words in
     let g = call-again c in
     let f = line-fits c b h in
     frame-read (lineOf c b) n vs b (frame-five c) (f .0) (rw (item-frame c) at (f .1)) (g .known) (omega (arith, known-below n (g .known))) (line-frame c b)
-    ∙ ap (λ (d : Call). says d (filled b) (length b)) (g .read)
+    ∙ ap (λ (d : Call). readAs d (filled b) (length b)) (g .read)
 
-said-not-none : (c : Call) (b : List ℕ) → says c (filled b) (length b) ≡ noCall → ⊥
+said-not-none : (c : Call) (b : List ℕ) → readAs c (filled b) (length b) ≡ noCall → ⊥
 unfolding noCall
 said-not-none c b e =
     let f : Says c ≡ NoCall 3 = ap (λ (r : Read). r .answer) e in
@@ -215,8 +215,8 @@ module _ (l : List ℕ) (p : Place) (s : Shape) (f : Numbers) (i : Item) (r : Nu
       let q : readEnd l (p .value) s i r ≡ noCall = rw n in
       rw (h ∙ sym q ∙ steps) (reads-as l)
 
-  pub call-read : (c : Call) → not b ≡ false → c ≡ callOf (p .value) (r .values) → ReadsAs l (says c (i .bytes) (i .len))
+  pub call-read : (c : Call) → not b ≡ false → c ≡ callOf (p .value) (r .values) → ReadsAs l (readAs c (i .bytes) (i .len))
   call-read c k h =
       let n : (s .known && endOf (drop (r .next) l)) ≡ true = rw (← ee, ← eb) (not-false b k) in
-      let q : readEnd l (p .value) s i r ≡ says (callOf (p .value) (r .values)) (i .bytes) (i .len) = rw n in
-      rw (ap (λ (d : Call). says d (i .bytes) (i .len)) h ∙ sym q ∙ steps) (reads-as l)
+      let q : readEnd l (p .value) s i r ≡ readAs (callOf (p .value) (r .values)) (i .bytes) (i .len) = rw n in
+      rw (ap (λ (d : Call). readAs d (i .bytes) (i .len)) h ∙ sym q ∙ steps) (reads-as l)

@@ -14,14 +14,14 @@ use Rattle.fields.specs.Decimal.{dec}
 use Rattle.fields.specs.Hex.{hex, Bytes}
 use Rattle.fields.specs.Texts.{texts}
 use Rattle.fields.specs.Digit.{among}
-use Rattle.fields.specs.Number.{number}
-use Rattle.fields.specs.Item.{byteOf, bytesOf, filled}
+use Rattle.fields.specs.Number.{readNumber}
+use Rattle.fields.specs.Item.{byteOf, bytesIn, filled}
 use Rattle.fields.proofs.LinePlaces.{past, within}
 use Rattle.fields.proofs.Digits.{number-front, number-whole, Stops}
 use Rattle.fields.proofs.Pairs.{hex-length, item-front, bytes-fit, bytes-whole, tab-stops}
 use Rattle.journal.specs.Types.{Number, Got, Missing, Item, Place, Numbers}
 use Rattle.journal.specs.Writer.{tabbed, sentText}
-use Rattle.journal.specs.Reader.{tabIn, afterTab, placeOf, numberAt, nums, sentAt, endOf}
+use Rattle.journal.specs.Reader.{tabIn, afterTab, placeIn, numberAt, nums, sentAt, endOf}
 
 -- the item that goes with a shape: 0 to 64 bytes, or none
 abbrev pub ItemFits : Bool → List ℕ → Type 0
@@ -66,17 +66,17 @@ module _ (line : List ℕ) where
 
   pub place-front : (at : ℕ) → numberAt line at .next < length line
       → (drop at line ≡ dec (numberAt line at .value) ++ drop (numberAt line at .next) line) × (numberAt line at .value ≤ 4294967295)
-  place-front at = go (number at (drop at line)) refl
+  place-front at = go (readNumber at (drop at line)) refl
     where
-      go : (x : Number) → number at (drop at line) ≡ x → placeOf (length line) x .next < length line
-          → (drop at line ≡ dec (placeOf (length line) x .value) ++ drop (placeOf (length line) x .next) line) × (placeOf (length line) x .value ≤ 4294967295)
+      go : (x : Number) → readNumber at (drop at line) ≡ x → placeIn (length line) x .next < length line
+          → (drop at line ≡ dec (placeIn (length line) x .value) ++ drop (placeIn (length line) x .next) line) × (placeIn (length line) x .value ≤ 4294967295)
       go (Got w j) e h = number-front line at w j e
       go Missing e h = absurd (omega arith)
 
   pub place-whole : (at n : ℕ) (r : List ℕ) → drop at line ≡ dec n ++ r → n ≤ 4294967295 → Stops r
       → (numberAt line at .value ≡ n) × (drop (numberAt line at .next) line ≡ r)
   place-whole at n r e h s =
-      let g : number at (drop at line) ≡ Got n (at + length (dec n)) = rw e (number-whole n at r h s) in
+      let g : readNumber at (drop at line) ≡ Got n (at + length (dec n)) = rw e (number-whole n at r h s) in
       (rw g, rw g (past line at (dec n) r e))
 
   -- ---- numbers, each after a tab
@@ -152,7 +152,7 @@ module _ (line : List ℕ) where
   sent-front at false l = record { b = []; bytes = refl; len = refl; front = refl; fits = refl }
   sent-front at true l =
       let tab = afterTab line at in
-      let b = bytesOf 64 (drop tab line) in
+      let b = bytesIn 64 (drop tab line) in
       let f = item-front line tab in
       let t = tab-front at (within line tab (hex b) (tab + 2 * length b) f l) in
       record { b = b; bytes = refl; len = refl; front = t ∙ ap (λ (q : List ℕ). 9 ∷ q) f; fits = bytes-fit 64 (drop tab line) }
@@ -163,7 +163,7 @@ module _ (line : List ℕ) where
   sent-whole at true b r e w s =
       let tab = afterTab line at in
       let t = tab-whole at (hex b ++ r) e in
-      let g : bytesOf 64 (drop tab line) ≡ b = rw (t .1) (bytes-whole b 64 r (w .1) (w .0) s) in (
+      let g : bytesIn 64 (drop tab line) ≡ b = rw (t .1) (bytes-whole b 64 r (w .1) (w .0) s) in (
         ap filled g,
         ap length g,
         ap (λ (m : List ℕ). drop (tab + 2 * length m) line) g

@@ -16,9 +16,9 @@ use Rattle.calls.proofs.CallAgain.{call-again}
 use Rattle.fields.specs.Item.{filled}
 use Rattle.journal.specs.Types.{Call, Answer, TaskNo, Reading, Says, NoCall, Read, Written, Count, NotWritten}
 use Rattle.journal.specs.Line.{lineOf, HasLine}
-use Rattle.journal.specs.Told.{Told, aCall, refusal, count, reads, writes}
+use Rattle.journal.specs.Told.{Told, tellsCall, refusedWith, wrote, reads, writes}
 use Rattle.journal.specs.Promise.{Tells, IsLine, NoLine, ReadsAs, Writes, lineRefusal, itemRefusal, WritesCall, WritesAnswer}
-use Rattle.journal.specs.Reader.{says, readOf}
+use Rattle.journal.specs.Reader.{readAs, readOf}
 use Rattle.journal.proofs.Fit.{item-long}
 use Rattle.journal.proofs.Promised.{line-read, reads-as}
 use Rattle.journal.proofs.LineStores.{line-short}
@@ -26,9 +26,9 @@ use Rattle.journal.proofs.LineStores.{line-short}
 -- ---- the answers by what they say
 
 reading : Told → Reading
-reading (aCall w) = Says (callOf (w .number) (sets noWords 0 (numbersIn (map fieldOf (w .arguments)))))
-reading (refusal n) = NoCall n
-reading (count n) = NoCall n
+reading (tellsCall w) = Says (callOf (w .number) (sets noWords 0 (numbersIn (map fieldOf (w .arguments)))))
+reading (refusedWith n) = NoCall n
+reading (wrote n) = NoCall n
 
 reading-again : (x : Reading) → reading (reads x) ≡ x
 unfolding reading
@@ -39,9 +39,9 @@ pub one-reading : (x y : Reading) → reads x ≡ reads y → x ≡ y
 one-reading x y e = sym (reading-again x) ∙ ap reading e ∙ reading-again y
 
 written : Told → Written
-written (aCall w) = Count 0
-written (refusal n) = NotWritten n
-written (count n) = Count n
+written (tellsCall w) = Count 0
+written (refusedWith n) = NotWritten n
+written (wrote n) = Count n
 
 written-again : (x : Written) → written (writes x) ≡ x
 unfolding written
@@ -65,12 +65,12 @@ tells-one r s t b f g =
 -- the reader's promise gives the one answer that the steps compute
 pub read-is : (l : List ℕ) (r : Read) → ReadsAs l r → r ≡ readOf l
 read-is l r (inl f) =
-    tells-one r (says (f .call) (filled (f .item)) (length (f .item))) (aCall (called (f .call))) (f .item) (f .tells) record { answer = refl; bytes = refl; len = refl }
+    tells-one r (readAs (f .call) (filled (f .item)) (length (f .item))) (tellsCall (called (f .call))) (f .item) (f .tells) record { answer = refl; bytes = refl; len = refl }
     ∙ sym (line-read (f .call) (f .item) (f .has))
     ∙ ap readOf (sym (f .line))
 read-is l r (inr f) =
     ⊎-elim (λ (g : IsLine l (readOf l)). absurd (f .none (g .call) (g .item) (g .has) (g .line)))
-    (λ (g : NoLine l (readOf l)). tells-one r (readOf l) (refusal 3) [] (f .tells) (g .tells))
+    (λ (g : NoLine l (readOf l)). tells-one r (readOf l) (refusedWith 3) [] (f .tells) (g .tells))
     (reads-as l)
 
 pub no-second-reading : (l : List ℕ) (r s : Read) → ReadsAs l r → ReadsAs l s → r ≡ s
@@ -88,7 +88,7 @@ no-second-answer a t l = no-second _ _ l
 -- ---- the round trip
 
 -- reading the line of a call gives the call and its item
-pub round-trip : (c : Call) (b : List ℕ) (r : Read) → HasLine c b → ReadsAs (lineOf c b) r → Tells r (aCall (called c)) b
+pub round-trip : (c : Call) (b : List ℕ) (r : Read) → HasLine c b → ReadsAs (lineOf c b) r → Tells r (tellsCall (called c)) b
 round-trip c b r h f = rw (read-is (lineOf c b) r f ∙ line-read c b h) record { answer = refl; bytes = refl; len = refl }
 
 taken-back : (z b : List ℕ) → length b ≤ length z → take (length b) (sets z 0 b) ≡ b
@@ -112,7 +112,7 @@ same-call c d e = ap back e
 -- no two calls have one line
 pub one-call : (c d : Call) (a b : List ℕ) → HasLine c a → HasLine d b → lineOf c a ≡ lineOf d b → (c ≡ d) × (a ≡ b)
 one-call c d a b h k e =
-    let r : says c (filled a) (length a) ≡ says d (filled b) (length b) = sym (line-read c a h) ∙ ap readOf e ∙ line-read d b k in
+    let r : readAs c (filled a) (length a) ≡ readAs d (filled b) (length b) = sym (line-read c a h) ∙ ap readOf e ∙ line-read d b k in
     let n : length a ≡ length b = ap (λ (x : Read). x .len) r in
     let f : filled a ≡ filled b = ap (λ (x : Read). x .item) r in
     let g : Says c ≡ Says d = ap (λ (x : Read). x .answer) r in (
@@ -126,19 +126,19 @@ one-call c d a b h k e =
 -- ---- a call that code holds: the writer's promise says that it has a line, so nothing is left to assume
 
 isCall : Told → Bool
-isCall (aCall w) = true
-isCall (refusal n) = false
-isCall (count n) = false
+isCall (tellsCall w) = true
+isCall (refusedWith n) = false
+isCall (wrote n) = false
 
 isCount : Told → Bool
-isCount (count n) = true
-isCount (aCall w) = false
-isCount (refusal n) = false
+isCount (wrote n) = true
+isCount (tellsCall w) = false
+isCount (refusedWith n) = false
 
 numberIn : Told → ℕ
-numberIn (count n) = n
-numberIn (aCall w) = 0
-numberIn (refusal n) = n
+numberIn (wrote n) = n
+numberIn (tellsCall w) = 0
+numberIn (refusedWith n) = n
 
 -- a writer that counted has refused nothing ..
 pub record Counted (k : ℕ) (text l : List ℕ) (n : ℕ) (m : List ℕ) : Type 0 where
@@ -146,11 +146,11 @@ pub record Counted (k : ℕ) (text l : List ℕ) (n : ℕ) (m : List ℕ) : Type
   pub long : n ≡ length text
   pub line : m ≡ text ++ drop (length text) l
 
-pub counted : (k : ℕ) (text l : List ℕ) (n : ℕ) (m : List ℕ) → Writes k text l (Count n) m → Counted k text l n m
+pub written-counted : (k : ℕ) (text l : List ℕ) (n : ℕ) (m : List ℕ) → Writes k text l (Count n) m → Counted k text l n m
 unfolding isCount numberIn
-counted k text l n m f = go (eqb k 0) refl (f .answer) (f .line)
+written-counted k text l n m f = go (eqb k 0) refl (f .answer) (f .line)
   where
-    go : (z : Bool) → eqb k 0 ≡ z → count n ≡ (if z then count (length text) else refusal k) → m ≡ (if z then text ++ drop (length text) l else l)
+    go : (z : Bool) → eqb k 0 ≡ z → wrote n ≡ (if z then wrote (length text) else refusedWith k) → m ≡ (if z then text ++ drop (length text) l else l)
         → Counted k text l n m
     go true e a b = record { none = eqb-true k 0 e; long = ap numberIn a; line = b }
     go false e a b = absurd (false≢true (sym (ap isCount a)))
@@ -160,7 +160,7 @@ pub turned-away : (k : ℕ) (text l : List ℕ) (n : ℕ) (m : List ℕ) → Wri
 unfolding isCount numberIn
 turned-away k text l n m f = go (eqb k 0) refl (f .answer)
   where
-    go : (z : Bool) → eqb k 0 ≡ z → refusal n ≡ (if z then count (length text) else refusal k) → (eqb k 0 ≡ false) × (n ≡ k)
+    go : (z : Bool) → eqb k 0 ≡ z → refusedWith n ≡ (if z then wrote (length text) else refusedWith k) → (eqb k 0 ≡ false) × (n ≡ k)
     go true e a = absurd (false≢true (ap isCount a))
     go false e a = (e, ap numberIn a)
 
@@ -183,7 +183,7 @@ pub record AsWritten (c : Call) (b l : List ℕ) (n : ℕ) (m : List ℕ) : Type
 pub as-written : (c : Call) (b l : List ℕ) (n : ℕ) (m : List ℕ) → WritesCall c b l (Count n) m → AsWritten c b l n m
 as-written c b l n m f =
     let t = lineOf c b in
-    let g = counted _ t l n m (f .written) in
+    let g = written-counted _ t l n m (f .written) in
     record {
       none = g .none;
       has = f .has (omega (arith, within-64 l b (g .none)));
@@ -193,7 +193,7 @@ as-written c b l n m f =
 
 -- "reading it gives back the call": what the writer counted is read as the call itself and its item
 pub written-reads-back : (c : Call) (b l : List ℕ) (n : ℕ) (m : List ℕ) (r : Read) → WritesCall c b l (Count n) m → ReadsAs (take n m) r
-    → (r .answer ≡ Says c) × Tells r (aCall (called c)) b
+    → (r .answer ≡ Says c) × Tells r (tellsCall (called c)) b
 written-reads-back c b l n m r f g =
     let w = as-written c b l n m f in
     let t = round-trip c b r (w .has) (rw (w .front) at g) in
@@ -204,7 +204,7 @@ pub always-written : (c : Call) (b l : List ℕ) (w : Written) (m : List ℕ) �
 always-written c b l w m h k f = one-written w (Count (length (lineOf c b))) (rw (eq-eqb (length l) 256 h, le-ltb 64 (length b) k) at (f .written .answer))
 
 -- .. no other line is read as it ..
-pub one-line : (c : Call) (b l : List ℕ) (r : Read) → ReadsAs l r → Tells r (aCall (called c)) b → l ≡ lineOf c b
+pub one-line : (c : Call) (b l : List ℕ) (r : Read) → ReadsAs l r → Tells r (tellsCall (called c)) b → l ≡ lineOf c b
 unfolding isCall
 one-line c b l r (inl f) t =
     let p : Says (f .call) ≡ Says c = one-reading (Says (f .call)) (Says c) (sym (f .tells .answer) ∙ t .answer) in
@@ -228,6 +228,6 @@ pub line-within : (c : Call) (b : List ℕ) → HasLine c b → length (lineOf c
 line-within c b h = line-short c b (λ e. item-long c b h)
 
 -- "a longer line is one refusal 3"
-pub long-refused : (l : List ℕ) (r : Read) → 256 < length l → ReadsAs l r → Tells r (refusal 3) []
+pub long-refused : (l : List ℕ) (r : Read) → 256 < length l → ReadsAs l r → Tells r (refusedWith 3) []
 long-refused l r n (inl f) = absurd (omega (arith, ap length (f .line), line-within (f .call) (f .item) (f .has)))
 long-refused l r n (inr f) = f .tells

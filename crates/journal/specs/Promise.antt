@@ -11,7 +11,7 @@ use Rattle.fields.specs.Item.{filled}
 use Rattle.journal.specs.Types.{Call, Answer, TaskNo, Read, Written}
 use Rattle.journal.specs.Line.{lineOf, HasLine}
 use Rattle.journal.specs.Reply.{replyOf}
-use Rattle.journal.specs.Told.{Told, aCall, refusal, count, reads, writes}
+use Rattle.journal.specs.Told.{Told, tellsCall, refusedWith, wrote, reads, writes}
 
 -- what was read says t, with the bytes b
 pub record Tells (r : Read) (t : Told) (b : List ℕ) : Type 0 where
@@ -25,12 +25,12 @@ pub record IsLine (l : List ℕ) (r : Read) : Type 0 where
   pub item : List ℕ
   pub has : HasLine call item
   pub line : l ≡ lineOf call item
-  pub tells : Tells r (aCall (called call)) item
+  pub tells : Tells r (tellsCall (called call)) item
 
 -- refusal 3: "the line is no call's line"
 pub record NoLine (l : List ℕ) (r : Read) : Type 0 where
   pub none : (c : Call) (b : List ℕ) → HasLine c b → l ≡ lineOf c b → ⊥
-  pub tells : Tells r (refusal 3) []
+  pub tells : Tells r (refusedWith 3) []
 
 -- the reader's promise: a call's line is read as the call, and any other line is refused
 abbrev pub ReadsAs : List ℕ → Read → Type 0
@@ -39,7 +39,7 @@ ReadsAs l r = IsLine l r ⊎ NoLine l r
 -- a refusal that is not 0 is answered, and the lent line l stays; else the text stands in its first bytes, "A writer leaves the bytes
 -- after the newline as they were", and the answer counts what was written. m is the lent line afterwards
 pub record Writes (n : ℕ) (text l : List ℕ) (w : Written) (m : List ℕ) : Type 0 where
-  pub answer : writes w ≡ if eqb n 0 then count (length text) else refusal n
+  pub answer : writes w ≡ if eqb n 0 then wrote (length text) else refusedWith n
   pub line : m ≡ if eqb n 0 then text ++ drop (length text) l else l
 
 -- 2: "for a line's writer, the lent line is not 256 bytes"; else n, for "the one that stands first in this table is given"

@@ -11,8 +11,8 @@ use Rattle.lists.specs.Choice.{if_then_else_}
 use Rattle.lists.specs.Lists.{isNone}
 use Rattle.calls.specs.Table.{callOf}
 use Rattle.calls.specs.Words.{noWords, shapeOf}
-use Rattle.fields.specs.Number.{number}
-use Rattle.fields.specs.Item.{item}
+use Rattle.fields.specs.Number.{readNumber}
+use Rattle.fields.specs.Item.{readItem}
 use Rattle.journal.specs.Types.{Call, Number, Got, Missing, Item, Says, NoCall, Read, Place, Numbers, Shape}
 
 -- l is left at a place of a line of n bytes: the place after a tab
@@ -23,12 +23,12 @@ tabIn n at (x ∷ l) = if eqb x 9 then at + 1 else n
 abbrev pub afterTab : List ℕ → ℕ → ℕ
 afterTab l at = tabIn (length l) at (drop at l)
 
-abbrev pub placeOf : ℕ → Number → Place
-placeOf n (Got v j) = record { value = v; next = j }
-placeOf n Missing = record { value = 0; next = n }
+abbrev pub placeIn : ℕ → Number → Place
+placeIn n (Got v j) = record { value = v; next = j }
+placeIn n Missing = record { value = 0; next = n }
 
 abbrev pub numberAt : List ℕ → ℕ → Place
-numberAt l at = placeOf (length l) (number at (drop at l))
+numberAt l at = placeIn (length l) (readNumber at (drop at l))
 
 -- k numbers, each after a tab, into the values from i on
 unfoldable pub nums : List ℕ → ℕ → ℕ → List ℕ → ℕ → Numbers
@@ -36,7 +36,7 @@ nums l zero i vs at = record { values = vs; next = at }
 nums l (suc k) i vs at = nums l k (i + 1) (set vs i (numberAt l (afterTab l at) .value)) (numberAt l (afterTab l at) .next)
 
 abbrev pub sentAt : List ℕ → ℕ → Bool → Item
-sentAt l at true = item (afterTab l at) (drop (afterTab l at) l)
+sentAt l at true = readItem (afterTab l at) (drop (afterTab l at) l)
 sentAt l at false = record { bytes = replicate 64 0; len = 0; next = at }
 
 -- a newline and no more
@@ -44,15 +44,15 @@ abbrev pub endOf : List ℕ → Bool
 endOf [] = false
 endOf (x ∷ l) = if eqb x 10 then isNone l else false
 
-abbrev pub says : Call → List ℕ → ℕ → Read
-says c bs m = record { answer = Says c; item = bs; len = m }
+abbrev pub readAs : Call → List ℕ → ℕ → Read
+readAs c bs m = record { answer = Says c; item = bs; len = m }
 
 unfoldable pub noCall : Read
 noCall = record { answer = NoCall 3; item = replicate 64 0; len = 0 }
 
 -- the number n, the shape s, the numbers f before the item, the item i and the numbers r after it were read
 abbrev pub readEnd : List ℕ → ℕ → Shape → Item → Numbers → Read
-readEnd l n s i r = if s .known && endOf (drop (r .next) l) then says (callOf n (r .values)) (i .bytes) (i .len) else noCall
+readEnd l n s i r = if s .known && endOf (drop (r .next) l) then readAs (callOf n (r .values)) (i .bytes) (i .len) else noCall
 
 abbrev pub readLast : List ℕ → ℕ → Shape → Numbers → Item → Read
 readLast l n s f i = readEnd l n s i (nums l (s .after) (s .before) (f .values) (i .next))

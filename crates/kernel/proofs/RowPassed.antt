@@ -12,7 +12,7 @@ use Rattle.rows.specs.Asking.{makes}
 use Rattle.rules.specs.Refusals.{newSlot}
 use Rattle.rows.specs.Applies.{sizeDiffers, firstRow, table}
 use Rattle.rules.specs.Refusals.{seen, laterRow}
-use Rattle.rules.proofs.RowPasses.{Passed, passed, InRange, range, send-sized, hold-fits, release-fits, tick-fits}
+use Rattle.rules.proofs.RowPasses.{Passed, passed, InRange, in-range-of, send-sized, hold-fits, release-fits, tick-fits}
 use Rattle.kernel.specs.Types.{Kernel}
 use Rattle.kernel.specs.Stands.{shown}
 use Rattle.kernel.specs.Does.{Reads, Firm}
@@ -32,7 +32,7 @@ module _ (k : Kernel) (F : Firm k) (a : Asked) (item store : ℕ) (e : laterRow 
   P = passed (shown k) a item store e
 
   pub in-range : InRange a
-  in-range = range a (P .in-range)
+  in-range = in-range-of a (P .in-range)
 
   pub whole : store ≡ 9216
   whole = P .whole

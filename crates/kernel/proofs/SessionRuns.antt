@@ -28,7 +28,7 @@ use Rattle.journal.proofs.LineStores.{reply-short}
 use Rattle.journal.proofs.Theorems.{read-is, len-within}
 use Rattle.cuts.specs.declared.Cut.{Cut}
 use Rattle.cuts.specs.declared.Stop.{Stop}
-use Rattle.cuts.specs.Keeping.{cutOf, kept, ended, isEmpty, Gathered, gathered, Gathers}
+use Rattle.cuts.specs.Keeping.{cutOf, withByte, ended, isBlank, Gathered, gathered, Gathers}
 use Rattle.cuts.proofs.Gathering.{gathered-newline, gathered-other, one-on}
 use Rattle.rules.specs.State.{State}
 use Rattle.rules.specs.Sound.{sound}
@@ -92,9 +92,9 @@ read-as : (k : Kernel) (s : List ℕ) (r : Read) (t : Reading) (d : Stepped) (q 
 read-as k s r t d q after e f = subst (λ (x : Stepped). Is k x q after) (sym (ap (λ (x : Reading). stepTold (shown k) s x (itemOf r)) e ∙ f))
 
 -- a number that is not 0 is given before the call is looked at
-pub line-refused : (k : Kernel) (s : List ℕ) (r : Read) (fine : Bool) (n : ℕ) → fine ≡ sound (shown k) → (sound (shown k) ≡ true → k ≡ kernelOf (shown k))
+pub line-turned-away : (k : Kernel) (s : List ℕ) (r : Read) (fine : Bool) (n : ℕ) → fine ≡ sound (shown k) → (sound (shown k) ≡ true → k ≡ kernelOf (shown k))
     → n ≡ beforeCall (r .answer) fine (length s) → (n ≡ 0 → ⊥) → Is k (stepRead (shown k) s r) record { kernel = k; answer = NotDone n } s
-line-refused k s r fine n e stands g h = go (r .answer) refl fine (sym e) g
+line-turned-away k s r fine n e stands g h = go (r .answer) refl fine (sym e) g
   where
     away : (t : Reading) → r .answer ≡ t → stepTold (shown k) s t (itemOf r) ≡ turnedAway (shown k) n s → Is k (stepRead (shown k) s r) record { kernel = k; answer = NotDone n } s
     away t p q = read-as k s r t (turnedAway (shown k) n s) record { kernel = k; answer = NotDone n } s p q record { kernel = stays-standing k stands; answer = refl; store = refl }
@@ -141,9 +141,9 @@ told-stays k s (Says c) item e = ap (λ (x : Stepped). x .kernel) (step-by false
 abbrev under : ℕ → State → List ℕ → Cut → List ℕ → Run
 under i k s c a = record { taken = i; kernel = k; store = s; cut = c; answers = a }
 
-other-byte : (i : ℕ) (k : State) (s : List ℕ) (c : Cut) (a : List ℕ) (b : ℕ) → eqb b 10 ≡ false → fed (under i k s c a) b ≡ under (i + 1) k s (kept c b) a
+other-byte : (i : ℕ) (k : State) (s : List ℕ) (c : Cut) (a : List ℕ) (b : ℕ) → eqb b 10 ≡ false → fed (under i k s c a) b ≡ under (i + 1) k s (withByte c b) a
 unfolding fed
-other-byte i k s c a b e = ap (λ (t : Bool). if t then answeredBy (under i k s c a) (kept c b) (lineStep k s (kept c b)) else under (i + 1) k s (kept c b) a) e
+other-byte i k s c a b e = ap (λ (t : Bool). if t then answeredBy (under i k s c a) (withByte c b) (lineStep k s (withByte c b)) else under (i + 1) k s (withByte c b) a) e
 
 run-other : (n : ℕ) (r : Run) (b : ℕ) (l : List ℕ) → eqb b 10 ≡ false → run n r (b ∷ l) ≡ run n (fed r b) l
 unfolding run noRoom
@@ -154,12 +154,12 @@ run-gathered : (block l : List ℕ) (n i : ℕ) (k : State) (s : List ℕ) (c : 
     → run n (under i k s c a) l ≡ run n (under (gathered i c l .next) k s (gathered i c l .cut) a) (drop (gathered i c l .next) block)
 unfolding gathered
 run-gathered block [] n i k s c a d = ap (run n (under i k s c a)) (sym d)
-run-gathered block (b ∷ l) n i k s c a d = go (eqb b 10) refl (run-gathered block l n (i + 1) k s (kept c b) a (one-on block l i b d))
+run-gathered block (b ∷ l) n i k s c a d = go (eqb b 10) refl (run-gathered block l n (i + 1) k s (withByte c b) a (one-on block l i b d))
   where
     from : Gathered → Run
     from g = run n (under (g .next) k s (g .cut) a) (drop (g .next) block)
 
-    go : (t : Bool) → eqb b 10 ≡ t → run n (under (i + 1) k s (kept c b) a) l ≡ from (gathered (i + 1) (kept c b) l)
+    go : (t : Bool) → eqb b 10 ≡ t → run n (under (i + 1) k s (withByte c b) a) l ≡ from (gathered (i + 1) (withByte c b) l)
         → run n (under i k s c a) (b ∷ l) ≡ from (gathered i c (b ∷ l))
     go true e h = ap (run n (under i k s c a)) (sym d) ∙ ap from (sym (gathered-newline i c b l e))
     go false e h =
@@ -175,7 +175,7 @@ run-full n r l h = ap (λ (t : Bool). if t then r else run n (fed r 10) l) (lt-l
 
 -- at a newline that is answered
 run-line : (n i : ℕ) (k : State) (s : List ℕ) (c : Cut) (a l : List ℕ) → length a + 256 ≤ n
-    → run n (under i k s c a) (10 ∷ l) ≡ run n (answeredBy (under i k s c a) (kept c 10) (lineStep k s (kept c 10))) l
+    → run n (under i k s c a) (10 ∷ l) ≡ run n (answeredBy (under i k s c a) (withByte c 10) (lineStep k s (withByte c 10))) l
 unfolding run noRoom fed
 run-line n i k s c a l h =
     ap (λ (t : Bool). if t then under i k s c a else run n (fed (under i k s c a) 10) l) (le-ltb n (length a + 256) h)
@@ -189,8 +189,8 @@ either-way false b x y = refl
 -- ---- the loop over the lines of a block
 
 -- a line's bytes stay as many as there is room for
-kept-wide : (c : Cut) (b : ℕ) → length (kept c b .bytes) ≡ length (c .bytes)
-unfolding kept
+kept-wide : (c : Cut) (b : ℕ) → length (withByte c b .bytes) ≡ length (c .bytes)
+unfolding withByte
 kept-wide c b = go (ltb (c .len) 256)
   where
     go : (t : Bool) → length ((if t then cutOf (set (c .bytes) (c .len) b) (c .len + 1) else cutOf (c .bytes) 257) .bytes) ≡ length (c .bytes)
@@ -200,14 +200,14 @@ kept-wide c b = go (ltb (c .len) 256)
 gathered-wide : (i : ℕ) (c : Cut) (l : List ℕ) → length (gathered i c l .cut .bytes) ≡ length (c .bytes)
 unfolding gathered
 gathered-wide i c [] = refl
-gathered-wide i c (b ∷ l) = go (eqb b 10) (gathered-wide (i + 1) (kept c b) l ∙ kept-wide c b)
+gathered-wide i c (b ∷ l) = go (eqb b 10) (gathered-wide (i + 1) (withByte c b) l ∙ kept-wide c b)
   where
-    go : (t : Bool) → length (gathered (i + 1) (kept c b) l .cut .bytes) ≡ length (c .bytes)
-        → length ((if t then record { next = i; cut = c; newline = true } else gathered (i + 1) (kept c b) l) .cut .bytes) ≡ length (c .bytes)
+    go : (t : Bool) → length (gathered (i + 1) (withByte c b) l .cut .bytes) ≡ length (c .bytes)
+        → length ((if t then record { next = i; cut = c; newline = true } else gathered (i + 1) (withByte c b) l) .cut .bytes) ≡ length (c .bytes)
     go true h = refl
     go false h = h
 
-pub keeps-wide : (bytes after : List ℕ) (len n b : ℕ) → length bytes ≡ 256 → cutOf after n ≡ kept (cutOf bytes len) b → length after ≡ 256
+pub keeps-wide : (bytes after : List ℕ) (len n b : ℕ) → length bytes ≡ 256 → cutOf after n ≡ withByte (cutOf bytes len) b → length after ≡ 256
 keeps-wide bytes after len n b w e = ap (λ (c : Cut). length (c .bytes)) e ∙ kept-wide (cutOf bytes len) b ∙ w
 
 -- what is left of the block, run on from here, gives the whole run; the answers so far stand in the output
@@ -227,9 +227,9 @@ set-out lent block fine k s c w e f =
     record { answers = []; within = omega arith; wide = w; wrote = wrote-none lent 0; known = e; same = refl; stand = stays-standing k (λ q. f (e ∙ q)); goes = refl }
 
 -- the kernel value stands for a state, if it is sound
-pub stands-on : {k₀ : Kernel} {whole : Run} {lent block : List ℕ} {fine : Bool} {k : Kernel} {s bytes : List ℕ} {len at written : ℕ} {out : List ℕ}
+pub session-stands : {k₀ : Kernel} {whole : Run} {lent block : List ℕ} {fine : Bool} {k : Kernel} {s bytes : List ℕ} {len at written : ℕ} {out : List ℕ}
     → Going k₀ whole lent block fine k s bytes len at written out → sound (shown k) ≡ true → k ≡ kernelOf (shown k)
-stands-on {k₀} {k = k} w e = w .stand ∙ ap (λ (b : Bool). if b then kernelOf (shown k) else k₀) (sym (w .same) ∙ e)
+session-stands {k₀} {k = k} w e = w .stand ∙ ap (λ (b : Bool). if b then kernelOf (shown k) else k₀) (sym (w .same) ∙ e)
 
 -- where the answers end
 pub so-far : {k₀ : Kernel} {whole : Run} {lent block : List ℕ} {fine : Bool} {k : Kernel} {s bytes : List ℕ} {len at written : ℕ} {out : List ℕ}
@@ -300,7 +300,7 @@ module _ {k₀ : Kernel} {whole : Run} {lent block : List ℕ} {fine : Bool} {k 
 
   -- a line is answered
   module _ (cut : Cut) (q : Step) (after : List ℕ) (room-next : ℕ) (told-out : List ℕ)
-      (keeps : cut ≡ kept (cutOf bytes len) 10)
+      (keeps : cut ≡ withByte (cutOf bytes len) 10)
       (is : Is k (stepRead (shown k) s (readCut cut)) q after)
       (wrote : Wrote out written (replyOf (q .answer) (taskNo (q .kernel .running))) room-next told-out)
       (room : 256 ≤ length out - written) (ends : drop at block ≡ 10 ∷ drop (at + 1) block) where
@@ -310,7 +310,7 @@ module _ {k₀ : Kernel} {whole : Run} {lent block : List ℕ} {fine : Bool} {k 
     abbrev now : Stepped
     now = stepRead (shown k) s (readCut cut)
 
-    stepped : now ≡ lineStep (shown k) s (kept (cutOf bytes len) 10)
+    stepped : now ≡ lineStep (shown k) s (withByte (cutOf bytes len) 10)
     unfolding lineStep
     stepped = ap (λ (x : Cut). stepRead (shown k) s (readCut x)) keeps
 
@@ -356,7 +356,7 @@ module _ {k₀ : Kernel} {whole : Run} {lent block : List ℕ} {fine : Bool} {k 
       stand = stand-on;
       goes = ap (λ (x : Run). run (length lent) x (drop (at + 1) block)) (sym same)
           ∙ ap (λ (x : Stepped). run (length lent) (answeredBy here cut x) (drop (at + 1) block)) stepped
-          ∙ ap (λ (x : Cut). run (length lent) (answeredBy here x (lineStep (shown k) s (kept (cutOf bytes len) 10))) (drop (at + 1) block)) keeps
+          ∙ ap (λ (x : Cut). run (length lent) (answeredBy here x (lineStep (shown k) s (withByte (cutOf bytes len) 10))) (drop (at + 1) block)) keeps
           ∙ sym (run-line (length lent) at (shown k) s (cutOf bytes len) (w .answers) (drop (at + 1) block) fits)
           ∙ sym (ap (run (length lent) here) ends)
           ∙ w .goes;
@@ -369,7 +369,7 @@ module _ (k : Kernel) (s : List ℕ) (c : Cut) (lent : List ℕ) where
   told-end = record { taken = 0; kernel = shown k; store = s; cut = ended c; answers = told (turnedAway (shown k) (noLine (shown k) s) s) }
 
   -- what the end comes to, by what was tested
-  closed-by : (empty b : Bool) → empty ≡ isEmpty c → b ≡ (empty || ltb (length lent) 256) → closed (length lent) (shown k) s c ≡ (if b then begun (shown k) s c else told-end)
+  closed-by : (empty b : Bool) → empty ≡ isBlank c → b ≡ (empty || ltb (length lent) 256) → closed (length lent) (shown k) s c ≡ (if b then begun (shown k) s c else told-end)
   unfolding closed
   closed-by empty b e f =
       ap (λ (t : Bool). if t then begun (shown k) s c else (if ltb (length lent) 256 then begun (shown k) s c else told-end)) (sym e)
@@ -377,7 +377,7 @@ module _ (k : Kernel) (s : List ℕ) (c : Cut) (lent : List ℕ) where
       ∙ ap (λ (t : Bool). if t then begun (shown k) s c else told-end) (sym f)
 
   -- nothing is answered
-  pub none-left : (empty b : Bool) → empty ≡ isEmpty c → b ≡ (empty || ltb (length lent) 256) → b ≡ true
+  pub none-left : (empty b : Bool) → empty ≡ isBlank c → b ≡ (empty || ltb (length lent) 256) → b ≡ true
       → Ran k (closed (length lent) (shown k) s c) lent record { session = record { kernel = k; cut = c }; taken = 0; written = 0 } s lent
   none-left empty b e f g =
       subst (λ (x : Run). Ran k x lent record { session = record { kernel = k; cut = c }; taken = 0; written = 0 } s lent)
@@ -385,7 +385,7 @@ module _ (k : Kernel) (s : List ℕ) (c : Cut) (lent : List ℕ) where
       record { kernel = refl; cut = refl; taken = refl; written = refl; store = refl; output = refl }
 
   -- the line without a newline is answered
-  pub last-told : (empty b fine : Bool) (m next : ℕ) (out : List ℕ) → empty ≡ isEmpty c → b ≡ (empty || ltb (length lent) 256) → b ≡ false
+  pub last-told : (empty b fine : Bool) (m next : ℕ) (out : List ℕ) → empty ≡ isBlank c → b ≡ (empty || ltb (length lent) 256) → b ≡ false
       → fine ≡ sound (shown k) → m ≡ beforeCall (Refused 3) fine (length s) → Wrote lent 0 (replyOf (NotDone m) (taskNo (k .running))) next out
       → Ran k (closed (length lent) (shown k) s c) lent record { session = record { kernel = k; cut = cutOf (c .bytes) 0 }; taken = 0; written = next } s out
   unfolding ended

@@ -17,7 +17,7 @@ use Rattle.rules.specs.Sound.{sound}
 use Rattle.rules.specs.Steps.{Stepped}
 use Rattle.rules.proofs.SoundSays.{sound-says}
 use Rattle.kernel.specs.Types.{Kernel, Step}
-use Rattle.kernel.specs.Stands.{kernelOf, plain, rows, none, shown, standing}
+use Rattle.kernel.specs.Stands.{kernelOf, plain, asRows, withoutTables, shown, standing}
 use Rattle.kernel.specs.Promises.{Is}
 
 -- a state's kernel value shows the state
@@ -30,15 +30,15 @@ unfolding shown kernelOf
 shown-of s = rw (plain-of s, rows-of (s .tasks), kinds-of (s .objects))
 
 -- a state without tables is not sound
-pub no-tables : (k : Kernel) → sound (none k) ≡ true → ⊥
-no-tables k e = let z : _≡_ {A = ℕ} 0 16 = sound-says (none k) e .tables .task-slots in omega arith
+pub no-tables : (k : Kernel) → sound (withoutTables k) ≡ true → ⊥
+no-tables k e = let z : _≡_ {A = ℕ} 0 16 = sound-says (withoutTables k) e .tables .task-slots in omega arith
 
 -- who runs is always shown
 pub shown-running : (k : Kernel) → shown k .running ≡ k .running
 unfolding shown
 shown-running k = go (plain k)
   where
-    go : (b : Bool) → (if b then rows k else none k) .running ≡ k .running
+    go : (b : Bool) → (if b then asRows k else withoutTables k) .running ≡ k .running
     go true = refl
     go false = refl
 

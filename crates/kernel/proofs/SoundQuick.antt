@@ -50,7 +50,7 @@ use Rattle.rules.proofs.SoundListing.{ListingTested, listing-tested, tested-lis
 use Rattle.rules.proofs.SoundClock.{ClockTested, clock-tested, tested-clock}
 use Rattle.rules.proofs.SoundSays.{Tested, sound-tested, tested-sound}
 use Rattle.kernel.specs.Types.{Kernel}
-use Rattle.kernel.specs.Stands.{kernelOf, plain, rows, none as noTables, shown}
+use Rattle.kernel.specs.Stands.{kernelOf, plain, asRows, withoutTables as noTables, shown}
 use Rattle.kernel.proofs.Shown.{no-tables}
 
 -- ── small laws
@@ -202,7 +202,7 @@ module _ (k : Kernel) (stands : List ℕ) (hs : Holdings) (fine : Bool) (F : Fin
   ts = k .tasks
 
   abbrev s : State
-  s = rows k
+  s = asRows k
 
   stands-at : (n : ℕ) → n < 16 → getD stands n 0 ≡ count n (listed (k .order))
   stands-at n l = ap (λ (c : List ℕ). getD c n 0) tallies ∙ tallies-count (listed (k .order)) n l
@@ -381,7 +381,7 @@ module _ (k : Kernel) (stands : List ℕ) (hs : Holdings) (fine : Bool) (F : Fin
   unfolding shown
   quick-is = same-test quick _ (λ q. rw (is-plain q) (to-plain q)) (λ e. go (plain k) refl e)
     where
-      go : (b : Bool) → plain k ≡ b → sound (if b then rows k else noTables k) ≡ true → quick ≡ true
+      go : (b : Bool) → plain k ≡ b → sound (if b then asRows k else noTables k) ≡ true → quick ≡ true
       go true p e = from-plain e p
       go false p e = absurd (no-tables k e)
 

@@ -22,8 +22,8 @@ record Left (s : State) (n : ℕ) (k : Kernel) (left : ℕ) : Type 0 where
 pub record Ticking (k₀ : Kernel) (n : ℕ) (k : Kernel) (left : ℕ) : Type 0 where
   on : (s : State) → k₀ ≡ kernelOf s → Left s n k left
 
-pub begins : (k : Kernel) (n : ℕ) → Ticking k n k n
-begins k n = record { on = λ s h. record { state = s; stands = h; goes = refl } }
+pub ticking-begins : (k : Kernel) (n : ℕ) → Ticking k n k n
+ticking-begins k n = record { on = λ s h. record { state = s; stands = h; goes = refl } }
 
 module _ {k₀ : Kernel} {n : ℕ} {k : Kernel} {left : ℕ} (T : Ticking k₀ n k left) (d : ℕ) (small : k .tick ≤ 4294967295) (until : (e : State) → k ≡ kernelOf e → d ≡ untilDue (e .tick) (e .tasks)) where
   counts : (e : State) → k ≡ kernelOf e → e .tick ≤ 4294967295

@@ -18,16 +18,16 @@ unfoldable pub plain : Kernel → Bool
 plain k = plainTasks (k .tasks) && plainObjects (k .objects)
 
 -- what its tables read as
-abbrev pub rows : Kernel → State
-rows k = record { tasks = taskRows (k .tasks); objects = objectRows (k .objects); order = k .order; running = k .running; tick = k .tick; hold = k .hold; pended = k .pended }
+abbrev pub asRows : Kernel → State
+asRows k = record { tasks = taskRows (k .tasks); objects = objectRows (k .objects); order = k .order; running = k .running; tick = k .tick; hold = k .hold; pended = k .pended }
 
 -- no tables at all, which no sound state has
-abbrev pub none : Kernel → State
-none k = record { tasks = []; objects = []; order = k .order; running = k .running; tick = k .tick; hold = k .hold; pended = k .pended }
+abbrev pub withoutTables : Kernel → State
+withoutTables k = record { tasks = []; objects = []; order = k .order; running = k .running; tick = k .tick; hold = k .hold; pended = k .pended }
 
 -- the state that a kernel value stands for. Where an unused number is not 0, it stands for none, and what is shown is not sound
 unfoldable pub shown : Kernel → State
-shown k = if plain k then rows k else none k
+shown k = if plain k then asRows k else withoutTables k
 
 -- the kernel value afterwards: that of the state s, where the one that came is sound; else the one that came
 abbrev pub standing : Kernel → State → Kernel

@@ -11,7 +11,7 @@ use lib.Seq.{length-take-le, take-append-seam}
 use Rattle.lists.specs.Choice.{if_then_else_}
 use Rattle.lists.specs.Lists.{foldl}
 use Rattle.lists.proofs.Bools.{and-right}
-use Rattle.cuts.specs.Keeping.{kept}
+use Rattle.cuts.specs.Keeping.{withByte}
 use Rattle.rules.specs.Sound.{sound}
 use Rattle.rules.specs.Sessions.{Run, lineStep, readCut, answeredBy, begun, fed, closed}
 use Rattle.rules.proofs.KeepEvery.{fresh-sound}
@@ -24,8 +24,8 @@ use Rattle.kernel.proofs.Shown.{shown-of}
 use Rattle.kernel.proofs.StepEnds.{stands-on}
 use Rattle.kernel.proofs.SessionRuns.{line-keeps}
 use Rattle.promises.specs.Program.{Answered, program, answersTo}
-use Rattle.promises.specs.Turns.{begins, atStart, afterEnd}
-use Rattle.promises.proofs.AnyBlocks.{past, from-here}
+use Rattle.promises.specs.Turns.{goesOn, atStart, afterEnd}
+use Rattle.promises.proofs.AnyBlocks.{beyond, from-here}
 use Rattle.lists.proofs.Loops.{fold-append}
 use Rattle.promises.proofs.WholeBlocks.{whole-taken, all-counted, fed-then-ended, fed-kernel, fed-store}
 use Rattle.nahalvik.specs.Blocks.{fedAll, onward, roomFor, fromStart, Whole, Brought, Came}
@@ -84,11 +84,11 @@ fed-keeps r b = go (eqb b 10)
   where
     after : Bool → Run
     after t =
-        if t then answeredBy r (kept (r .cut) b) (lineStep (r .kernel) (r .store) (kept (r .cut) b))
-        else record { taken = r .taken + 1; kernel = r .kernel; store = r .store; cut = kept (r .cut) b; answers = r .answers }
+        if t then answeredBy r (withByte (r .cut) b) (lineStep (r .kernel) (r .store) (withByte (r .cut) b))
+        else record { taken = r .taken + 1; kernel = r .kernel; store = r .store; cut = withByte (r .cut) b; answers = r .answers }
 
     go : (t : Bool) → sound (after t .kernel) ≡ sound (r .kernel)
-    go true = line-keeps (r .kernel) (r .store) (readCut (kept (r .cut) b))
+    go true = line-keeps (r .kernel) (r .store) (readCut (withByte (r .cut) b))
     go false = refl
 
 all-keep : (r : Run) (l : List ℕ) → sound (foldl fed r l .kernel) ≡ sound (r .kernel)
@@ -97,7 +97,7 @@ all-keep r [] = refl
 all-keep r (b ∷ l) = all-keep (fed r b) l ∙ fed-keeps r b
 
 start-sound : (input : List ℕ) → sound (fromStart input .kernel) ≡ true
-start-sound input = all-keep (begins atStart) input ∙ fresh-sound
+start-sound input = all-keep (goesOn atStart) input ∙ fresh-sound
 
 -- the state that has come is the one that is shown
 pub came-shown : (n : Session) (s : List ℕ) (c : Came n s) → shown (n .kernel) ≡ fromStart (c .input) .kernel
@@ -115,8 +115,8 @@ more-came n buffer s lent r after o c h =
     let R = fromStart (c .input) in
     let k = came-shown n s c in
     let here : fedAll n s new ≡ foldl fed (begun (R .kernel) (R .store) (R .cut)) new = λ i. foldl fed (begun (k i) (c .store i) (c .cut i)) new in
-    let all : past R (foldl fed (begun (R .kernel) (R .store) (R .cut)) new) ≡ fromStart (c .input ++ new) =
-    sym (fold-append fed (begins atStart) (c .input) new ∙ from-here R new) in
+    let all : beyond R (foldl fed (begun (R .kernel) (R .store) (R .cut)) new) ≡ fromStart (c .input ++ new) =
+    sym (fold-append fed (goesOn atStart) (c .input) new ∙ from-here R new) in
     record {
       input = c .input ++ new;
       kernel = h .ran .kernel ∙ on-to n s c new ∙ ap (λ (z : Run). kernelOf (z .kernel)) here ∙ ap (λ (z : Run). kernelOf (z .kernel)) all;

@@ -10,7 +10,7 @@ use Rattle.kernel.specs.declared.Session.{Session}
 use Rattle.kernel.specs.declared.Served.{Served}
 use Rattle.kernel.specs.Stands.{kernelOf, shown, standing}
 use Rattle.kernel.specs.Promises.{Ran}
-use Rattle.promises.specs.Turns.{begins, atStart}
+use Rattle.promises.specs.Turns.{goesOn, atStart}
 
 -- a session goes on over some bytes, every one of which it takes
 abbrev pub fedAll : Session → List ℕ → List ℕ → Run
@@ -37,7 +37,7 @@ pub record Brought (n : Session) (buffer s lent : List ℕ) (r : Served) (after 
 
 -- "The program starts from the fresh kernel and a store of zeros."
 abbrev pub fromStart : List ℕ → Run
-fromStart input = foldl fed (begins atStart) input
+fromStart input = foldl fed (goesOn atStart) input
 
 -- the promise of all reads together: session and store are where some input brings the program
 pub record Came (n : Session) (s : List ℕ) : Type 0 where

@@ -20,14 +20,14 @@ use Rattle.rules.specs.State.{State}
 use Rattle.slots.specs.Values.{taskAt}
 use Rattle.rules.specs.Tables.{freeSlot, withOrder}
 use Rattle.rules.specs.Sound.{sound}
-use Rattle.rows.specs.Applies.{noSlot, notSuspended, Row, row, firstRow, table}
+use Rattle.rows.specs.Applies.{noneFree, notSuspended, Row, row, firstRow, table}
 use Rattle.rules.specs.Refusals.{seen, heldOrWaited, inUse, laterRow, refusal}
 use Rattle.promises.specs.Alike.{Alike}
 use Rattle.promises.proofs.AlikeTwins.{one-kernel}
 use Rattle.promises.proofs.AlikeEffects.{slot-low}
 
 rows-same : (k : State) (o : Order) → Alike k (withOrder k o) → (a : Asked) (item store : ℕ) → laterRow k a item store ≡ laterRow (withOrder k o) a item store
-unfolding laterRow table noSlot heldOrWaited inUse
+unfolding laterRow table noneFree heldOrWaited inUse
 rows-same k o e a item store = rw (e .lists (a .object))
 
 pub alike-refusal : (k j : State) (a : Asked) (item store : ℕ) → sound k ≡ sound j → Alike k j → refusal k a item store ≡ refusal j a item store
@@ -61,7 +61,7 @@ index-within p (x ∷ xs) = go (p x) (index-within p xs)
     go false h = omega arith
 
 pub create-low : (k : State) (p item store : ℕ) → length (k .tasks) ≤ 16 → laterRow k (nothing 1 p 0 1 0) item store ≡ 0 → freeSlot (k .tasks) < 16
-unfolding laterRow table noSlot freeSlot every
+unfolding laterRow table noneFree freeSlot every
 create-low k p item store h e = go (eqb (freeSlot (k .tasks)) 16) refl (clear (table (seen k (nothing 1 p 0 1 0)) (nothing 1 p 0 1 0) item store) refl e 6)
   where
     go : (b : Bool) → eqb (freeSlot (k .tasks)) 16 ≡ b → b ≡ false → freeSlot (k .tasks) < 16

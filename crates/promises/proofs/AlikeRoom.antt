@@ -13,14 +13,14 @@ use Rattle.order.proofs.Counts.{count-append, count-one, count-other, count-gon
 use Rattle.order.proofs.Rooms.{exactly-room}
 use Rattle.order.proofs.Orders.{listed-ordered}
 
-pub record Fits (xs : List TaskSlot) : Type 0 where
+pub record HasRoom (xs : List TaskSlot) : Type 0 where
   pub once : (n : ℕ) → count n xs ≤ 1
   pub low : (n : ℕ) → 16 ≤ n → count n xs ≡ 0
 
-pub fits-listed : (xs : List TaskSlot) → Fits xs → listed (ordered xs) ≡ xs
+pub fits-listed : (xs : List TaskSlot) → HasRoom xs → listed (ordered xs) ≡ xs
 fits-listed xs f = listed-ordered xs (exactly-room {e = λ n. count n xs} xs (record { counts = λ n. refl }) (f .once) (f .low))
 
-module _ (t : TaskSlot) (xs : List TaskSlot) (f : Fits xs) where
+module _ (t : TaskSlot) (xs : List TaskSlot) (f : HasRoom xs) where
   -- without t, and then with it
   left : (n : ℕ) → (b : Bool) → eqb (t .0) n ≡ b → count n (without t xs) ≤ count n xs
   left n true e = rw (← eqb-true (t .0) n e, count-gone t xs) (omega arith)
@@ -30,7 +30,7 @@ module _ (t : TaskSlot) (xs : List TaskSlot) (f : Fits xs) where
   back n true e = rw (← eqb-true (t .0) n e, count-gone t xs, count-one t) (omega arith)
   back n false e = omega (arith, count-stays t n (eqb-false (t .0) n e) xs, count-other n t (eqb-false (t .0) n e), f .once n)
 
-  pub fits-leaves : Fits (without t xs)
+  pub fits-leaves : HasRoom (without t xs)
   fits-leaves =
       record {
         once = λ n. omega (arith, left n (eqb (t .0) n) refl, f .once n);
@@ -41,10 +41,10 @@ module _ (t : TaskSlot) (xs : List TaskSlot) (f : Fits xs) where
     back-low : (n : ℕ) → 16 ≤ n → count n (without t xs) + count n (t ∷ []) ≡ 0
     back-low n h = omega (arith, fits-leaves .low n h, count-other n t (λ q. omega arith))
 
-    pub fits-tail : Fits (without t xs ++ (t ∷ []))
+    pub fits-tail : HasRoom (without t xs ++ (t ∷ []))
     fits-tail = record { once = λ n. rw count-append (back n (eqb (t .0) n) refl); low = λ n h. rw count-append (back-low n h) }
 
-    pub fits-head : Fits (t ∷ without t xs)
+    pub fits-head : HasRoom (t ∷ without t xs)
     fits-head =
         record {
           once = λ n. omega (arith, count-append n (t ∷ []) (without t xs), back n (eqb (t .0) n) refl);

@@ -20,7 +20,7 @@ use Rattle.rules.proofs.TableSlots.{past-tasks}
 use Rattle.rules.proofs.SoundSays.{sound-says, says-sound}
 use Rattle.rules.proofs.RowPasses.{sound-steady}
 use Rattle.promises.specs.Alike.{Alike, Ordered}
-use Rattle.promises.proofs.AlikeRoom.{Fits}
+use Rattle.promises.proofs.AlikeRoom.{HasRoom}
 use Rattle.promises.proofs.AlikeTwins.{Twins, one-kernel}
 
 sound-other : (k : State) (o : Order) → Alike k (withOrder k o) → Ordered (withOrder k o) → Sound k → Sound (withOrder k o)
@@ -60,7 +60,7 @@ pub alike-sound : (k j : State) → Alike k j → Ordered k → Ordered j → so
 alike-sound k j a c d = same-test (sound k) (sound j) (sound-too k j a d) (sound-too j k (alike-back a) c)
 
 -- sound kernels have room
-sound-fits : (k : State) → sound k ≡ true → Fits (listed (k .order))
+sound-fits : (k : State) → sound k ≡ true → HasRoom (listed (k .order))
 sound-fits k e = record { once = λ n. few n (isListed (taskAt (k .tasks) (task n) .place)) (s .listing .once (task n)); low = low }
   where
     s : Sound k

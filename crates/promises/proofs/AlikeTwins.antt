@@ -23,15 +23,15 @@ use Rattle.rules.specs.Tables.{withOrder}
 use Rattle.rules.specs.Lines.{line, those}
 use Rattle.rules.proofs.LineMoves.{passing, passing-tail, passing-head, passing-leaves}
 use Rattle.promises.specs.Alike.{Alike}
-use Rattle.promises.proofs.AlikeRoom.{Fits, fits-listed, fits-tail, fits-head, fits-leaves}
+use Rattle.promises.proofs.AlikeRoom.{HasRoom, fits-listed, fits-tail, fits-head, fits-leaves}
 
 -- alike; the task slots, the running task and both orders obey the ranges
 pub record Twins (k j : State) : Type 0 where
   pub alike : Alike k j
   pub slots : length (k .tasks) ≤ 16
   pub runs : k .running .0 < 16
-  pub here : Fits (listed (k .order))
-  pub there : Fits (listed (j .order))
+  pub here : HasRoom (listed (k .order))
+  pub there : HasRoom (listed (j .order))
 
 -- ── alike kernels are one kernel with two orders
 pub one-kernel : {k j : State} → Alike k j → withOrder k (j .order) ≡ j
@@ -54,7 +54,7 @@ abbrev pub Others : TaskSlot → List Task → List Task → Type 0
 Others t ts us = (u : TaskSlot) → (u .0 ≡ t .0 → ⊥) → taskAt us u ≡ taskAt ts u
 
 pub record Moving (t : TaskSlot) (move : List TaskSlot → List TaskSlot) : Type 0 where
-  pub fits : (xs : List TaskSlot) → Fits xs → Fits (move xs)
+  pub fits : (xs : List TaskSlot) → HasRoom xs → HasRoom (move xs)
   pub told : (q : Task → Bool) (ts us : List Task) → Others t ts us → (l m : List TaskSlot) → passing q ts l ≡ passing q ts m → passing q us (move l) ≡ passing q us (move m)
 
 pub to-tail : (t : TaskSlot) → t .0 < 16 → Moving t (λ l. without t l ++ (t ∷ []))
@@ -97,8 +97,8 @@ set-test q ts t x e u = go (eqb (u .0) (t .0)) refl (ltb (t .0) (length ts)) ref
 abbrev pub remade : State → List Task → Order → State
 remade k us o = record { tasks = us; objects = k .objects; order = o; running = k .running; tick = k .tick; hold = k .hold; pended = k .pended }
 
-abbrev pub counted : State → List Object → Order → ℕ → ℕ → ℕ → State
-counted k os o tick hold pended = record { tasks = k .tasks; objects = os; order = o; running = k .running; tick = tick; hold = hold; pended = pended }
+abbrev pub withCounts : State → List Object → Order → ℕ → ℕ → ℕ → State
+withCounts k os o tick hold pended = record { tasks = k .tasks; objects = os; order = o; running = k .running; tick = tick; hold = hold; pended = pended }
 
 module _ (k : State) (o : Order) (w : Twins k (withOrder k o)) where
   abbrev l : List TaskSlot
@@ -130,10 +130,10 @@ module _ (k : State) (o : Order) (w : Twins k (withOrder k o)) where
         there = rw at-m fits-m;
       }
     where
-      fits-l : Fits (move l)
+      fits-l : HasRoom (move l)
       fits-l = v .fits l (w .here)
 
-      fits-m : Fits (move m)
+      fits-m : HasRoom (move m)
       fits-m = v .fits m (w .there)
 
       at-l : listed (ordered (move l)) ≡ move l
@@ -166,10 +166,10 @@ module _ (k : State) (o : Order) (w : Twins k (withOrder k o)) where
       still q e xs = λ i. kept (λ u. set-test q (k .tasks) t x e u i) xs
 
   -- a change of the objects and counts
-  pub beside : (os : List Object) (tick hold pended : ℕ) → Twins (counted k os (k .order) tick hold pended) (counted k os o tick hold pended)
+  pub beside : (os : List Object) (tick hold pended : ℕ) → Twins (withCounts k os (k .order) tick hold pended) (withCounts k os o tick hold pended)
   beside os tick hold pended =
       record {
-        alike = two-orders (counted k os (k .order) tick hold pended) o (w .alike .lines) (w .alike .lists);
+        alike = two-orders (withCounts k os (k .order) tick hold pended) o (w .alike .lines) (w .alike .lists);
         slots = w .slots;
         runs = w .runs;
         here = w .here;

@@ -11,35 +11,35 @@ use Rattle.lists.specs.Lists.{foldl}
 use Rattle.rules.specs.State.{State}
 use Rattle.cuts.specs.declared.Cut.{Cut}
 use Rattle.rules.specs.Sessions.{Run, begun, fed, noRoom, run}
-use Rattle.promises.specs.Turns.{Turn, Pause, begins, paused, handedIn, afterTurn, afterTurns, cameIn, inOne, Through}
+use Rattle.promises.specs.Turns.{Turn, Pause, goesOn, paused, handedIn, afterTurn, afterTurns, cameIn, inOne, Through}
 
 -- r, and then what q took and answered from where r stood
-abbrev pub past : Run → Run → Run
-past r q = record { taken = r .taken + q .taken; kernel = q .kernel; store = q .store; cut = q .cut; answers = r .answers ++ q .answers }
+abbrev pub beyond : Run → Run → Run
+beyond r q = record { taken = r .taken + q .taken; kernel = q .kernel; store = q .store; cut = q .cut; answers = r .answers ++ q .answers }
 
 same-run : (k : State) (s : List ℕ) (c : Cut) {m n : ℕ} {a b : List ℕ} → m ≡ n → a ≡ b
     → _≡_ {A = Run} record { taken = m; kernel = k; store = s; cut = c; answers = a } record { taken = n; kernel = k; store = s; cut = c; answers = b }
 same-run k s c p q = λ i. record { taken = p i; kernel = k; store = s; cut = c; answers = q i }
 
 -- what a byte does, it does whatever was taken and answered before
-past-fed : (r q : Run) (b : ℕ) → fed (past r q) b ≡ past r (fed q b)
+past-fed : (r q : Run) (b : ℕ) → fed (beyond r q) b ≡ beyond r (fed q b)
 unfolding fed
 past-fed r q b = go (eqb b 10) refl
   where
     more : r .taken + q .taken + 1 ≡ r .taken + (q .taken + 1)
     more = omega arith
 
-    go : (t : Bool) → eqb b 10 ≡ t → fed (past r q) b ≡ past r (fed q b)
+    go : (t : Bool) → eqb b 10 ≡ t → fed (beyond r q) b ≡ beyond r (fed q b)
     go true e = rw e (same-run _ _ _ more (append-assoc (r .answers) (q .answers) _))
     go false e = rw e (same-run _ _ _ more refl)
 
-past-all : (r q : Run) (l : List ℕ) → foldl fed (past r q) l ≡ past r (foldl fed q l)
+past-all : (r q : Run) (l : List ℕ) → foldl fed (beyond r q) l ≡ beyond r (foldl fed q l)
 unfolding foldl
 past-all r q [] = refl
 past-all r q (b ∷ l) = ap (λ (z : Run). foldl fed z l) (past-fed r q b) ∙ past-all r (fed q b) l
 
 -- from a session under way on, or from a block that begins there
-pub from-here : (r : Run) (l : List ℕ) → foldl fed r l ≡ past r (foldl fed (begun (r .kernel) (r .store) (r .cut)) l)
+pub from-here : (r : Run) (l : List ℕ) → foldl fed r l ≡ beyond r (foldl fed (begun (r .kernel) (r .store) (r .cut)) l)
 from-here r l =
     let none : r .taken ≡ r .taken + 0 = omega arith in
     ap (λ (z : Run). foldl fed z l) (same-run (r .kernel) (r .store) (r .cut) none (sym (append-nil (r .answers))))
@@ -61,10 +61,10 @@ fed-taken r b = go (eqb b 10) refl
     go true e = rw e
     go false e = rw e
 
-pub front : (n : ℕ) (r : Run) (l : List ℕ) → Front r l (run n r l)
+pub goes-through : (n : ℕ) (r : Run) (l : List ℕ) → Front r l (run n r l)
 unfolding run foldl
-front n r [] = record { count = 0; within = omega arith; taken = omega arith; fold = refl }
-front n r (b ∷ l) = go (noRoom n r b) refl (front n (fed r b) l)
+goes-through n r [] = record { count = 0; within = omega arith; taken = omega arith; fold = refl }
+goes-through n r (b ∷ l) = go (noRoom n r b) refl (goes-through n (fed r b) l)
   where
     go : (t : Bool) → noRoom n r b ≡ t → Front (fed r b) l (run n (fed r b) l) → Front r (b ∷ l) (run n r (b ∷ l))
     go true e h = rw e record { count = 0; within = omega arith; taken = omega arith; fold = refl }
@@ -72,8 +72,8 @@ front n r (b ∷ l) = go (noRoom n r b) refl (front n (fed r b) l)
 
 handed : (p : Pause) (n : ℕ) (l : List ℕ) → Through p l (handedIn p n l)
 handed p n l =
-    let f = front n (begins p) l in
-    let m = run n (begins p) l .taken in
+    let f = goes-through n (goesOn p) l in
+    let m = run n (goesOn p) l .taken in
     let e : m ≡ f .count = f .taken ∙ omega arith in
     record {
       taken = take (f .count) l;
@@ -85,9 +85,9 @@ handed p n l =
 
 past-one : (p : Pause) (xs ys w v : List ℕ) → inOne (inOne p xs w) ys v ≡ inOne p (xs ++ ys) v
 past-one p xs ys w v =
-    let r = foldl fed (begins p) xs in
+    let r = foldl fed (goesOn p) xs in
     let q = foldl fed (begun (r .kernel) (r .store) (r .cut)) ys in
-    let e : past r q ≡ foldl fed (begins p) (xs ++ ys) = sym (fold-append fed (begins p) xs ys ∙ from-here r ys) in
+    let e : beyond r q ≡ foldl fed (goesOn p) (xs ++ ys) = sym (fold-append fed (goesOn p) xs ys ∙ from-here r ys) in
     ap (λ (a : List ℕ). record { kernel = q .kernel; store = q .store; cut = q .cut; waits = v; answers = a }) (append-assoc (p .answers) (r .answers) (q .answers))
     ∙ ap (λ (z : Run). paused p z v) e
 

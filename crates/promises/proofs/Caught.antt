@@ -18,7 +18,7 @@ use Rattle.rules.specs.Parts.{itemAt}
 use Rattle.rules.specs.Queues.{outlet, sent, storeSent, received, storeReceived}
 use Rattle.rules.specs.Lines.{line, those, highest, leader, first, chosen, toTail, toHead, leaves}
 use Rattle.rules.specs.Loans.{moved, movedIf, prioritized, newPriority, lent, ownAgain}
-use Rattle.rows.specs.Applies.{outOfRange, namesNone, wrongSize, notForIdle, notWithHold, noSlot, notHis, hisAlready, notSuspended, mustWait, noDepth}
+use Rattle.rows.specs.Applies.{outOfRange, namesNone, wrongSize, notForIdle, notWithHold, noneFree, notHis, hisAlready, notSuspended, mustWait, noDepth}
 use Rattle.rules.specs.Refusals.{heldOrWaited, inUse}
 use Rattle.rows.specs.Applies.{noTick, table}
 use Rattle.rules.specs.Refusals.{laterRow, refusal}
@@ -41,7 +41,7 @@ pub caught : (number : Numbers) (n : ℕ) → map found (wrongs number n) ≡ ma
 unfolding wrongs idlePrograms easyMistakes stepOf turnsAllAway alwaysDone changesNothing trace showsBy sameNumber sameList sameView every allBelow
     foldl upTo index any kept asked ordered without count tidy putAt created deleted suspended resumed yielded delayed queueMade mutexMade
     removed taken handedOn given effect itemAt outlet sent storeSent received storeReceived line those highest leader first chosen toTail toHead
-    leaves moved movedIf prioritized newPriority lent ownAgain outOfRange namesNone wrongSize notForIdle notWithHold noSlot heldOrWaited inUse
+    leaves moved movedIf prioritized newPriority lent ownAgain outOfRange namesNone wrongSize notForIdle notWithHold noneFree heldOrWaited inUse
     notHis hisAlready notSuspended mustWait noDepth noTick table laterRow refusal noHigher runsFine tablesFine levelsFine listingFine clockFine sound stored answered accepted step fresh
     taskAt kindAt holds freeSlot freeObject wokenIfDue wakes byNumber oneTick turned ticked ticks released held arrives waitFor
 caught number n = refl

@@ -43,8 +43,8 @@ none-listed : (n : ℕ) → count n [] ≡ 1 → ⊥
 unfolding count
 none-listed n e = omega arith
 
-pub placed : (k : State) → Sound k → Placed k
-placed k S =
+pub sound-placed : (k : State) → Sound k → Placed k
+sound-placed k S =
     record {
       one-state = λ t e. one-of-four (taskAt (k .tasks) t .place) e;
       order = S .listing .once;
@@ -67,4 +67,4 @@ overlisted-not-placed P = omega (arith, P .order (task 1))
 
 -- the first two sentences of the demand, after each history
 pub after-any-calls : (ms : List CallMade) → Placed (reached ms)
-after-any-calls ms = placed (reached ms) (sound-says (reached ms) (reached-sound ms))
+after-any-calls ms = sound-placed (reached ms) (sound-says (reached ms) (reached-sound ms))

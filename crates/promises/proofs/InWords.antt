@@ -14,7 +14,7 @@ use Rattle.rules.specs.Sessions.{told, stepOfLine}
 use Rattle.rules.specs.Trace.{trace}
 use Rattle.promises.specs.Types.{State}
 use Rattle.promises.specs.Program.{linesOf, Answered, answering, program}
-use Rattle.promises.specs.ByLines.{LineSteps, aCall, noCall, LinesAnswered, nothing, line, ProgramAnswers}
+use Rattle.promises.specs.ByLines.{LineSteps, callsLine, noCallsLine, LinesAnswered, noLines, oneLine, ProgramAnswers}
 use Rattle.promises.proofs.LineSteps.{call-line, no-call-line}
 
 module _ (k : State) (s l : List ℕ) where
@@ -23,23 +23,23 @@ module _ (k : State) (s l : List ℕ) where
       ⊎-elim
       (λ (f : IsLine l (readOf l)).
       let e : stepOfLine k s l ≡ _ = ap (stepOfLine k s) (f .line) ∙ call-line k s (f .call) (f .item) (f .has) in
-      subst (λ (d : Stepped). LineSteps k s l d) (sym e) (aCall (f .call) (f .item) (f .has) (f .line)))
-      (λ (f : NoLine l (readOf l)). subst (λ (d : Stepped). LineSteps k s l d) (sym (no-call-line k s l (f .none))) (noCall (f .none)))
+      subst (λ (d : Stepped). LineSteps k s l d) (sym e) (callsLine (f .call) (f .item) (f .has) (f .line)))
+      (λ (f : NoLine l (readOf l)). subst (λ (d : Stepped). LineSteps k s l d) (sym (no-call-line k s l (f .none))) (noCallsLine (f .none)))
       (reads-as l)
 
   pub one-line-step : {d : Stepped} → LineSteps k s l d → d ≡ stepOfLine k s l
-  one-line-step (aCall c b h e) = sym (ap (stepOfLine k s) e ∙ call-line k s c b h)
-  one-line-step (noCall n) = sym (no-call-line k s l n)
+  one-line-step (callsLine c b h e) = sym (ap (stepOfLine k s) e ∙ call-line k s c b h)
+  one-line-step (noCallsLine n) = sym (no-call-line k s l n)
 
 pub lines-answered : (k : State) (s : List ℕ) (ls : List (List ℕ)) → LinesAnswered k s ls (answering k s ls)
 unfolding answering foldl trace flatten
-lines-answered k s [] = nothing
-lines-answered k s (l ∷ ls) = line (line-steps k s l) (lines-answered (stepOfLine k s l .kernel) (stepOfLine k s l .store) ls)
+lines-answered k s [] = noLines
+lines-answered k s (l ∷ ls) = oneLine (line-steps k s l) (lines-answered (stepOfLine k s l .kernel) (stepOfLine k s l .store) ls)
 
 pub one-answering : {k : State} {s : List ℕ} {ls : List (List ℕ)} {r : Answered} → LinesAnswered k s ls r → r ≡ answering k s ls
 unfolding answering foldl trace flatten
-one-answering nothing = refl
-one-answering (line {k} {s} {l} {ls} {d} {r} f g) =
+one-answering noLines = refl
+one-answering (oneLine {k} {s} {l} {ls} {d} {r} f g) =
     ap (λ (x : Answered). record { kernel = x .kernel; store = x .store; answers = told d ++ x .answers }) (one-answering g)
     ∙ ap (λ (x : Stepped). let y = answering (x .kernel) (x .store) ls in record { kernel = y .kernel; store = y .store; answers = told x ++ y .answers }) (one-line-step k s l f)
 

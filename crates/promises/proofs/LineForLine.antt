@@ -13,7 +13,7 @@ use Rattle.lists.specs.Lists.{foldl, index}
 use Rattle.journal.specs.Reader.{readOf, noCall}
 use Rattle.journal.proofs.Newlines.{Clear, Ended, one-clear, clear-append, ended-append}
 use Rattle.cuts.specs.declared.Cut.{Cut}
-use Rattle.cuts.specs.Keeping.{noByte, kept, ended, isEmpty}
+use Rattle.cuts.specs.Keeping.{noByte, withByte, ended, isBlank}
 use Rattle.rules.specs.State.{State}
 use Rattle.rules.specs.Tables.{fresh}
 use Rattle.rules.specs.Sessions.{Run, noLine, lineStep, readCut, stepRead, told, readLine, stepOfLine, answeredBy, fed, begun, closed}
@@ -27,7 +27,7 @@ use Rattle.promises.proofs.LineSteps.{cut-line}
 -- ---- the bytes of a line so far
 
 -- up to 256 they are kept; of more it is only known that they are more
-pub record Holds (c : Cut) (p : List ℕ) : Type 0 where
+pub record CutHolds (c : Cut) (p : List ℕ) : Type 0 where
   pub size : length (c .bytes) ≡ 256
   pub len : c .len ≡ min 257 (length p)
   pub bytes : length p ≤ 256 → take (length p) (c .bytes) ≡ p
@@ -35,11 +35,11 @@ pub record Holds (c : Cut) (p : List ℕ) : Type 0 where
 one-more : (p : List ℕ) (b : ℕ) → length (p ++ (b ∷ [])) ≡ suc (length p)
 one-more p b = omega (arith, length-append p (b ∷ []))
 
-kept-holds : {c : Cut} {p : List ℕ} → Holds c p → (b : ℕ) → Holds (kept c b) (p ++ (b ∷ []))
-unfolding kept
+kept-holds : {c : Cut} {p : List ℕ} → CutHolds c p → (b : ℕ) → CutHolds (withByte c b) (p ++ (b ∷ []))
+unfolding withByte
 kept-holds {c} {p} h b = go (ltb (c .len) 256) refl
   where
-    go : (t : Bool) → ltb (c .len) 256 ≡ t → Holds (kept c b) (p ++ (b ∷ []))
+    go : (t : Bool) → ltb (c .len) 256 ≡ t → CutHolds (withByte c b) (p ++ (b ∷ []))
     go true e =
         let short : c .len < 256 = ltb-true (c .len) 256 e in
         let n : c .len ≡ length p = omega (arith, h .len) in
@@ -57,12 +57,12 @@ kept-holds {c} {p} h b = go (ltb (c .len) 256) refl
         let long : 256 ≤ c .len = ltb-false (c .len) 256 e in
         rw e record { size = h .size; len = omega (arith, h .len, one-more p b); bytes = λ g. absurd (omega (arith, h .len, one-more p b)) }
 
-ended-holds : {c : Cut} {p : List ℕ} → Holds c p → Holds (ended c) []
+ended-holds : {c : Cut} {p : List ℕ} → CutHolds c p → CutHolds (ended c) []
 unfolding ended
 ended-holds h = record { size = h .size; len = refl; bytes = λ g. refl }
 
 -- the step of what is kept is that of the line
-line-held : {c : Cut} {p : List ℕ} → Holds c p → (k : State) (s : List ℕ) → lineStep k s c ≡ stepOfLine k s p
+line-held : {c : Cut} {p : List ℕ} → CutHolds c p → (k : State) (s : List ℕ) → lineStep k s c ≡ stepOfLine k s p
 unfolding lineStep readCut noCall readLine stepOfLine
 line-held {c} {p} h k s = go (ltb 256 (length p)) refl
   where
@@ -129,11 +129,11 @@ before a x = record { kernel = x .kernel; store = x .store; answers = a ++ x .an
 abbrev ending : ℕ → Run → Answered
 ending n r = let q = closed n (r .kernel) (r .store) (r .cut) in before (r .answers) record { kernel = q .kernel; store = q .store; answers = q .answers }
 
-none-cut : (n : ℕ) (r : Run) → Holds (r .cut) [] → ending n r ≡ before (r .answers) (answering (r .kernel) (r .store) (linesOf []))
+none-cut : (n : ℕ) (r : Run) → CutHolds (r .cut) [] → ending n r ≡ before (r .answers) (answering (r .kernel) (r .store) (linesOf []))
 unfolding closed answering trace foldl linesOf flatten
 none-cut n r h = rw (eq-eqb (r .cut .len) 0 (h .len))
 
-one-cut : (n : ℕ) (r : Run) (p : List ℕ) → 256 ≤ n → 0 < length p → Holds (r .cut) p → Clear p → ending n r ≡ before (r .answers) (answering (r .kernel) (r .store) (linesOf p))
+one-cut : (n : ℕ) (r : Run) (p : List ℕ) → 256 ≤ n → 0 < length p → CutHolds (r .cut) p → Clear p → ending n r ≡ before (r .answers) (answering (r .kernel) (r .store) (linesOf p))
 unfolding closed answering trace foldl flatten
 one-cut n r p m e h c =
     let d = stepOfLine (r .kernel) (r .store) p in
@@ -142,13 +142,13 @@ one-cut n r p m e h c =
     ∙ ap (λ (a : List ℕ). before (r .answers) record { kernel = d .kernel; store = d .store; answers = a }) (sym (append-nil (told d))))
 
 -- what a byte does: it is kept, or it ends the line
-kept-byte : (r : Run) (b : ℕ) → eqb b 10 ≡ false → fed r b ≡ record { taken = r .taken + 1; kernel = r .kernel; store = r .store; cut = kept (r .cut) b; answers = r .answers }
+kept-byte : (r : Run) (b : ℕ) → eqb b 10 ≡ false → fed r b ≡ record { taken = r .taken + 1; kernel = r .kernel; store = r .store; cut = withByte (r .cut) b; answers = r .answers }
 unfolding fed
 kept-byte r b e = rw e
 
-newline : (r : Run) (p : List ℕ) (b : ℕ) → eqb b 10 ≡ true → Holds (r .cut) p → fed r b ≡ answeredBy r (kept (r .cut) b) (stepOfLine (r .kernel) (r .store) (p ++ (b ∷ [])))
+newline : (r : Run) (p : List ℕ) (b : ℕ) → eqb b 10 ≡ true → CutHolds (r .cut) p → fed r b ≡ answeredBy r (withByte (r .cut) b) (stepOfLine (r .kernel) (r .store) (p ++ (b ∷ [])))
 unfolding fed
-newline r p b e h = rw e (ap (answeredBy r (kept (r .cut) b)) (line-held (kept-holds h b) (r .kernel) (r .store)))
+newline r p b e h = rw e (ap (answeredBy r (withByte (r .cut) b)) (line-held (kept-holds h b) (r .kernel) (r .store)))
 
 one-ended : (b : ℕ) → eqb b 10 ≡ true → Ended (b ∷ [])
 unfolding index
@@ -163,39 +163,39 @@ line-before k s a l ls =
     ap (λ (y : List ℕ). record { kernel = x .kernel; store = x .store; answers = y }) (append-assoc a (told d) (x .answers))
 
 -- after the bytes p of a line
-lines-fed : (n : ℕ) → 256 ≤ n → (input : List ℕ) (r : Run) (p : List ℕ) → Holds (r .cut) p → Clear p
+lines-fed : (n : ℕ) → 256 ≤ n → (input : List ℕ) (r : Run) (p : List ℕ) → CutHolds (r .cut) p → Clear p
     → ending n (foldl fed r input) ≡ before (r .answers) (answering (r .kernel) (r .store) (linesOf (p ++ input)))
 unfolding foldl index
 lines-fed n m [] r p h c =
     go p h c
     ∙ ap (λ (l : List ℕ). before (r .answers) (answering (r .kernel) (r .store) (linesOf l))) (sym (append-nil p))
   where
-    go : (p : List ℕ) → Holds (r .cut) p → Clear p → ending n r ≡ before (r .answers) (answering (r .kernel) (r .store) (linesOf p))
+    go : (p : List ℕ) → CutHolds (r .cut) p → Clear p → ending n r ≡ before (r .answers) (answering (r .kernel) (r .store) (linesOf p))
     go [] h c = none-cut n r h
     go (x ∷ p) h c = one-cut n r (x ∷ p) m (omega arith) h c
 lines-fed n m (b ∷ input) r p h c = go (eqb b 10) refl (lines-fed n m input)
   where
     go : (t : Bool) → eqb b 10 ≡ t
-        → ((r : Run) (p : List ℕ) → Holds (r .cut) p → Clear p → ending n (foldl fed r input) ≡ before (r .answers) (answering (r .kernel) (r .store) (linesOf (p ++ input))))
+        → ((r : Run) (p : List ℕ) → CutHolds (r .cut) p → Clear p → ending n (foldl fed r input) ≡ before (r .answers) (answering (r .kernel) (r .store) (linesOf (p ++ input))))
         → ending n (foldl fed (fed r b) input) ≡ before (r .answers) (answering (r .kernel) (r .store) (linesOf (p ++ (b ∷ input))))
     go true e ih =
         let l = p ++ (b ∷ []) in
         let d = stepOfLine (r .kernel) (r .store) l in
         let lines : l ∷ linesOf input ≡ linesOf (p ++ (b ∷ input)) = sym (first-line l input (ended-append p (b ∷ []) c (one-ended b e))) ∙ ap linesOf (append-snoc p b input) in
         ap (λ (z : Run). ending n (foldl fed z input)) (newline r p b e h)
-        ∙ ih (answeredBy r (kept (r .cut) b) d) [] (ended-holds (kept-holds h b)) refl
+        ∙ ih (answeredBy r (withByte (r .cut) b) d) [] (ended-holds (kept-holds h b)) refl
         ∙ line-before (r .kernel) (r .store) (r .answers) l (linesOf input)
         ∙ ap (λ (ls : List (List ℕ)). before (r .answers) (answering (r .kernel) (r .store) ls)) lines
     go false e ih =
         ap (λ (z : Run). ending n (foldl fed z input)) (kept-byte r b e)
-        ∙ ih record { taken = r .taken + 1; kernel = r .kernel; store = r .store; cut = kept (r .cut) b; answers = r .answers }
+        ∙ ih record { taken = r .taken + 1; kernel = r .kernel; store = r .store; cut = withByte (r .cut) b; answers = r .answers }
         (p ++ (b ∷ [])) (kept-holds h b) (clear-append p (b ∷ []) c (one-clear b (eqb-false b 10 e)))
         ∙ ap (λ (l : List ℕ). before (r .answers) (answering (r .kernel) (r .store) (linesOf l))) (append-snoc p b input)
 
 -- the end changes neither kernel nor store
 pub closed-stays : (n : ℕ) (k : State) (s : List ℕ) (c : Cut) → (closed n k s c .kernel ≡ k) × (closed n k s c .store ≡ s)
 unfolding closed
-closed-stays n k s c = go (isEmpty c) (ltb n 256)
+closed-stays n k s c = go (isBlank c) (ltb n 256)
   where
     closedBy : Bool → Bool → Run
     closedBy a b = if a then begun k s c else if b then begun k s c else record { taken = 0; kernel = k; store = s; cut = ended c; answers = told (turnedAway k (noLine k s) s) }
@@ -206,7 +206,7 @@ closed-stays n k s c = go (isEmpty c) (ltb n 256)
     go false false = (refl, refl)
 
 -- no byte of a line
-none-held : Holds noByte []
+none-held : CutHolds noByte []
 unfolding noByte
 none-held = record { size = refl; len = refl; bytes = λ g. refl }
 
@@ -228,7 +228,7 @@ fed-so-far k s input =
 -- ---- the session
 
 -- from any kernel and store, with the bytes p of a line: whatever the blocks and the bytes lent, kernel, store and answers are those of the lines
-pub line-for-line : (k : State) (s : List ℕ) (c : Cut) (p : List ℕ) → Holds c p → Clear p → (ts : List Turn) → afterTurns (opened k s c) ts .waits ≡ [] → (n : ℕ) → 256 ≤ n
+pub line-for-line : (k : State) (s : List ℕ) (c : Cut) (p : List ℕ) → CutHolds c p → Clear p → (ts : List Turn) → afterTurns (opened k s c) ts .waits ≡ [] → (n : ℕ) → 256 ≤ n
     → outcome (afterEnd (afterTurns (opened k s c) ts) n) ≡ answering k s (linesOf (p ++ cameIn ts))
 unfolding afterEnd
 line-for-line k s c p h g ts e n m =

@@ -16,9 +16,9 @@ use Rattle.journal.specs.declared.Read.{Read}
 use Rattle.journal.specs.declared.Reading.{Reading}
 use Rattle.journal.specs.declared.Reading.the-variants.{Refused}
 use Rattle.journal.specs.Line.{lineOf, HasLine}
-use Rattle.journal.specs.Told.{aCall, refusal, reads}
+use Rattle.journal.specs.Told.{tellsCall, refusedWith, reads}
 use Rattle.journal.specs.Promise.{IsLine, NoLine}
-use Rattle.journal.specs.Reader.{says, readOf, noCall}
+use Rattle.journal.specs.Reader.{readAs, readOf, noCall}
 use Rattle.journal.proofs.Fit.{item-long}
 use Rattle.journal.proofs.Newlines.{isNewline, Clear, line-ended}
 use Rattle.journal.proofs.Promised.{line-read, reads-as}
@@ -31,12 +31,12 @@ use Rattle.rules.specs.Sessions.{noLine, stepTold, stepRead, readLine, stepOfLi
 pub call-line : (k : State) (s : List ℕ) (c : Call) (b : List ℕ) → HasLine c b → stepOfLine k s (lineOf c b) ≡ step k c b s
 unfolding stepOfLine readLine
 call-line k s c b h =
-    let r = says c (filled b) (length b) in
-    let item : take (length b) (filled b) ≡ b = told-item r (aCall (called c)) b record { answer = refl; bytes = refl; len = refl } (item-long c b h) in
+    let r = readAs c (filled b) (length b) in
+    let item : take (length b) (filled b) ≡ b = told-item r (tellsCall (called c)) b record { answer = refl; bytes = refl; len = refl } (item-long c b h) in
     rw (le-ltb 256 (length (lineOf c b)) (line-within c b h))
     (ap (stepRead k s) (line-read c b h) ∙ ap (λ (x : List ℕ). step k c x s) item)
 
-refused-read : (k : State) (s : List ℕ) (r : Read) → reads (r .answer) ≡ refusal 3 → stepRead k s r ≡ turnedAway k (noLine k s) s
+refused-read : (k : State) (s : List ℕ) (r : Read) → reads (r .answer) ≡ refusedWith 3 → stepRead k s r ≡ turnedAway k (noLine k s) s
 refused-read k s r e = ap (λ (x : Reading). stepTold k s x (take (r .len) (r .item))) (one-reading (r .answer) (Refused 3) e)
 
 -- "3: the line is no call's line", after 1 and 2

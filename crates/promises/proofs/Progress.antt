@@ -13,10 +13,10 @@ use Rattle.calls.specs.Door.{taskNo}
 use Rattle.journal.proofs.LineStores.{reply-within}
 use Rattle.rules.specs.State.{State}
 use Rattle.cuts.specs.declared.Cut.{Cut}
-use Rattle.cuts.specs.Keeping.{kept}
+use Rattle.cuts.specs.Keeping.{withByte}
 use Rattle.rules.specs.Sessions.{Run, begun, lineStep, told, fed, noRoom, run}
-use Rattle.promises.specs.Turns.{Turn, Pause, begins, handedIn, afterTurn, afterTurns, Asking}
-use Rattle.promises.proofs.AnyBlocks.{front, fed-taken}
+use Rattle.promises.specs.Turns.{Turn, Pause, goesOn, handedIn, afterTurn, afterTurns, Asking}
+use Rattle.promises.proofs.AnyBlocks.{goes-through, fed-taken}
 
 -- ---- room
 
@@ -27,7 +27,7 @@ fed-answers r b = go (eqb b 10) refl
   where
     go : (t : Bool) → eqb b 10 ≡ t → length (fed r b .answers) ≤ length (r .answers) + (if t then 256 else 0)
     go true e =
-        let d = lineStep (r .kernel) (r .store) (kept (r .cut) b) in
+        let d = lineStep (r .kernel) (r .store) (withByte (r .cut) b) in
         rw e (omega (arith, length-append (r .answers) (told d), reply-within (d .answer) (taskNo (d .kernel .running))))
     go false e = rw e (omega arith)
 
@@ -60,13 +60,13 @@ pub one-taken : (n : ℕ) (k : State) (s : List ℕ) (c : Cut) (b : ℕ) (l : Li
 unfolding run
 one-taken n k s c b l h =
     let r = begun k s c in
-    rw (room n r b h) (omega (arith, front n (fed r b) l .taken, fed-taken r b))
+    rw (room n r b h) (omega (arith, goes-through n (fed r b) l .taken, fed-taken r b))
 
 no-more : (p : Pause) (t : Turn) → length (afterTurn p t .waits) ≤ length (p .waits ++ t .came)
 unfolding afterTurn
 no-more p t =
     let l = p .waits ++ t .came in
-    omega (arith, length-drop (run (t .lent) (begins p) l .taken) l)
+    omega (arith, length-drop (run (t .lent) (goesOn p) l .taken) l)
 
 -- with 256 bytes lent, less waits after a turn than was handed in
 pub progress : (p : Pause) (t : Turn) → 256 ≤ t .lent → 0 < length (p .waits ++ t .came) → length (afterTurn p t .waits) < length (p .waits ++ t .came)
@@ -76,7 +76,7 @@ progress p t h = go (p .waits ++ t .came)
     go : (l : List ℕ) → 0 < length l → length (handedIn p (t .lent) l .waits) < length l
     go [] e = absurd (omega arith)
     go (b ∷ l) e =
-        let m = run (t .lent) (begins p) (b ∷ l) .taken in
+        let m = run (t .lent) (goesOn p) (b ∷ l) .taken in
         omega (arith, length-drop m (b ∷ l), one-taken (t .lent) (p .kernel) (p .store) (p .cut) b l h)
 
 -- at a turn that brings nothing, what waits becomes less

@@ -17,44 +17,44 @@ use Rattle.rules.specs.Lines.{chosen}
 use Rattle.rules.specs.Sound.{sound}
 use Rattle.rows.specs.Asking.{makes}
 use Rattle.rules.specs.Refusals.{newSlot}
-use Rattle.rows.proofs.InTurn.{numbered}
+use Rattle.rows.proofs.InTurn.{allNumbered}
 use Rattle.rows.specs.Applies.{Row, firstRow, table}
 use Rattle.rules.specs.Refusals.{seen, laterRow, refusal}
 use Rattle.rules.specs.Effects.{effect}
 use Rattle.rules.specs.Steps.{Stepped, answered, accepted, turnedAway, step}
 use Rattle.promises.specs.Types.{Asked, Call, State}
-use Rattle.promises.specs.TurnedAway.{rows, First, here, below, None, end, off, Refusal, Accepted, Exactly, Decided}
+use Rattle.promises.specs.TurnedAway.{wholeTable, First, thisRow, below, None, end, notThisRow, Refusal, Accepted, Exactly, Decided}
 
 -- ── the first row that applies, as a number and as a proposition
 first-is : {n : ℕ} {rs : List Row} → First n rs → firstRow rs ≡ n
-first-is (here e a) = rw a e
+first-is (thisRow e a) = rw a e
 first-is (below a f) = rw a (first-is f)
 
 none-is : {rs : List Row} → None rs → firstRow rs ≡ 0
 none-is end = refl
-none-is (off a f) = rw a (none-is f)
+none-is (notThisRow a f) = rw a (none-is f)
 
 is-first : (n : ℕ) (rs : List Row) → firstRow rs ≡ n → (n ≡ 0 → ⊥) → First n rs
 is-first n [] e z = absurd (z (sym e))
 is-first n (r ∷ rs) e z = go (r .applies) refl e (λ q. is-first n rs q z)
   where
     go : (b : Bool) → r .applies ≡ b → (if b then r .number else firstRow rs) ≡ n → (firstRow rs ≡ n → First n rs) → First n (r ∷ rs)
-    go true a q ih = here q a
+    go true a q ih = thisRow q a
     go false a q ih = below a (ih q)
 
-is-none : (rs : List Row) → numbered rs ≡ true → firstRow rs ≡ 0 → None rs
-unfolding numbered
+is-none : (rs : List Row) → allNumbered rs ≡ true → firstRow rs ≡ 0 → None rs
+unfolding allNumbered
 is-none [] h e = end
 is-none (r ∷ rs) h e = go (r .applies) refl e (eqb (r .number) 0) refl h (is-none rs)
   where
-    go : (b : Bool) → r .applies ≡ b → (if b then r .number else firstRow rs) ≡ 0 → (c : Bool) → eqb (r .number) 0 ≡ c → (not c && numbered rs) ≡ true
-        → (numbered rs ≡ true → firstRow rs ≡ 0 → None rs) → None (r ∷ rs)
+    go : (b : Bool) → r .applies ≡ b → (if b then r .number else firstRow rs) ≡ 0 → (c : Bool) → eqb (r .number) 0 ≡ c → (not c && allNumbered rs) ≡ true
+        → (allNumbered rs ≡ true → firstRow rs ≡ 0 → None rs) → None (r ∷ rs)
     go b a q true c g ih = absurd (false≢true g)
     go true a q false c g ih = absurd (eqb-false (r .number) 0 c q)
-    go false a q false c g ih = off a (ih g q)
+    go false a q false c g ih = notThisRow a (ih g q)
 
 module _ (k : State) (a : Asked) (item s : ℕ) where
-  rows-refusal : firstRow (rows k a item s) ≡ refusal k a item s
+  rows-refusal : firstRow (wholeTable k a item s) ≡ refusal k a item s
   unfolding refusal laterRow
   rows-refusal = go (sound k)
     where
@@ -62,17 +62,17 @@ module _ (k : State) (a : Asked) (item s : ℕ) where
       go true = refl
       go false = refl
 
-  rows-numbered : numbered (rows k a item s) ≡ true
-  unfolding numbered table
+  rows-numbered : allNumbered (wholeTable k a item s) ≡ true
+  unfolding allNumbered table
   rows-numbered = refl
 
   -- a row is the first that applies, or none applies
-  pub decided : Decided (rows k a item s)
-  decided = go (eqb (firstRow (rows k a item s)) 0) refl
+  pub decided : Decided (wholeTable k a item s)
+  decided = go (eqb (firstRow (wholeTable k a item s)) 0) refl
     where
-      go : (b : Bool) → eqb (firstRow (rows k a item s)) 0 ≡ b → Decided (rows k a item s)
-      go true e = inr (is-none (rows k a item s) rows-numbered (eqb-true _ 0 e))
-      go false e = inl (record { number = firstRow (rows k a item s); first = is-first _ (rows k a item s) refl (eqb-false _ 0 e) })
+      go : (b : Bool) → eqb (firstRow (wholeTable k a item s)) 0 ≡ b → Decided (wholeTable k a item s)
+      go true e = inr (is-none (wholeTable k a item s) rows-numbered (eqb-true _ 0 e))
+      go false e = inl (record { number = firstRow (wholeTable k a item s); first = is-first _ (wholeTable k a item s) refl (eqb-false _ 0 e) })
 
 -- ── an accepted call is answered by no refusal
 pub not-refused : (k : State) (a : Asked) (next : State) (n : ℕ) → answered k a next ≡ says refused n → ⊥
@@ -89,7 +89,7 @@ module _ (k : State) (c : Call) (item s : List ℕ) where
   abbrev no : ℕ
   no = refusal k (asked c) (length item) (length s)
 
-  table-no : firstRow (rows k (asked c) (length item) (length s)) ≡ no
+  table-no : firstRow (wholeTable k (asked c) (length item) (length s)) ≡ no
   table-no = rows-refusal k (asked c) (length item) (length s)
 
   is-refused : eqb no 0 ≡ false → step k c item s ≡ turnedAway k no s
@@ -100,18 +100,18 @@ module _ (k : State) (c : Call) (item s : List ℕ) where
   unfolding step
   is-accepted e = rw e
 
-  away : (n : ℕ) → First n (rows k (asked c) (length item) (length s)) → (n ≡ 0 → ⊥) → Refusal k s n (step k c item s)
+  away : (n : ℕ) → First n (wholeTable k (asked c) (length item) (length s)) → (n ≡ 0 → ⊥) → Refusal k s n (step k c item s)
   away n f z =
       let e : no ≡ n = sym table-no ∙ first-is f in
       subst (λ (d : Stepped). Refusal k s n d) (sym (is-refused (ne-eqb no 0 (λ q. z (sym e ∙ q))))) (record { number = ap (says refused) e; kernel = refl; store = refl })
 
   -- the number of a row that applies first is not 0
-  first-some : (n : ℕ) → First n (rows k (asked c) (length item) (length s)) → n ≡ 0 → ⊥
+  first-some : (n : ℕ) → First n (wholeTable k (asked c) (length item) (length s)) → n ≡ 0 → ⊥
   first-some n f z = none-first (is-none _ (rows-numbered k (asked c) (length item) (length s)) (first-is f ∙ z)) f
     where
       none-first : {rs : List Row} → None rs → First n rs → ⊥
-      none-first (off a g) (here e b) = false≢true (sym a ∙ b)
-      none-first (off a g) (below b f) = none-first g f
+      none-first (notThisRow a g) (thisRow e b) = false≢true (sym a ∙ b)
+      none-first (notThisRow a g) (below b f) = none-first g f
 
   accepted-so : Accepted k c item s (accepted k (asked c) item s)
   unfolding accepted
@@ -125,7 +125,7 @@ module _ (k : State) (c : Call) (item s : List ℕ) where
         else = λ f. subst (λ (d : Stepped). Accepted k c item s d) (sym (is-accepted (eq-eqb no 0 (sym table-no ∙ none-is f)))) accepted-so;
       }
     where
-      only : (n : ℕ) → step k c item s .answer ≡ says refused n → (b : Bool) → eqb no 0 ≡ b → First n (rows k (asked c) (length item) (length s))
+      only : (n : ℕ) → step k c item s .answer ≡ says refused n → (b : Bool) → eqb no 0 ≡ b → First n (wholeTable k (asked c) (length item) (length s))
       only n e true q = absurd (accepted-so .no-refusal n (ap (λ (d : Stepped). d .answer) (sym (is-accepted q)) ∙ e))
       only n e false q =
           let m : no ≡ n = ap (λ (x : Saying). x .number) (ap (λ (d : Stepped). d .answer) (sym (is-refused q)) ∙ e) in

@@ -9,7 +9,7 @@ use Rattle.order.specs.Tidy.{count, tidy}
 use Rattle.rules.specs.Effects.{created, mutexMade, taken, handedOn, given, effect}
 use Rattle.rules.specs.Lines.{line, those, highest, leader, first, chosen, toTail, toHead, leaves}
 use Rattle.rules.specs.Loans.{moved, movedIf, prioritized, lent, ownAgain}
-use Rattle.rows.specs.Applies.{outOfRange, namesNone, wrongSize, notForIdle, notWithHold, noSlot, notHis, hisAlready, notSuspended, mustWait, noDepth, noTick, table}
+use Rattle.rows.specs.Applies.{outOfRange, namesNone, wrongSize, notForIdle, notWithHold, noneFree, notHis, hisAlready, notSuspended, mustWait, noDepth, noTick, table}
 use Rattle.rules.specs.Refusals.{inUse, laterRow, refusal}
 use Rattle.rules.specs.Sound.{tablesFine, levelsFine, listingFine, clockFine, noHigher, runsFine, sound}
 use Rattle.rules.specs.Steps.{stored, answered, accepted, step}
@@ -28,13 +28,13 @@ use Rattle.journal.specs.Reader.{nums, readOf}
 use Rattle.journal.specs.Reply.{reply}
 use Rattle.promises.specs.Program.{linesOf, Answered, answering, answersTo}
 use Rattle.promises.specs.Turns.{Turn, afterTurns, cameIn, afterEnd, atStart}
-use Rattle.promises.specs.Typed.{bytesOf, typed, written}
+use Rattle.promises.specs.Typed.{asBytes, typed, written}
 use Rattle.promises.proofs.LineForLine.{session-is-the-program}
 
 pub p1-as-bytes : answersTo typed ≡ written
-unfolding bytesOf typed written linesOf readLine stepOfLine trace answering flatten digits dec among grow callOf shapeOf nums readOf reply every
+unfolding asBytes typed written linesOf readLine stepOfLine trace answering flatten digits dec among grow callOf shapeOf nums readOf reply every
     allBelow foldl upTo index any kept asked ordered without count tidy created mutexMade taken handedOn given effect line those highest leader
-    first chosen toTail toHead leaves moved movedIf prioritized lent ownAgain outOfRange namesNone wrongSize notForIdle notWithHold noSlot inUse
+    first chosen toTail toHead leaves moved movedIf prioritized lent ownAgain outOfRange namesNone wrongSize notForIdle notWithHold noneFree inUse
     notHis hisAlready notSuspended mustWait noDepth noTick table laterRow refusal noHigher runsFine tablesFine levelsFine listingFine clockFine sound stored answered accepted step fresh
     taskAt kindAt holds freeSlot freeObject arrives waitFor
 p1-as-bytes = refl

@@ -9,11 +9,11 @@ use lib.ListN.{length, replicate, length-append}
 use Rattle.lists.specs.Lists.{foldl}
 use Rattle.calls.specs.Door.{taskNo}
 use Rattle.journal.proofs.LineStores.{reply-within}
-use Rattle.cuts.specs.Keeping.{kept}
+use Rattle.cuts.specs.Keeping.{withByte}
 use Rattle.rules.specs.Tables.{fresh}
 use Rattle.rules.specs.Sessions.{Run, lineStep, told, fed, run}
 use Rattle.promises.specs.Program.{program}
-use Rattle.promises.specs.Turns.{begins, afterEnd, atStart, outcome, inOne}
+use Rattle.promises.specs.Turns.{goesOn, afterEnd, atStart, outcome, inOne}
 use Rattle.promises.proofs.AnyBlocks.{fed-taken}
 use Rattle.promises.proofs.Progress.{room}
 use Rattle.promises.proofs.LineForLine.{ended-after, fed-so-far}
@@ -27,7 +27,7 @@ grows r b = go (eqb b 10) refl
   where
     go : (t : Bool) → eqb b 10 ≡ t → length (fed r b .answers) ≤ length (r .answers) + 64
     go true e =
-        let d = lineStep (r .kernel) (r .store) (kept (r .cut) b) in
+        let d = lineStep (r .kernel) (r .store) (withByte (r .cut) b) in
         rw e (omega (arith, length-append (r .answers) (told d), reply-within (d .answer) (taskNo (d .kernel .running))))
     go false e = rw e (omega arith)
 
@@ -49,8 +49,8 @@ pub fed-then-ended : (input : List ℕ) (n : ℕ) → 256 ≤ n → outcome (aft
 fed-then-ended input n h = ended-after fresh (replicate 9216 0) input n h
 
 -- before the end already, kernel and store are the program's
-pub fed-kernel : (input : List ℕ) → foldl fed (begins atStart) input .kernel ≡ program input .kernel
+pub fed-kernel : (input : List ℕ) → foldl fed (goesOn atStart) input .kernel ≡ program input .kernel
 fed-kernel input = fed-so-far fresh (replicate 9216 0) input .0
 
-pub fed-store : (input : List ℕ) → foldl fed (begins atStart) input .store ≡ program input .store
+pub fed-store : (input : List ℕ) → foldl fed (goesOn atStart) input .store ≡ program input .store
 fed-store input = fed-so-far fresh (replicate 9216 0) input .1

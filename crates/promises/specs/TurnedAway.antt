@@ -16,18 +16,18 @@ use Rattle.rules.specs.Steps.{Stepped, answered, stored}
 use Rattle.promises.specs.Types.{Asked, Call, State}
 
 -- the table of refusals, whole: 1 "the kernel value is not sound" stands first. (3 is the line reader's.)
-abbrev pub rows : State → Asked → ℕ → ℕ → List Row
-rows k a item store = row 1 (not (sound k)) ∷ table (seen k a) a item store
+abbrev pub wholeTable : State → Asked → ℕ → ℕ → List Row
+wholeTable k a item store = row 1 (not (sound k)) ∷ table (seen k a) a item store
 
 -- "Of the numbers that apply, the one that stands first": row n applies, and none before it
 pub data First (n : ℕ) : List Row → Type 0 where
-  here : {r : Row} {rs : List Row} → r .number ≡ n → r .applies ≡ true → First n (r ∷ rs)
+  thisRow : {r : Row} {rs : List Row} → r .number ≡ n → r .applies ≡ true → First n (r ∷ rs)
   below : {r : Row} {rs : List Row} → r .applies ≡ false → First n rs → First n (r ∷ rs)
 
 -- "and none otherwise": no row applies
 pub data None : List Row → Type 0 where
   end : None []
-  off : {r : Row} {rs : List Row} → r .applies ≡ false → None rs → None (r ∷ rs)
+  notThisRow : {r : Row} {rs : List Row} → r .applies ≡ false → None rs → None (r ∷ rs)
 
 -- the step d is a refusal n: it carries its number, and the kernel and all lent bytes stay
 pub record Refusal (k : State) (s : List ℕ) (n : ℕ) (d : Stepped) : Type 0 where
@@ -44,9 +44,9 @@ pub record Accepted (k : State) (c : Call) (item s : List ℕ) (d : Stepped) : T
 
 -- refused n exactly if row n is the first that applies, and then nothing has changed; else accepted
 pub record Exactly (k : State) (c : Call) (item s : List ℕ) (d : Stepped) : Type 0 where
-  pub given : (n : ℕ) → First n (rows k (asked c) (length item) (length s)) → Refusal k s n d
-  pub only : (n : ℕ) → d .answer ≡ says refused n → First n (rows k (asked c) (length item) (length s))
-  pub else : None (rows k (asked c) (length item) (length s)) → Accepted k c item s d
+  pub given : (n : ℕ) → First n (wholeTable k (asked c) (length item) (length s)) → Refusal k s n d
+  pub only : (n : ℕ) → d .answer ≡ says refused n → First n (wholeTable k (asked c) (length item) (length s))
+  pub else : None (wholeTable k (asked c) (length item) (length s)) → Accepted k c item s d
 
 -- one of the two holds: some row is the first that applies, or none applies
 pub record Some (rs : List Row) : Type 0 where

@@ -25,8 +25,8 @@ pub record Pause : Type 0 where
   pub answers : List ℕ
 
 -- the session goes on from p
-abbrev pub begins : Pause → Run
-begins p = begun (p .kernel) (p .store) (p .cut)
+abbrev pub goesOn : Pause → Run
+goesOn p = begun (p .kernel) (p .store) (p .cut)
 
 -- it went on from p as r says, and `waits` was not taken
 abbrev pub paused : Pause → Run → List ℕ → Pause
@@ -34,7 +34,7 @@ paused p r waits = record { kernel = r .kernel; store = r .store; cut = r .cut; 
 
 -- a block is handed in, with n bytes for the answers
 abbrev pub handedIn : Pause → ℕ → List ℕ → Pause
-handedIn p n block = paused p (run n (begins p) block) (drop (run n (begins p) block .taken) block)
+handedIn p n block = paused p (run n (goesOn p) block) (drop (run n (goesOn p) block .taken) block)
 
 -- a turn: what waits stands before what has come
 unfoldable pub afterTurn : Pause → Turn → Pause
@@ -67,7 +67,7 @@ outcome p = record { kernel = p .kernel; store = p .store; answers = p .answers 
 
 -- all of `taken` is taken, byte by byte and with room for every answer
 abbrev pub inOne : Pause → List ℕ → List ℕ → Pause
-inOne p taken waits = paused p (foldl fed (begins p) taken) waits
+inOne p taken waits = paused p (foldl fed (goesOn p) taken) waits
 
 -- the session went from p to q on an input: what was taken and what waits are the input, and q is as if all that was taken had come in one
 pub record Through (p : Pause) (input : List ℕ) (q : Pause) : Type 0 where

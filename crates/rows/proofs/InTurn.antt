@@ -11,13 +11,13 @@ use Rattle.lists.proofs.Loops.{fold-append}
 use Rattle.rows.specs.Applies.{Row, row, firstRow, orRow}
 
 -- every row has a number that is not 0
-unfoldable pub numbered : List Row → Bool
-numbered [] = true
-numbered (r ∷ rs) = not (eqb (r .number) 0) && numbered rs
+unfoldable pub allNumbered : List Row → Bool
+allNumbered [] = true
+allNumbered (r ∷ rs) = not (eqb (r .number) 0) && allNumbered rs
 
 -- so the number so far is kept, or the first of the rows that are left is given
-pub row-by-row : (n : ℕ) (rs : List Row) → numbered rs ≡ true → foldl orRow n rs ≡ (if eqb n 0 then firstRow rs else n)
-unfolding numbered foldl
+pub row-by-row : (n : ℕ) (rs : List Row) → allNumbered rs ≡ true → foldl orRow n rs ≡ (if eqb n 0 then firstRow rs else n)
+unfolding allNumbered foldl
 row-by-row n [] h = go (eqb n 0) refl
   where
     go : (b : Bool) → eqb n 0 ≡ b → n ≡ (if b then 0 else n)
@@ -25,8 +25,8 @@ row-by-row n [] h = go (eqb n 0) refl
     go false e = refl
 row-by-row n (r ∷ rs) h = go (eqb n 0) refl (r .applies) (eqb (r .number) 0) refl h (row-by-row (orRow n r) rs)
   where
-    go : (b : Bool) → eqb n 0 ≡ b → (c : Bool) (d : Bool) → eqb (r .number) 0 ≡ d → (not d && numbered rs) ≡ true
-        → (numbered rs ≡ true → foldl orRow (if b then (if c then r .number else 0) else n) rs
+    go : (b : Bool) → eqb n 0 ≡ b → (c : Bool) (d : Bool) → eqb (r .number) 0 ≡ d → (not d && allNumbered rs) ≡ true
+        → (allNumbered rs ≡ true → foldl orRow (if b then (if c then r .number else 0) else n) rs
         ≡ (if eqb (if b then (if c then r .number else 0) else n) 0 then firstRow rs else (if b then (if c then r .number else 0) else n)))
         → foldl orRow (if b then (if c then r .number else 0) else n) rs ≡ (if b then (if c then r .number else firstRow rs) else n)
     go b e c true q g ih = absurd (false≢true g)
@@ -52,5 +52,5 @@ then-row {m = m} {rs} {b} {t} n f e q =
       so = e ∙ ap (λ (x : Bool). orRow m (row n x)) q ∙ ap (λ (x : ℕ). orRow x (row n t)) (f .so) ∙ sym (one-more rs (row n t));
     }
 
-pub all-rows : {rs : List Row} {n : ℕ} → Given rs n → numbered rs ≡ true → n ≡ firstRow rs
+pub all-rows : {rs : List Row} {n : ℕ} → Given rs n → allNumbered rs ≡ true → n ≡ firstRow rs
 all-rows {rs} f h = f .so ∙ row-by-row 0 rs h

@@ -53,8 +53,8 @@ notWithHold s a =
     ltb 0 (s .hold) && (is 6 a || (is 7 a || (waits a || (stops a && sameTask (a .task) (s .running)))))
 
 -- 9: "create or make with no free slot"
-unfoldable pub noSlot : Seen → Bool
-noSlot s = eqb (s .new) 16
+unfoldable pub noneFree : Seen → Bool
+noneFree s = eqb (s .new) 16
 
 -- 11: "give of a mutex that the caller does not hold"
 unfoldable pub notHis : Seen → Asked → Bool
@@ -118,7 +118,7 @@ table s a item store =
     ∷ row 6 (wrongSize s a item)
     ∷ row 7 (notForIdle s a)
     ∷ row 8 (notWithHold s a)
-    ∷ row 9 (noSlot s)
+    ∷ row 9 (noneFree s)
     ∷ row 10 (s .used)
     ∷ row 11 (notHis s a)
     ∷ row 12 (hisAlready s a)

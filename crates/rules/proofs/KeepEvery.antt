@@ -19,7 +19,7 @@ use Rattle.rules.specs.Sentences.{Sound}
 use Rattle.rules.specs.Effects.{effect}
 use Rattle.rules.specs.Steps.{step}
 use Rattle.rules.proofs.RowPasses.{Passed}
-use Rattle.rules.proofs.Keeps.{Keeps, kept as step-keeps}
+use Rattle.rules.proofs.Keeps.{Keeps, effect-kept as step-keeps}
 use Rattle.rules.proofs.KeepTasks.{create-keeps, delete-keeps, suspend-keeps, resume-keeps, priority-keeps, delay-keeps, yield-keeps}
 use Rattle.rules.proofs.KeepTicks.{hold-keeps, release-keeps, tick-keeps}
 use Rattle.rules.proofs.KeepObjects.{queue-keeps, mutex-keeps, remove-keeps}

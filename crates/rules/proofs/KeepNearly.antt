@@ -9,7 +9,7 @@ use Rattle.lists.specs.Choice.{if_then_else_}
 use Rattle.numbers.specs.Numbers.{task}
 use Rattle.order.specs.Order.{listed, ordered}
 use Rattle.order.specs.Tidy.{count, tidy}
-use Rattle.order.proofs.Counts.{Exactly}
+use Rattle.order.proofs.Counts.{CountsAre}
 use Rattle.order.proofs.Orders.{listed-ordered}
 use Rattle.order.proofs.Rooms.{tidy-few, tidy-zeros, exactly-room, exactly-tidy}
 use Rattle.slots.specs.Places.{isFree, isBlocked, isListed}
@@ -91,7 +91,7 @@ relisted ts l h c =
       same = same;
     }
   where
-    exact : Exactly (ones ts) l
+    exact : CountsAre (ones ts) l
     exact = record { counts = c }
 
     same : listed (ordered l) ≡ l

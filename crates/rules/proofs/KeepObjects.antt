@@ -21,7 +21,7 @@ use Rattle.rules.specs.Tables.{freeObject, withObject}
 use Rattle.rules.specs.Lines.{those, first}
 use Rattle.rules.specs.Sentences.{MayWait, receiver, sender, taker, RingFits, Sound}
 use Rattle.rows.specs.Asking.{waits}
-use Rattle.rows.specs.Applies.{outOfRange, namesNone, noSlot}
+use Rattle.rows.specs.Applies.{outOfRange, namesNone, noneFree}
 use Rattle.rules.specs.Refusals.{heldOrWaited, inUse}
 use Rattle.rules.specs.Waits.{later, wakeOf}
 use Rattle.rules.specs.Effects.{queueMade, mutexMade, removed, effect}
@@ -126,7 +126,7 @@ module _ (k : State) (S : Sound k) (store : ℕ) where
         }
 
     has-room : freeObject (k .objects) < 16
-    unfolding noSlot
+    unfolding noneFree
     has-room = free-low (P .slot)
 
     pub queue-keeps : Keeps (effect k (nothing 10 0 0 c z))
@@ -136,7 +136,7 @@ module _ (k : State) (S : Sound k) (store : ℕ) where
   -- 11: make mutex
   module _ (P : Passed k (nothing 11 0 0 1 0) store) where
     room-for-mutex : freeObject (k .objects) < 16
-    unfolding noSlot
+    unfolding noneFree
     room-for-mutex = free-low (P .slot)
 
     pub mutex-keeps : Keeps (effect k (nothing 11 0 0 1 0))

@@ -19,13 +19,13 @@ use Rattle.rules.specs.Types.{TaskSlot, ObjSlot, Free, Ready, Delayed, S
 use Rattle.rules.specs.Tables.{holds, freeSlot, withTask}
 use Rattle.rules.specs.Lines.{level, toTail, leaves}
 use Rattle.rules.specs.Sentences.{Holds, HoldsNothing, AsIdle, Sound}
-use Rattle.rows.specs.Applies.{outOfRange, namesNone, notForIdle, notWithHold, noSlot, notSuspended}
+use Rattle.rows.specs.Applies.{outOfRange, namesNone, notForIdle, notWithHold, noneFree, notSuspended}
 use Rattle.rules.specs.Refusals.{inUse}
 use Rattle.rules.specs.Waits.{later, arrives}
 use Rattle.rules.specs.Loans.{prioritized, movedIf, newPriority}
 use Rattle.rules.specs.Effects.{created, deleted, suspended, resumed, yielded, delayed, effect}
 use Rattle.rules.proofs.TableHolds.{none-holds, not-held}
-use Rattle.rules.proofs.RowPasses.{Passed, range}
+use Rattle.rules.proofs.RowPasses.{Passed, in-range-of}
 use Rattle.rules.proofs.KeepNearly.{settled, TaskFine, Nearly, unblocked-fits, RunsIn}
 use Rattle.rules.proofs.KeepSlot.{tail-nearly, tail-listed, leave-nearly, leave-listed, moved-nearly}
 use Rattle.rules.proofs.KeepChosen.{sound-nearly}
@@ -51,10 +51,10 @@ module _ (k : State) (S : Sound k) (store : ℕ) where
     t = task (freeSlot (k .tasks))
 
     small : p ≤ 31
-    small = range (nothing 1 p 0 1 0) (P .in-range) .low
+    small = in-range-of (nothing 1 p 0 1 0) (P .in-range) .low
 
     pub has-slot : t .0 < length (k .tasks)
-    unfolding noSlot freeSlot
+    unfolding noneFree freeSlot
     has-slot =
         let most = index-most (λ (x : Task). isFree (x .place)) freeTask (k .tasks) in
         let d = eqb-false (freeSlot (k .tasks)) 16 (P .slot) in
@@ -206,7 +206,7 @@ module _ (k : State) (S : Sound k) (store : ℕ) where
     exists = P .named
 
     in-range : p ≤ 31
-    in-range = range (onTask 5 t p) (P .in-range) .low
+    in-range = in-range-of (onTask 5 t p) (P .in-range) .low
 
     idle-to-0 : t .0 ≡ 0 → p ≡ 0
     unfolding notForIdle

@@ -36,9 +36,9 @@ pub record Keeps (j : State) : Type 0 where
   pub runs : 0 < j .hold → RunsIn j
 
 -- so the step keeps soundness, whether the call is accepted or not
-pub kept : (k : State) (c : Call) (item s : List ℕ) → sound k ≡ true → (Sound k → Passed k (asked c) (length s) → Keeps (effect k (asked c))) → sound (step k c item s .kernel) ≡ true
+pub effect-kept : (k : State) (c : Call) (item s : List ℕ) → sound k ≡ true → (Sound k → Passed k (asked c) (length s) → Keeps (effect k (asked c))) → sound (step k c item s .kernel) ≡ true
 unfolding step refusal accepted
-kept k c item s e f = rw e (go (eqb (laterRow k (asked c) (length item) (length s)) 0) refl)
+effect-kept k c item s e f = rw e (go (eqb (laterRow k (asked c) (length item) (length s)) 0) refl)
   where
     go : (b : Bool) → eqb (laterRow k (asked c) (length item) (length s)) 0 ≡ b
         → sound ((if b then accepted k (asked c) item s else turnedAway k (laterRow k (asked c) (length item) (length s)) s) .kernel) ≡ true

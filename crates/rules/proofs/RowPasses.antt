@@ -12,7 +12,7 @@ use Rattle.slots.specs.Places.{isReady}
 use Rattle.rules.specs.Types.{Task, Ring, Kind, Queue, Asked, State}
 use Rattle.slots.specs.Kinds.{kindAt}
 use Rattle.rules.specs.Sound.{sound}
-use Rattle.rows.specs.Applies.{outOfRange, namesNone, sizeDiffers, wrongSize, notForIdle, notWithHold, noSlot}
+use Rattle.rows.specs.Applies.{outOfRange, namesNone, sizeDiffers, wrongSize, notForIdle, notWithHold, noneFree}
 use Rattle.rules.specs.Refusals.{seen, inUse}
 use Rattle.rows.specs.Applies.{notHis, hisAlready, notSuspended, mustWait, noDepth, noTick, table}
 use Rattle.rules.specs.Refusals.{laterRow}
@@ -26,7 +26,7 @@ pub record Passed (k : State) (a : Asked) (store : ℕ) : Type 0 where
   pub named : namesNone (seen k a) a ≡ false
   pub idle : notForIdle (seen k a) a ≡ false
   pub held : notWithHold (seen k a) a ≡ false
-  pub slot : noSlot (seen k a) ≡ false
+  pub slot : noneFree (seen k a) ≡ false
   pub unused : inUse k a ≡ false
   pub his : notHis (seen k a) a ≡ false
   pub another : hisAlready (seen k a) a ≡ false
@@ -47,9 +47,9 @@ pub record InRange (a : Asked) : Type 0 where
   pub few : a .capacity ≤ 64
   pub small : a .size ≤ 64
 
-pub range : (a : Asked) → outOfRange a ≡ false → InRange a
+pub in-range-of : (a : Asked) → outOfRange a ≡ false → InRange a
 unfolding outOfRange
-range a e =
+in-range-of a e =
     let s = or-off (leb 4294967295 (a .ticks)) _ (or-off (ltb 31 (a .priority)) _ e .1) in
     let u = or-off (ltb 64 (a .capacity)) _ (or-off (ltb (a .capacity) 1) _ (s .1) .1) in
     let v = or-off (ltb 64 (a .size)) _ (u .1) in
@@ -69,7 +69,7 @@ passed k a item store e0 =
     let e4 = row-passed (wrongSize (seen k a) a item) 6 (omega arith) (e3 .1) in
     let e5 = row-passed (notForIdle (seen k a) a) 7 (omega arith) (e4 .1) in
     let e6 = row-passed (notWithHold (seen k a) a) 8 (omega arith) (e5 .1) in
-    let e7 = row-passed (noSlot (seen k a)) 9 (omega arith) (e6 .1) in
+    let e7 = row-passed (noneFree (seen k a)) 9 (omega arith) (e6 .1) in
     let e8 = row-passed (inUse k a) 10 (omega arith) (e7 .1) in
     let e9 = row-passed (notHis (seen k a) a) 11 (omega arith) (e8 .1) in
     let e10 = row-passed (hisAlready (seen k a) a) 12 (omega arith) (e9 .1) in

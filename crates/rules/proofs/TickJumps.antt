@@ -37,7 +37,7 @@ none-woken k f [] = refl
 none-woken k f (t ∷ l) = ap (λ (b : Bool). foldl wokenIfDue (if b then arrives k t Ready (outcomeDue (taskAt (k .tasks) t .place)) else k) l) (f t) ∙ none-woken k f l
 
 -- within the next d ticks nobody is due
-pub record Quiet (d : ℕ) (k : State) : Type 0 where
+pub record NobodyDue (d : ℕ) (k : State) : Type 0 where
   pub counts : k .tick ≤ 4294967295
   pub away : (t : TaskSlot) → d ≤ away (k .tick) (taskAt (k .tasks) t .place)
 
@@ -45,7 +45,7 @@ later-more : (now a b : ℕ) → later (later now a) b ≡ later now (a + b)
 later-more now a b = mod-add-mod (now + a) 4294967296 b ∙ ap (λ x. x % 4294967296) (omega arith)
 
 -- so these ticks are one jump of the count
-pub jump : (d n : ℕ) (k : State) → Quiet d k → n ≤ d → ticks n k ≡ withTick k (later (k .tick) n)
+pub jump : (d n : ℕ) (k : State) → NobodyDue d k → n ≤ d → ticks n k ≡ withTick k (later (k .tick) n)
 unfolding ticks upTo oneTick
 jump d zero k Q h = let e : k .tick ≡ later (k .tick) 0 = omega (arith, Q .counts) in ap (withTick k) e
 jump d (suc n) k Q h =
@@ -75,7 +75,7 @@ least-each now [] b h i = omega arith
 least-each now (x ∷ ts) b h zero = omega (arith, least-kept now ts (min b (away now (x .place))))
 least-each now (x ∷ ts) b h (suc i) = least-each now ts (min b (away now (x .place))) (omega arith) i
 
-pub until-quiet : (k : State) → k .tick ≤ 4294967295 → Quiet (untilDue (k .tick) (k .tasks)) k
+pub until-quiet : (k : State) → k .tick ≤ 4294967295 → NobodyDue (untilDue (k .tick) (k .tasks)) k
 unfolding untilDue taskAt
 until-quiet k h = record { counts = h; away = λ t. least-each (k .tick) (k .tasks) 4294967295 (omega arith) (t .0) }
 

@@ -6,7 +6,7 @@ use lib.Dec.{eqb, ltb}
 use lib.ListN.{length, take}
 use Rattle.lists.specs.Choice.{if_then_else_}
 use Rattle.calls.specs.Door.{taskNo}
-use Rattle.cuts.specs.Keeping.{kept, ended, isEmpty}
+use Rattle.cuts.specs.Keeping.{withByte, ended, isBlank}
 use Rattle.journal.specs.declared.Read.{Read}
 use Rattle.journal.specs.declared.Reading.{Reading}
 use Rattle.journal.specs.declared.Reading.the-variants.{Says, Refused}
@@ -66,8 +66,8 @@ answeredBy r c d = record { taken = r .taken + 1; kernel = d .kernel; store = d 
 -- a byte is taken; a newline ends the line
 unfoldable pub fed : Run → ℕ → Run
 fed r b =
-    if eqb b 10 then answeredBy r (kept (r .cut) b) (lineStep (r .kernel) (r .store) (kept (r .cut) b))
-    else record { taken = r .taken + 1; kernel = r .kernel; store = r .store; cut = kept (r .cut) b; answers = r .answers }
+    if eqb b 10 then answeredBy r (withByte (r .cut) b) (lineStep (r .kernel) (r .store) (withByte (r .cut) b))
+    else record { taken = r .taken + 1; kernel = r .kernel; store = r .store; cut = withByte (r .cut) b; answers = r .answers }
 
 -- output that does not fit is asked for again: of n bytes lent, 256 are to be free before a newline is taken
 unfoldable pub noRoom : ℕ → Run → ℕ → Bool
@@ -86,6 +86,6 @@ begun k s c = record { taken = 0; kernel = k; store = s; cut = c; answers = [] }
 -- the input has ended: "and so is a last line without a newline"; asked for again if fewer than 256 of the n bytes lent are there
 unfoldable pub closed : ℕ → State → List ℕ → Cut → Run
 closed n k s c =
-    if isEmpty c then begun k s c
+    if isBlank c then begun k s c
     else if ltb n 256 then begun k s c
     else record { taken = 0; kernel = k; store = s; cut = ended c; answers = told (turnedAway k (noLine k s) s) }

@@ -1,10 +1,10 @@
 use borrow.Author.Needs.{needs}
-use Rattle.cuts.proofs.Storing.{place-within, gathers}
+use Rattle.cuts.proofs.Storing.{newline-within, gathers}
 use Rattle.cuts.proofs.gather.Statement.{statement}
 use Rattle.cuts.proofs.gather.Tie as tie
 
 kept-all-requires : tie.Need-kept-all-requires
-kept-all-requires c κs = place-within _ _ _ (c .before .newline .ensures)
+kept-all-requires c κs = newline-within _ _ _ (c .before .newline .ensures)
 
 returns : tie.Need-returns
 returns c = gathers _ _ _ _ _ _ _ (c .before .before .newline .ensures) (c .kept-all .ensures)

@@ -5,7 +5,7 @@ use mathlib.Core.Path.{_≡_, sym}
 use native.Mathlib.Omega.{arith}
 use lib.ListN.{List·getD-eq-default}
 use borrow.Author.Needs.{needs}
-use Rattle.calls.specs.Table.{rows, callOf}
+use Rattle.calls.specs.Table.{entries, callOf}
 use Rattle.calls.specs.Types.{Tick}
 use Rattle.calls.proofs.Ranges.{NotUpto, outside}
 use Rattle.lists.proofs.Tests.{below-or}
@@ -18,7 +18,7 @@ other-call n vs h =
     ⊎-elim (λ (e : n ≡ 0). rw e)
     (λ (l : 16 < n).
     ⊎-elim (λ (u : n < 18). let e : n ≡ 17 = omega arith in rw e)
-    (λ (u : 18 ≤ n). sym (List·getD-eq-default (rows vs) Tick {n = n} u))
+    (λ (u : 18 ≤ n). sym (List·getD-eq-default (entries vs) Tick {n = n} u))
     (below-or n 18))
     (outside 16 n h)
 

@@ -7,7 +7,7 @@ use native.Mathlib.Omega.{arith}
 use lib.ListN.{List·getD-eq-default}
 use borrow.Author.Needs.{needs}
 use Rattle.lists.specs.Lists.{index, any}
-use Rattle.calls.specs.Words.{shaped, plain, unknown, shapes, shapeOf}
+use Rattle.calls.specs.Words.{shaped, numbersOnly, unknown, shapes, shapeOf}
 use Rattle.calls.proofs.Ranges.{keyed, Nones, ranged}
 use Rattle.lists.proofs.Tests.{below-or}
 use Rattle.calls.proofs.Shape.of.Statement.{statement}
@@ -40,17 +40,17 @@ returns-3 c = beyond _ (c .if4 .left) (c .before .before .before .before .match 
 returns-4 : tie.Need-returns-4
 unfolding shapeOf any index
 returns-4 c =
-    c .plain .ensures ∙ ⊎-elim (λ k. keyed (plain 0) (11 ∷ 17 ∷ []) refl _ (k .keys1)) (λ w. ranged (plain 0) arms 5 5 refl _ (w .2 .left) (w .3 .taken) (w .0 .rest)) (c .before .match .came)
+    c .plain .ensures ∙ ⊎-elim (λ k. keyed (numbersOnly 0) (11 ∷ 17 ∷ []) refl _ (k .keys1)) (λ w. ranged (numbersOnly 0) arms 5 5 refl _ (w .2 .left) (w .3 .taken) (w .0 .rest)) (c .before .match .came)
 
 returns-5 : tie.Need-returns-5
 unfolding shapeOf any index
 returns-5 c =
-    c .plain2 .ensures ∙ ⊎-elim (λ k. keyed (plain 2) (5 ∷ 10 ∷ []) refl _ (k .keys3)) (λ w. ranged (plain 2) arms 10 6 refl _ (w .3 .left) (w .4 .taken) (w .0 .rest)) (c .before .match .came)
+    c .plain2 .ensures ∙ ⊎-elim (λ k. keyed (numbersOnly 2) (5 ∷ 10 ∷ []) refl _ (k .keys3)) (λ w. ranged (numbersOnly 2) arms 10 6 refl _ (w .3 .left) (w .4 .taken) (w .0 .rest)) (c .before .match .came)
 
 returns-6 : tie.Need-returns-6
 unfolding shapeOf any index
 returns-6 c =
-    c .plain3 .ensures ∙ ⊎-elim (λ k. keyed (plain 1) (6 ∷ 12 ∷ 16 ∷ []) refl _ (k .keys2)) (λ w. ranged (plain 1) arms 1 4 refl _ (w .1 .left) (w .2 .taken) (w .0 .rest)) (c .before .match .came)
+    c .plain3 .ensures ∙ ⊎-elim (λ k. keyed (numbersOnly 1) (6 ∷ 12 ∷ 16 ∷ []) refl _ (k .keys2)) (λ w. ranged (numbersOnly 1) arms 1 4 refl _ (w .1 .left) (w .2 .taken) (w .0 .rest)) (c .before .match .came)
 
 pub of-spec : {M : Type 1} → statement M
 of-spec =

@@ -4,12 +4,12 @@ use lib.ListN.{length, drop, drop-of-length-le}
 use borrow.Author.Needs.{needs}
 use borrow.Author.Tests.{lt-ltb, le-ltb, eq-eqb, ne-eqb}
 use Rattle.fields.proofs.LinePlaces.{here}
-use Rattle.fields.specs.Number.{more, number}
+use Rattle.fields.specs.Number.{more, readNumber}
 use Rattle.fields.proofs.decimal.read_number.Statement.{statement}
 use Rattle.fields.proofs.decimal.read_number.Tie as tie
 
 abbrev Inv-loop : tie.InvT-loop
-Inv-loop line at first i₀ v₀ i v = (i ≤ length line) × (number at (drop at line) ≡ more v i (drop i line))
+Inv-loop line at first i₀ v₀ i v = (i ≤ length line) × (readNumber at (drop at line) ≡ more v i (drop i line))
 
 abbrev μ-loop : tie.MeasureT-loop
 μ-loop line at first i₀ v₀ i v = length line - i

@@ -3,12 +3,12 @@ use mathlib.Core.Path.{_≡_, refl, sym, _∙_}
 use native.Mathlib.Omega.{arith}
 use lib.ListN.{drop}
 use borrow.Author.Needs.{needs}
-use Rattle.fields.proofs.Pairs.{byte-within, left, left-first, left-last, left-stop, left-more}
+use Rattle.fields.proofs.Pairs.{byte-within, leftOver, left-first, left-last, left-stop, left-more}
 use Rattle.fields.proofs.hex.read_item.Statement.{statement}
 use Rattle.fields.proofs.hex.read_item.Tie as tie
 
 abbrev Inv-loop : tie.InvT-loop
-Inv-loop line at bytes₀ i₀ n₀ bytes i n = (n ≤ 64) × (left (64 - n) n bytes i (drop i line) ≡ left 64 0 bytes₀ at (drop at line))
+Inv-loop line at bytes₀ i₀ n₀ bytes i n = (n ≤ 64) × (leftOver (64 - n) n bytes i (drop i line) ≡ leftOver 64 0 bytes₀ at (drop at line))
 
 abbrev μ-loop : tie.MeasureT-loop
 μ-loop line at bytes₀ i₀ n₀ bytes i n = 64 - n

@@ -7,7 +7,7 @@ use lib.ListN.{length, take}
 use native.Mathlib.Omega.{arith}
 use lib.Seq.{length-take-le}
 use Rattle.calls.specs.declared.Call.{Call}
-use Rattle.kernel.proofs.SessionRuns.{line-refused, has-call, sound-step}
+use Rattle.kernel.proofs.SessionRuns.{line-turned-away, has-call, sound-step}
 use mathlib.Core.Path.{_≡_, sym, subst}
 use Rattle.kernel.proofs.Kernel.line_step.Statement.{statement}
 use Rattle.kernel.proofs.Kernel.line_step.Tie as tie
@@ -16,7 +16,7 @@ returns : tie.Need-returns
 returns c =
     let args = c .before .before .before .args in
     let pre = c .before .before .before .pre in
-    line-refused (args .self) (args .store .now) (args .line) (args .fine) (c .before .line-refusal .result) (pre .0) (pre .1) (c .before .line-refusal .ensures) (c .if1 .taken)
+    line-turned-away (args .self) (args .store .now) (args .line) (args .fine) (c .before .line-refusal .result) (pre .0) (pre .1) (c .before .line-refusal .ensures) (c .if1 .taken)
 
 array-share-prefix-item : tie.Need-array-share-prefix-item
 array-share-prefix-item c = let h : length (c .before .before .before .before .before .args .line .item) ≡ 64 = search length-mapped in omega arith

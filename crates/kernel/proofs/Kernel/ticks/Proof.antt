@@ -1,6 +1,6 @@
 use borrow.Author.Needs.{needs}
 use native.Mathlib.Omega.{arith}
-use Rattle.kernel.proofs.TickTurns.{Ticking, begins, jumps-all, jumps-on, none-left}
+use Rattle.kernel.proofs.TickTurns.{Ticking, ticking-begins, jumps-all, jumps-on, none-left}
 use Rattle.kernel.proofs.Kernel.ticks.Statement.{statement}
 use Rattle.kernel.proofs.Kernel.ticks.Tie as tie
 
@@ -11,7 +11,7 @@ abbrev μ-loop : tie.MeasureT-loop
 μ-loop n k₀ left₀ k left = left
 
 loop-holds : tie.Need-loop-holds Inv-loop μ-loop
-loop-holds c = begins (c .args .self) (c .args .n)
+loop-holds c = ticking-begins (c .args .self) (c .args .n)
 
 returns : tie.Need-returns Inv-loop μ-loop
 returns c =

@@ -11,7 +11,7 @@ use Rattle.lists.proofs.Loops.{length-mapped}
 use lib.Seq.{length-take-le}
 use native.Mathlib.Omega.{arith}
 use Rattle.journal.specs.declared.Read.{Read}
-use Rattle.kernel.proofs.SessionRuns.{Going, whole-cut, keeps-wide, set-out, stands-on, so-far, gathers-on, goes-on, stopped, answered-on}
+use Rattle.kernel.proofs.SessionRuns.{Going, whole-cut, keeps-wide, set-out, session-stands, so-far, gathers-on, goes-on, stopped, answered-on}
 use Rattle.kernel.proofs.Session.answer.Statement.{statement}
 use Rattle.kernel.proofs.Session.answer.Tie as tie
 
@@ -70,7 +70,7 @@ line-step-requires c κs =
     let keep = c .before .before .before .before .keep in
     let whole = c .before .before .before .whole in
     let w = c .before .before .before .before .before .before .before .before .before .before .before .loop .inv .0 in
-    (w .known, stands-on w, whole-cut (keep .last .0) (keep .result) (whole .result) (c .before .read-call .result) (whole .ensures .0) (c .before .read-call .ensures) .1)
+    (w .known, session-stands w, whole-cut (keep .last .0) (keep .result) (whole .result) (c .before .read-call .result) (whole .ensures .0) (c .before .read-call .ensures) .1)
 
 add-at : tie.Need-add-at Inv-loop μ-loop
 add-at c =

@@ -3,7 +3,7 @@ use Prim.Native.Nat.{_-_, _≤_}
 use Rattle.lists.proofs.Bools.{at}
 use Rattle.lists.proofs.Loops.{done, length-mapped, Held, all-begin, all-turn}
 use Rattle.numbers.specs.Numbers.{idle}
-use Rattle.order.proofs.Halves.{numbered, listed-low, listed-past, reached}
+use Rattle.order.proofs.Halves.{numbered, listed-low, listed-past, reach-listed}
 use Rattle.order.proofs.Tallies.{bump-past, Counting, count-begin, count-turn}
 use Rattle.order.specs.Tidy.{numbers, talliesOf}
 use lib.Dec.{ltb}
@@ -50,7 +50,7 @@ returns c =
     let o = c .before .before .before .before .args .self in
     let len : length (o .places) ≡ 16 = search length-mapped in
     let e : l .i ≡ c .before .before .reach .result = search needs in
-    (done (l .inv .0 .rest) (search needs) ∙ rw (c .before .before .reach .ensures, reached o len), numbered o (c .before .before .reach .ensures) (rw e at (l .inv .1)))
+    (done (l .inv .0 .rest) (search needs) ∙ rw (c .before .before .reach .ensures, reach-listed o len), numbered o (c .before .before .reach .ensures) (rw e at (l .inv .1)))
 
 pub tallied-spec : {M : Type 1} → statement M
 tallied-spec =

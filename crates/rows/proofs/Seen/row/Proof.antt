@@ -2,13 +2,13 @@ use borrow.Author.Needs.{needs}
 use mathlib.Core.Path.{refl}
 use mathlib.Core.Bool.{not}
 use lib.Dec.{eqb}
-use Rattle.rows.specs.Applies.{noSlot, table}
-use Rattle.rows.proofs.InTurn.{numbered, no-row, then-row, all-rows}
+use Rattle.rows.specs.Applies.{noneFree, table}
+use Rattle.rows.proofs.InTurn.{allNumbered, no-row, then-row, all-rows}
 use Rattle.rows.proofs.Seen.row.Statement.{statement}
 use Rattle.rows.proofs.Seen.row.Tie as tie
 
 returns : tie.Need-returns
-unfolding table noSlot numbered
+unfolding table noneFree allNumbered
 returns c =
     let r15 = c .before .before in
     let r14 = r15 .before .before in

@@ -9,7 +9,7 @@ use lib.ListN.{length, getD}
 use mathlib.Core.Logic.{⊎-elim}
 use mathlib.Core.Path.{_≡_, sym, _∙_}
 use native.Mathlib.Omega.{arith}
-use Rattle.order.proofs.Halves.{reached}
+use Rattle.order.proofs.Halves.{reach-listed}
 use Rattle.tasks.proofs.Tasks.first.Statement.{statement}
 use Rattle.tasks.proofs.Tasks.first.Tie as tie
 
@@ -44,7 +44,7 @@ returns c =
     let a = c .before .before .before .before .before .before .before .args in
     let o = a .o in
     let len : length (o .places) ≡ 16 = search length-mapped in
-    done (c .before .loop .inv) (search needs) ∙ rw (c .before .before .reach .ensures, reached o len) (lead-is (a .self) (listed o) (a .w))
+    done (c .before .loop .inv) (search needs) ∙ rw (c .before .before .reach .ensures, reach-listed o len) (lead-is (a .self) (listed o) (a .w))
 
 pub first-spec : {M : Type 1} → statement M
 first-spec =

@@ -10,7 +10,7 @@ use lib.ListN.{length, getD}
 use mathlib.Core.Logic.{⊎-elim}
 use mathlib.Core.Path.{_≡_, sym, ap, _∙_}
 use native.Mathlib.Omega.{arith}
-use Rattle.order.proofs.Halves.{reached}
+use Rattle.order.proofs.Halves.{reach-listed}
 use Rattle.tasks.proofs.Tasks.head.Statement.{statement}
 use Rattle.tasks.proofs.Tasks.head.Tie as tie
 
@@ -36,7 +36,7 @@ returns c =
     let p = a .p in
     let t = getD (o .places) (l .i) idle in
     let k = met (l .inv) (search needs) idle (level-at (ts .state) (s .result) t (s .ensures) p (ts .effective) (sym (c .before .at-level .ensures) ∙ c .if2 .taken)) in
-    sym (ap headOr k) ∙ rw (c .before .before .before .before .before .before .before .reach .ensures, reached o len, line-is ts (listed o) p)
+    sym (ap headOr k) ∙ rw (c .before .before .before .before .before .before .before .reach .ensures, reach-listed o len, line-is ts (listed o) p)
 
 loop-again : tie.Need-loop-again Inv-loop μ-loop
 loop-again c =
@@ -58,7 +58,7 @@ returns-2 c =
     let o = a .o in
     let len : length (o .places) ≡ 16 = search length-mapped in
     let p = a .p in
-    c .of .ensures ∙ sym (ap headOr (met-none (c .before .before .loop .inv) (search needs))) ∙ rw (c .before .before .before .reach .ensures, reached o len, line-is ts (listed o) p)
+    c .of .ensures ∙ sym (ap headOr (met-none (c .before .before .loop .inv) (search needs))) ∙ rw (c .before .before .before .reach .ensures, reach-listed o len, line-is ts (listed o) p)
 
 pub head-spec : {M : Type 1} → statement M
 head-spec =

@@ -9,7 +9,7 @@ use lib.ListN.{length, getD, take}
 use mathlib.Core.Logic.{⊎-elim}
 use mathlib.Core.Path.{_≡_, sym, _∙_}
 use native.Mathlib.Omega.{arith}
-use Rattle.order.proofs.Halves.{reached}
+use Rattle.order.proofs.Halves.{reach-listed}
 use Rattle.tasks.proofs.Tasks.higher.Statement.{statement}
 use Rattle.tasks.proofs.Tasks.higher.Tie as tie
 
@@ -37,7 +37,7 @@ returns c =
     let t = getD (o .places) (l .i) idle in
     this (l .inv .0) (rw (first-long (o .places) n few) low) idle
     (rw (first-at (o .places) n few (l .i) low) (above-at (ts .state) (slot .result) t (slot .ensures) (a .p) (ts .effective) (sym (c .before .above .ensures) ∙ c .if2 .taken)))
-    ∙ rw (reach .ensures, reached o len) (above-is ts (listed o) (a .p))
+    ∙ rw (reach .ensures, reach-listed o len) (above-is ts (listed o) (a .p))
 
 loop-again : tie.Need-loop-again Inv-loop μ-loop
 loop-again c =
@@ -69,7 +69,7 @@ returns-2 c =
     let n = c .before .before .reach .result in
     let few : n ≤ length (o .places) = omega (arith, c .before .before .reach .ensures) in
     none-left (c .before .loop .inv .0) (rw (first-long (o .places) n few) (search needs))
-    ∙ rw (c .before .before .reach .ensures, reached o len) (above-is ts (listed o) (a .p))
+    ∙ rw (c .before .before .reach .ensures, reach-listed o len) (above-is ts (listed o) (a .p))
 
 pub higher-spec : {M : Type 1} → statement M
 higher-spec =
