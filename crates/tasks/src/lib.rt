@@ -44,18 +44,14 @@ impl Tasks {
     {
         let mut state = [0u8; 16];
         state[0] = 1;
-        let object = [0u8; 16];
-        let wake = [0u32; 16];
-        let own = [0u8; 16];
-        let effective = [0u8; 16];
-        let outcome = [0u8; 16];
+        let zeros = [0u8; 16];
         Tasks {
             state,
-            object,
-            wake,
-            own,
-            effective,
-            outcome,
+            object: zeros,
+            wake: [0u32; 16],
+            own: zeros,
+            effective: zeros,
+            outcome: zeros,
         }
     }
 
@@ -91,31 +87,8 @@ impl Tasks {
     pub fn set(self, t: TaskSlot, x: Task) -> Tasks
         ensures { λ r. ⌜ r ≡ put self (t .0) x ⌝ }
     {
-        let i = t.slot();
         let p = x.place;
-        let cells = Cells::of(p);
-        let mut state = self.state;
-        let mut object = self.object;
-        let mut wake = self.wake;
-        let mut own = self.own;
-        let mut effective = self.effective;
-        let mut outcome = self.outcome;
-        if i < 16 {
-            state[i] = cells.state;
-            object[i] = cells.object;
-            wake[i] = cells.wake;
-            own[i] = x.own;
-            effective[i] = x.effective;
-            outcome[i] = x.outcome;
-        }
-        Tasks {
-            state,
-            object,
-            wake,
-            own,
-            effective,
-            outcome,
-        }
+        self.placed(t, p, x.outcome).ranked(t, x.own, x.effective)
     }
 
     // The row of `t` with another place and outcome.
