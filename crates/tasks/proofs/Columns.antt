@@ -74,6 +74,12 @@ module _ (ts : Tasks) (f : Full ts) (n : ℕ) (h : 16 ≤ n) where
       rw (List·getD-eq-default (ts .state) 0 {n = n} (omega arith), List·getD-eq-default (ts .own) 0 {n = n} (omega arith))
       (rw (List·getD-eq-default (ts .effective) 0 {n = n} (omega arith), List·getD-eq-default (ts .outcome) 0 {n = n} (omega arith)))
 
+  pub lost-row : (x : Task) → put ts n x ≡ ts
+  unfolding put
+  lost-row x =
+      rw (set-out (ts .state) n (stateOf x) (omega arith), set-out (ts .object) n (objectOf x) (omega arith), set-out (ts .wake) n (wakeOf x) (omega arith))
+      (rw (set-out (ts .own) n (x .own) (omega arith), set-out (ts .effective) n (x .effective) (omega arith), set-out (ts .outcome) n (x .outcome) (omega arith)))
+
   pub lost-place : (p : Place) (o : ℕ) → placedAt ts n p o ≡ ts
   unfolding placedAt
   lost-place p o =

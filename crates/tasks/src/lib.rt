@@ -87,8 +87,31 @@ impl Tasks {
     pub fn set(self, t: TaskSlot, x: Task) -> Tasks
         ensures { λ r. ⌜ r ≡ put self (t .0) x ⌝ }
     {
+        let i = t.slot();
         let p = x.place;
-        self.placed(t, p, x.outcome).ranked(t, x.own, x.effective)
+        let cells = Cells::of(p);
+        let mut state = self.state;
+        let mut object = self.object;
+        let mut wake = self.wake;
+        let mut own = self.own;
+        let mut effective = self.effective;
+        let mut outcome = self.outcome;
+        if i < 16 {
+            state[i] = cells.state;
+            object[i] = cells.object;
+            wake[i] = cells.wake;
+            own[i] = x.own;
+            effective[i] = x.effective;
+            outcome[i] = x.outcome;
+        }
+        Tasks {
+            state,
+            object,
+            wake,
+            own,
+            effective,
+            outcome,
+        }
     }
 
     // The row of `t` with another place and outcome.
