@@ -1,7 +1,6 @@
 // What soundness asks of the objects and must know of them, in numbers: no Kind is made, so that the compiler does many rows at once.
 ghost use mathlib.Core.Path.{_≡_};
-ghost use mathlib.Core.Bool.{_&&_, _||_};
-ghost use lib.Dec.{eqb, leb};
+ghost use lib.Dec.{leb};
 ghost use Rattle.lists.specs.Choice.{if_then_else_};
 ghost use Rattle.lists.specs.Lists.{allBelow};
 ghost use Rattle.slots.specs.SoundSlots.{ringFine};
@@ -41,12 +40,6 @@ fn by_whom(s: u8, h: u8) -> usize
     ensures { λ r. ⌜ r ≡ if leb 3 s then h else 16 ⌝ }
 {
     if 3 <= s { h as usize } else { 16 }
-}
-
-fn opened(s: u8, c: u8, k: u8) -> bool
-    ensures { λ r. ⌜ r ≡ (eqb s 1 && (eqb k 0 || eqb k c)) ⌝ }
-{
-    lists::both(s == 1, lists::either(k == 0, k == c))
 }
 
 impl Objects {
@@ -119,7 +112,8 @@ impl Objects {
         let mut out = [false; 16];
         let mut i = 0usize;
         while i < 16 {
-            out[i] = opened(state[i], capacity[i], count[i]);
+            let ends = lists::either(count[i] == 0, count[i] == capacity[i]);
+            out[i] = lists::both(state[i] == 1, ends);
             i += 1;
         }
         out

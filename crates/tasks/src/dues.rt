@@ -1,6 +1,5 @@
 // The wake ticks: how long until the next, and who is due.
 ghost use mathlib.Core.Path.{_≡_};
-ghost use mathlib.Core.Bool.{_&&_};
 ghost use lib.Dec.{eqb};
 ghost use Rattle.lists.specs.Choice.{if_then_else_};
 ghost use Rattle.numbers.specs.Numbers.{byNumber};
@@ -26,12 +25,6 @@ fn away(state: u8, wake: u32, now: u32) -> u32
     } else {
         4294967295
     }
-}
-
-fn due(state: u8, wake: u32, now: u32) -> bool
-    ensures { λ r. ⌜ r ≡ (timed state && eqb wake now) ⌝ }
-{
-    lists::both(timed(state), wake == now)
 }
 
 // The outcome of a delay, or of a wait, that ends because it is due.
@@ -83,7 +76,7 @@ impl Tasks {
         let mut order = o;
         let mut i = 0usize;
         while i < 16 {
-            if due(state[i], wake[i], now) {
+            if lists::both(timed(state[i]), wake[i] == now) {
                 outcome[i] = ended(state[i]);
                 state[i] = 1;
                 object[i] = 0;

@@ -153,19 +153,11 @@ impl Tasks {
         ok
     }
 
-    fn level(self, t: TaskSlot) -> u8
-        ensures { λ r. ⌜ r ≡ rowAt self (t .0) .effective ⌝ }
-    {
-        let effective = self.effective;
-        let i = t.slot();
-        if i < 16 { effective[i] } else { 0 }
-    }
-
     // The running task `u` heads its line, and no row outranks it, unless `held`.
     pub fn runs_fine(self, o: Order, u: TaskSlot, held: bool) -> bool
         ensures { λ r. ⌜ r ≡ runsIn self (listed o) u held ⌝ }
     {
-        let p = self.level(u);
+        let p = self.get(u).effective;
         let heads = self.head(o, p).same(u);
         let outranked = self.outranked(p);
         let top = lists::either(held, !outranked);

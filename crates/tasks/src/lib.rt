@@ -44,18 +44,14 @@ impl Tasks {
     {
         let mut state = [0u8; 16];
         state[0] = 1;
-        let object = [0u8; 16];
-        let wake = [0u32; 16];
-        let own = [0u8; 16];
-        let effective = [0u8; 16];
-        let outcome = [0u8; 16];
+        let zeros = [0u8; 16];
         Tasks {
             state,
-            object,
-            wake,
-            own,
-            effective,
-            outcome,
+            object: zeros,
+            wake: [0u32; 16],
+            own: zeros,
+            effective: zeros,
+            outcome: zeros,
         }
     }
 

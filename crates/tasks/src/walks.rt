@@ -36,12 +36,6 @@ fn above(state: u8, level: u8, p: u8) -> bool
     lists::both(state == 1, p < level)
 }
 
-fn at_level(state: u8, level: u8, p: u8) -> bool
-    ensures { λ r. ⌜ r ≡ (eqb state 1 && eqb level p) ⌝ }
-{
-    lists::both(state == 1, level == p)
-}
-
 fn ready_level(state: u8, level: u8) -> u8
     ensures { λ r. ⌜ r ≡ ready state level ⌝ }
 {
@@ -86,7 +80,7 @@ impl Tasks {
             let t = places[i];
             let s = t.slot();
             if s < 16 {
-                if at_level(state[s], effective[s], p) {
+                if lists::both(state[s] == 1, effective[s] == p) {
                     return t;
                 }
             }

@@ -105,6 +105,15 @@ fn say(label: &[u8], k: Kernel) {
     }
 }
 
+// The parlour with another task; with another object.
+fn say_task(label: &[u8], i: u8, x: Task) {
+    say(label, put_task(parlour(), i, x));
+}
+
+fn say_kind(label: &[u8], i: u8, kind: Kind) {
+    say(label, put_kind(parlour(), i, kind));
+}
+
 fn good() {
     say(b"fresh", Kernel::fresh());
     say(b"a suspended task that the order does not list", parlour());

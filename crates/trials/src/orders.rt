@@ -4,6 +4,7 @@ use crate::parlour;
 use crate::put_order;
 use crate::put_task;
 use crate::say;
+use crate::say_task;
 use crate::task;
 use crate::unlisted;
 use kernel::Kernel;
@@ -59,9 +60,10 @@ pub(crate) fn running() {
         b"the running task behind another in its line",
         put_order(k, o.to_front(TaskSlot::of(2))),
     );
-    say(
+    say_task(
         b"a higher line occupied with no hold",
-        put_task(parlour(), 2, task(Place::Ready, 6, 6, 0)),
+        2,
+        task(Place::Ready, 6, 6, 0),
     );
     let mut k = parlour();
     k.running = TaskSlot::of(3);

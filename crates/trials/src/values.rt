@@ -1,9 +1,10 @@
 // Tasks with a value that no sound kernel has.
 use crate::held_by;
 use crate::parlour;
-use crate::put_kind;
 use crate::put_task;
 use crate::say;
+use crate::say_kind;
+use crate::say_task;
 use crate::task;
 use crate::unlisted;
 use crate::waiting;
@@ -15,26 +16,18 @@ pub(crate) fn idle() {
         b"idle suspended",
         unlisted(put_task(parlour(), 0, task(Place::Suspended, 0, 0, 0)), 0),
     );
-    say(
-        b"idle at priority 1",
-        put_task(parlour(), 0, task(Place::Ready, 1, 1, 0)),
-    );
-    say(b"idle holds a mutex", put_kind(parlour(), 3, held_by(0)));
+    say_task(b"idle at priority 1", 0, task(Place::Ready, 1, 1, 0));
+    say_kind(b"idle holds a mutex", 3, held_by(0));
 }
 
 pub(crate) fn priorities() {
-    say(
-        b"effective below own",
-        put_task(parlour(), 1, task(Place::Ready, 6, 5, 0)),
-    );
-    say(
+    say_task(b"effective below own", 1, task(Place::Ready, 6, 5, 0));
+    say_task(
         b"effective above own, no mutex held",
-        put_task(parlour(), 2, task(Place::Ready, 2, 3, 1)),
+        2,
+        task(Place::Ready, 2, 3, 1),
     );
-    say(
-        b"priority 32",
-        put_task(parlour(), 7, task(Place::Suspended, 32, 32, 3)),
-    );
+    say_task(b"priority 32", 7, task(Place::Suspended, 32, 32, 3));
 }
 
 pub(crate) fn others() {
@@ -43,25 +36,26 @@ pub(crate) fn others() {
     say(b"a delay's wake tick is the tick count", k);
     k.tick = 20;
     say(b"a wait's wake tick is the tick count", k);
-    say(
-        b"outcome 4",
-        put_task(parlour(), 2, task(Place::Ready, 3, 3, 4)),
-    );
-    say(
+    say_task(b"outcome 4", 2, task(Place::Ready, 3, 3, 4));
+    say_task(
         b"outcome 1 while delayed",
-        put_task(parlour(), 3, task(Place::Delayed(10), 4, 4, 1)),
+        3,
+        task(Place::Delayed(10), 4, 4, 1),
     );
-    say(
+    say_task(
         b"outcome 2 while waiting",
-        put_task(parlour(), 4, task(waiting(0, Wake::At(20)), 4, 4, 2)),
+        4,
+        task(waiting(0, Wake::At(20)), 4, 4, 2),
     );
-    say(
+    say_task(
         b"a free slot with a priority",
-        put_task(parlour(), 8, task(Place::Free, 1, 1, 0)),
+        8,
+        task(Place::Free, 1, 1, 0),
     );
-    say(
+    say_task(
         b"a free slot with an outcome",
-        put_task(parlour(), 8, task(Place::Free, 0, 0, 1)),
+        8,
+        task(Place::Free, 0, 0, 1),
     );
     let mut k = parlour();
     k.pended = 1;

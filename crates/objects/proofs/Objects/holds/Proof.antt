@@ -20,7 +20,7 @@ loop-holds : tie.Need-loop-holds Inv-loop μ-loop
 loop-holds c = (start, search needs)
 
 loop-again : tie.Need-loop-again Inv-loop μ-loop
-loop-again c = (next (c .before .before .before .loop .inv .0) (c .either .ensures ∙ rw (c .before .by .ensures)), search needs)
+loop-again c = (next (c .before .before .before .before .loop .inv .0) (c .either .ensures ∙ rw (c .before .both .ensures)), search needs)
 
 returns : tie.Need-returns Inv-loop μ-loop
 returns c =

@@ -4,7 +4,7 @@ use Rattle.objects.proofs.Fines.{Filled, fill-begin, fill-turn, fill-do
 use lib.Dec.{eqb}
 use lib.ListN.{getD}
 use mathlib.Core.Bool.{_&&_, _||_}
-use mathlib.Core.Path.{refl}
+use mathlib.Core.Path.{refl, _∙_}
 use Rattle.objects.proofs.Objects.opens.Statement.{statement}
 use Rattle.objects.proofs.Objects.opens.Tie as tie
 
@@ -18,7 +18,7 @@ loop-holds : tie.Need-loop-holds Inv-loop μ-loop
 loop-holds c = (fill-begin refl, search needs)
 
 loop-again : tie.Need-loop-again Inv-loop μ-loop
-loop-again c = (fill-turn (c .before .before .loop .inv .0) (search needs) _ (c .opened .ensures), search needs)
+loop-again c = (fill-turn (c .before .before .before .loop .inv .0) (search needs) _ (c .both .ensures ∙ rw (c .before .either .ensures)), search needs)
 
 returns : tie.Need-returns Inv-loop μ-loop
 returns c = fill-done (c .before .loop .inv .0) (search needs)
@@ -32,6 +32,8 @@ opens-spec =
     loop-holds
     (λ c. search needs)
     (λ c. search needs)
+    (λ c. search needs)
+    (λ c κs. search needs)
     (λ c. search needs)
     (λ c κs. search needs)
     (λ c. search needs)

@@ -20,7 +20,7 @@ returns c =
     let u = a .u in
     c .both2 .ensures
     ∙ rw (c .before .both .ensures, c .before .before .slot .ensures, c .before .before .before .either .ensures, c4 .outranked .ensures, c4 .before .same .ensures)
-    (rw (c4 .before .before .head .ensures, c4 .before .before .before .level .ensures)
+    (rw (c4 .before .before .head .ensures, c4 .before .before .before .get .ensures)
     (runs-is ts f (listed (a .o)) u (rowAt ts (u .0) .effective) (a .held || not (outrankedIn ts (rowAt ts (u .0) .effective)))))
 
 pub runs-fine-spec : {M : Type 1} → statement M

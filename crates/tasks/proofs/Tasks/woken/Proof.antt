@@ -5,8 +5,11 @@ use Rattle.tasks.proofs.ByNumber.{by-number}
 use Rattle.numbers.specs.Numbers.{task, object}
 use Rattle.tasks.proofs.Turns.{columns, woken-alike, due-turn, not-turn}
 use Rattle.tasks.specs.Dues.{woken, wakeIn, wakesIn}
+use lib.Dec.{eqb}
+use lib.ListN.{getD}
+use mathlib.Core.Bool.{Bool, _&&_}
 use mathlib.Core.Logic.{⊎-elim}
-use mathlib.Core.Path.{sym, _∙_}
+use mathlib.Core.Path.{sym, ap, _∙_}
 use native.Mathlib.Omega.{arith}
 use Rattle.tasks.proofs.Tasks.woken.Statement.{statement}
 use Rattle.tasks.proofs.Tasks.woken.Tie as tie
@@ -23,11 +26,11 @@ loop-holds c = (start, search needs)
 
 loop-again : tie.Need-loop-again Inv-loop μ-loop
 loop-again c =
-    let a = c .before .before .before .before .before .before .before .before .before .before .args in
-    let l = c .before .before .before .loop in
+    let a = c .before .before .before .before .before .before .before .before .before .before .before .args in
+    let l = c .before .before .before .before .loop in
     let ts = columns (l .state) (l .object) (l .wake) (a .self .own) (a .self .effective) (l .outcome) in
     let now = a .now in
-    let is = sym (c .before .due .ensures) in (
+    let is = ap (λ (b : Bool). b && eqb (getD (l .wake) (l .i) 0) now) (sym (c .before .before .timed .ensures)) ∙ sym (c .before .both .ensures) in (
       next (l .inv .0) (⊎-elim
           (λ v. woken-alike (v .4) (v .5) (v .6) (v .7) (v .8) ∙ due-turn now ts (l .order) (l .i) (is ∙ v .0 .taken) (v .1 .ensures) (v .3 .ensures ∙ rw (v .2 .ensures)))
           (λ v. woken-alike (v .1) (v .2) (v .3) (v .4) (v .5) ∙ not-turn now ts (l .order) (l .i) (is ∙ v .0 .left))
@@ -47,6 +50,7 @@ woken-spec =
     μ-loop
     loop-holds
     (λ c. search needs)
+    (λ c κs. search needs)
     (λ c. search needs)
     (λ c. search needs)
     (λ c κs. search needs)
