@@ -4,8 +4,8 @@ use mathlib.Core.Bool.{Bool, true, false}
 use Rattle.lists.specs.Choice.{if_then_else_}
 use Rattle.lists.proofs.Bools.{and-left, and-right}
 use Rattle.tasks.specs.Known.{canonical as plainTasks}
-use Rattle.tasks.proofs.Tables.{tasks-back}
-use Rattle.objects.proofs.Tables.{objects-back}
+use Rattle.tasks.proofs.WayBack.{tasks-back}
+use Rattle.objects.proofs.WayBack.{objects-back}
 use Rattle.rules.specs.Sound.{sound}
 use Rattle.rules.proofs.SoundSays.{sound-says, says-sound}
 use Rattle.kernel.specs.Stands.{kernelOf, plain, asRows, withoutTables, shown}

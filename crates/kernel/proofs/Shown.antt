@@ -6,7 +6,7 @@ use mathlib.Core.List.{List}
 use native.Mathlib.Omega.{arith}
 use Rattle.lists.specs.Choice.{if_then_else_}
 use Rattle.lists.proofs.Bools.{and-intro}
-use Rattle.tasks.specs.Rows.{tasksOf}
+use Rattle.tasks.specs.Columns.{tasksOf}
 use Rattle.tasks.specs.Known.{canonical}
 use Rattle.tasks.proofs.Columns.{rows-of}
 use Rattle.tasks.proofs.Plain.{tasks-plain}

@@ -27,16 +27,16 @@ use Rattle.slots.specs.SoundSlots.{idleFine, standsFine, ordersFine, mayWait, m
 use Rattle.slots.proofs.Marks.{marks-hold}
 use Rattle.slots.proofs.Holders.{holders-exist}
 use Rattle.tasks.specs.declared.Tasks.{Tasks}
-use Rattle.tasks.specs.Cells.{placeOf}
-use Rattle.tasks.specs.Rows.{rowAt, rowsOf}
+use Rattle.tasks.specs.Numbering.{placeOf}
+use Rattle.tasks.specs.Columns.{rowAt, rowsOf}
 use Rattle.tasks.specs.Known.{known, wakeKnown, canonical}
 use Rattle.tasks.specs.Walks.{outrankedIn, lineIn}
 use Rattle.tasks.specs.Fine.{aloneFine, rowsFine, wakesFine, idleAlone, waitsBy, waitsAt, runsAt, runsIn, Fine}
 use Rattle.tasks.proofs.Columns.{row-at, rows-many}
 use Rattle.objects.specs.declared.Objects.{Objects}
 use Rattle.objects.specs.declared.Holdings.{Holdings}
-use Rattle.objects.specs.Rows.{kindIn, rowsOf as kindsOf, canonical as canonicalKinds}
-use Rattle.objects.specs.Fine.{fineAt, Holds}
+use Rattle.objects.specs.Columns.{kindIn, rowsOf as kindsOf, canonical as canonicalKinds}
+use Rattle.objects.specs.Fine.{fineAt, HoldingsAre}
 use Rattle.objects.proofs.Columns.{row-at as kind-row, rows-many as kinds-many}
 use Rattle.objects.proofs.Fines.{fine-canonical}
 use Rattle.objects.proofs.Plain.{ranges-of, fine-of}
@@ -174,7 +174,7 @@ module _ (ts : Tasks) (many : length (rowsOf ts) ≡ 16) where
             ∙ sym (off-left _ _ (ap (λ (x : Task). isReady (x .place)) (past-tasks (rowsOf ts) u (omega (arith, many, ltb-false (u .0) 16 q)))))
 
 -- ── waits
-module _ (os : Objects) (hs : Holdings) (H : Holds os hs) where
+module _ (os : Objects) (hs : Holdings) (H : HoldingsAre os hs) where
   fewer : length (os .state) ≡ 16
   fewer = sym (kinds-many os) ∙ H .many
 
@@ -196,7 +196,7 @@ module _ (os : Objects) (hs : Holdings) (H : Holds os hs) where
       go false q = sym (ap (mayWait t) (past-objects (kindsOf os) o (omega (arith, H .many, ltb-false (o .0) 16 q))))
 
 -- ── the whole test
-module _ (k : Kernel) (stands : List ℕ) (hs : Holdings) (fine : Bool) (F : Fine (k .tasks) (k .tick) stands (hs .held) fine) (H : Holds (k .objects) hs)
+module _ (k : Kernel) (stands : List ℕ) (hs : Holdings) (fine : Bool) (F : Fine (k .tasks) (k .tick) stands (hs .held) fine) (H : HoldingsAre (k .objects) hs)
     (tallies : stands ≡ talliesOf (listed (k .order))) (places : length (k .order .places) ≡ 16) (ranges : counted (k .tick) (k .hold) (k .pended) ≡ true) where
   abbrev ts : Tasks
   ts = k .tasks

@@ -20,11 +20,11 @@ use Rattle.slots.specs.Places.{wakesAt, outcomeDue}
 use Rattle.slots.specs.Values.{taskAt, inHigher}
 use Rattle.slots.specs.Leads.{leads, leadsOr}
 use Rattle.tasks.specs.declared.Woken.{Woken}
-use Rattle.tasks.specs.Rows.{tasksOf}
-use Rattle.objects.specs.Rows.{objectsOf}
+use Rattle.tasks.specs.Columns.{tasksOf}
+use Rattle.objects.specs.Columns.{objectsOf}
 use Rattle.tasks.specs.Walks.{leadIn, higherIn}
 use Rattle.tasks.specs.Dues.{woken, readyOf, tailed, wakesIn}
-use Rattle.tasks.proofs.Lists.{lead-of, higher-of, wakes-by}
+use Rattle.tasks.proofs.ByList.{lead-of, higher-of, wakes-by}
 use Rattle.rules.specs.State.{State}
 use Rattle.rules.specs.Tables.{withRunning}
 use Rattle.rules.specs.Lines.{level, first, runsIf, chosen, toTail}

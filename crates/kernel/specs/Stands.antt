@@ -2,9 +2,9 @@
 use mathlib.Core.Bool.{Bool, _&&_}
 use mathlib.Core.List.{[]}
 use Rattle.lists.specs.Choice.{if_then_else_}
-use Rattle.tasks.specs.Rows.{tasksOf, rowsOf as taskRows}
+use Rattle.tasks.specs.Columns.{tasksOf, rowsOf as taskRows}
 use Rattle.tasks.specs.Known.{canonical as plainTasks}
-use Rattle.objects.specs.Rows.{objectsOf, rowsOf as objectRows, canonical as plainObjects}
+use Rattle.objects.specs.Columns.{objectsOf, rowsOf as objectRows, canonical as plainObjects}
 use Rattle.rules.specs.State.{State, Outlet as WhereTo, toWaiter, toQueue, toCaller}
 use Rattle.rules.specs.Sound.{sound}
 use Rattle.kernel.specs.Types.{Kernel, Outlet, Waiter, InRing, Caller}

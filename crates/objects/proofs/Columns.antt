@@ -19,7 +19,7 @@ use Rattle.slots.specs.declared.Object.{Object}
 use Rattle.slots.specs.Kinds.{unused, isUnused, heldBy}
 use Rattle.objects.specs.declared.Cells.{Cells}
 use Rattle.objects.specs.declared.Objects.{Objects}
-use Rattle.objects.specs.Rows.{cellsOf, cellsAt, kindOf, objectsOf, putKind, kindIn, rowAt, rowsOf, heldIn, unusedIn, known}
+use Rattle.objects.specs.Columns.{cellsOf, cellsAt, kindOf, objectsOf, putKind, kindIn, rowAt, rowsOf, heldIn, unusedIn, known}
 
 -- the numbers of a kind say it, and one that it does not use is 0
 pub kind-back : (k : Kind) → (kindOf (cellsOf k) ≡ k) × (known (cellsOf k) ≡ true)
@@ -98,15 +98,15 @@ by-state P a b c f (suc (suc (suc n))) = f (suc (suc (suc n))) (omega arith)
 abbrev of : Objects → ℕ → ℕ → Cells
 of os n s = record { state = s; capacity = getD (os .capacity) n 0; size = getD (os .size) n 0; first = getD (os .first) n 0; count = getD (os .count) n 0; holder = getD (os .holder) n 0 }
 
-pub held : (os : Objects) (n s : ℕ) → 3 ≤ s → kindOf (of os n s) ≡ Mutex (By (task (getD (os .holder) n 0)))
+pub held-kind : (os : Objects) (n s : ℕ) → 3 ≤ s → kindOf (of os n s) ≡ Mutex (By (task (getD (os .holder) n 0)))
 unfolding kindOf
-held os n s h = rw (ne-eqb s 0 (λ e. omega arith), ne-eqb s 1 (λ e. omega arith), ne-eqb s 2 (λ e. omega arith))
+held-kind os n s h = rw (ne-eqb s 0 (λ e. omega arith), ne-eqb s 1 (λ e. omega arith), ne-eqb s 2 (λ e. omega arith))
 
 row-held : (os : Objects) (n : ℕ) (t : TaskSlot) → n < length (os .state) → (leb 3 (getD (os .state) n 0) && eqb (getD (os .holder) n 0) (t .0)) ≡ heldBy t (getD (rowsOf os) n unused .kind)
 unfolding kindIn kindOf
 row-held os n t h =
     rw (row-at os n h)
-    (by-state (λ s. (leb 3 s && eqb (getD (os .holder) n 0) (t .0)) ≡ heldBy t (kindOf (of os n s))) refl refl refl (λ s l. rw (held os n s l, le-leb 3 s l)) (getD (os .state) n 0))
+    (by-state (λ s. (leb 3 s && eqb (getD (os .holder) n 0) (t .0)) ≡ heldBy t (kindOf (of os n s))) refl refl refl (λ s l. rw (held-kind os n s l, le-leb 3 s l)) (getD (os .state) n 0))
 
 pub held-some : (os : Objects) (t : TaskSlot) → Full os → upTo (λ b i. b || (leb 3 (getD (os .state) i 0) && eqb (getD (os .holder) i 0) (t .0))) 16 false ≡ heldIn os t
 unfolding heldIn
@@ -117,7 +117,7 @@ held-some os t f =
 row-unused : (os : Objects) (n : ℕ) → n < length (os .state) → isUnused (getD (rowsOf os) n unused .kind) ≡ eqb (getD (os .state) n 0) 0
 unfolding kindIn kindOf
 row-unused os n h =
-    rw (row-at os n h) (by-state (λ s. isUnused (kindOf (of os n s)) ≡ eqb s 0) refl refl refl (λ s l. rw (held os n s l, ne-eqb s 0 (λ e. omega arith))) (getD (os .state) n 0))
+    rw (row-at os n h) (by-state (λ s. isUnused (kindOf (of os n s)) ≡ eqb s 0) refl refl refl (λ s l. rw (held-kind os n s l, ne-eqb s 0 (λ e. omega arith))) (getD (os .state) n 0))
 
 pub unused-first : (os : Objects) → index (λ s. eqb s 0) (os .state) ≡ unusedIn os
 unfolding unusedIn

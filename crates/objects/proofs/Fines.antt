@@ -17,9 +17,9 @@ use Rattle.slots.specs.Kinds.{unused, holderOf, mark, marksOf}
 use Rattle.slots.proofs.Sweeps.{by-rows, none-counted}
 use Rattle.slots.specs.SoundSlots.{mayWait, mayWaitOn, ringFine}
 use Rattle.objects.specs.declared.Objects.{Objects}
-use Rattle.objects.specs.Rows.{six, ring, noRing, known, cellsAt, kindOf, kindIn, rowsOf, canonical}
+use Rattle.objects.specs.Columns.{six, ring, noRing, known, cellsAt, kindOf, kindIn, rowsOf, canonical}
 use Rattle.objects.specs.Fine.{rangesFine, fineAt, rowFine, openAt, takenAt, holdingIn, Each}
-use Rattle.objects.proofs.Columns.{Full, by-state, held, row-at, rows-many}
+use Rattle.objects.proofs.Columns.{Full, by-state, held-kind, row-at, rows-many}
 
 -- where nobody holds the holder's number is 0, which is in its range
 module _ (c z f k h : ℕ) where
@@ -53,7 +53,7 @@ holder-is os n =
     by-state
     (λ s. holderOf (kindOf (six s (getD (os .capacity) n 0) (getD (os .size) n 0) (getD (os .first) n 0) (getD (os .count) n 0) (getD (os .holder) n 0))) .0
     ≡ (if leb 3 s then getD (os .holder) n 0 else 16))
-    refl refl refl (λ s l. rw (held os n s l, le-leb 3 s l)) (getD (os .state) n 0)
+    refl refl refl (λ s l. rw (held-kind os n s l, le-leb 3 s l)) (getD (os .state) n 0)
 
 -- the marks of the rows, in numbers
 abbrev pub marking : List ℕ → List ℕ → List Bool → ℕ → List Bool
@@ -100,7 +100,7 @@ wait-is os t n =
     by-state
     (λ s. ((eqb s 1 && (eqb (getD (os .count) n 0) 0 || eqb (getD (os .count) n 0) (getD (os .capacity) n 0))) || (leb 3 s && not (eqb (getD (os .holder) n 0) (t .0))))
     ≡ mayWait t (kindOf (six s (getD (os .capacity) n 0) (getD (os .size) n 0) (getD (os .first) n 0) (getD (os .count) n 0) (getD (os .holder) n 0))))
-    refl (or-false _) refl (λ s l. rw (held os n s l, le-leb 3 s l, ne-eqb s 1 (λ e. omega arith))) (getD (os .state) n 0)
+    refl (or-false _) refl (λ s l. rw (held-kind os n s l, le-leb 3 s l, ne-eqb s 1 (λ e. omega arith))) (getD (os .state) n 0)
 
 pub waits-is : (os : Objects) (t : TaskSlot) {opens takes : List Bool} (n : ℕ) → Each (openAt os) opens → Each (takenAt os) takes → n < 16
     → mayWaitOn opens takes (os .holder) t n ≡ mayWait t (kindIn os n)

@@ -1,5 +1,5 @@
 pub mod Columns
-pub mod Tables
+pub mod WayBack
 pub mod Fines
-pub mod Lists
+pub mod ByList
 pub mod Plain

@@ -8,7 +8,7 @@ use Rattle.lists.proofs.Bools.{and-right, and-intro, all-below, below-all}
 use Rattle.slots.specs.declared.Object.{Object}
 use Rattle.slots.specs.Kinds.{unused}
 use Rattle.objects.specs.declared.Objects.{Objects}
-use Rattle.objects.specs.Rows.{objectsOf, known, canonical, cellsAt, kindIn}
+use Rattle.objects.specs.Columns.{objectsOf, known, canonical, cellsAt, kindIn}
 use Rattle.objects.specs.Fine.{rangesFine, fineAt}
 use Rattle.objects.proofs.Columns.{kind-back, cells-of}
 

@@ -14,7 +14,7 @@ use Rattle.slots.specs.SoundSlots.{mayWait, mayWaitOn, holderSlot, ringFine, ri
 use Rattle.objects.specs.declared.Cells.{Cells}
 use Rattle.objects.specs.declared.Objects.{Objects}
 use Rattle.objects.specs.declared.Holdings.{Holdings}
-use Rattle.objects.specs.Rows.{ring, known, cellsAt, kindIn, objectsOf, rowsOf}
+use Rattle.objects.specs.Columns.{ring, known, cellsAt, kindIn, objectsOf, rowsOf}
 
 -- what is asked of an object by itself, in words; and as the code tests it
 abbrev pub rangesFine : Kind → Bool
@@ -42,7 +42,7 @@ pub record Each (f : ℕ → Bool) (r : List Bool) : Type 0 where
   pub each : (n : ℕ) → n < 16 → getD r n false ≡ f n
 
 -- all that is answered: what is fine stands for the list that it reads as
-pub record Holds (os : Objects) (r : Holdings) : Type 0 where
+pub record HoldingsAre (os : Objects) (r : Holdings) : Type 0 where
   pub many : length (rowsOf os) ≡ 16
   pub marks : r .held ≡ marksOf (rowsOf os)
   pub waited : (t : TaskSlot) (n : ℕ) → n < 16 → mayWaitOn (r .open) (r .taken) (r .holder) t n ≡ mayWait t (kindIn os n)

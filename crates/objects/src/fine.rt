@@ -5,8 +5,8 @@ ghost use Rattle.lists.specs.Choice.{if_then_else_};
 ghost use Rattle.lists.specs.Lists.{allBelow};
 ghost use Rattle.slots.specs.SoundSlots.{ringFine};
 ghost use Rattle.slots.specs.Kinds.{marksOf};
-ghost use Rattle.objects.specs.Rows.{rowsOf, noRing, ring, six};
-ghost use Rattle.objects.specs.Fine.{rowFine, fineAt, openAt, takenAt, holdingIn, Each, Holds};
+ghost use Rattle.objects.specs.Columns.{rowsOf, noRing, ring, six};
+ghost use Rattle.objects.specs.Fine.{rowFine, fineAt, openAt, takenAt, holdingIn, Each, HoldingsAre};
 use crate::Holdings;
 use crate::Objects;
 
@@ -135,7 +135,7 @@ impl Objects {
 
     // Who holds, who may be waited on, and whether each object is fine. What is fine stands for the list that it reads as.
     pub fn holdings(self) -> Holdings
-        ensures { λ r. ⌜ Holds self r ⌝ }
+        ensures { λ r. ⌜ HoldingsAre self r ⌝ }
     {
         let held = self.marks();
         let open = self.opens();

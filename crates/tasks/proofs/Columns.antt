@@ -13,9 +13,9 @@ use Rattle.slots.specs.declared.Place.the-variants.{Free, Ready, Delayed, Waiti
 use Rattle.slots.specs.declared.Task.{Task}
 use Rattle.slots.specs.Values.{freeTask, placed, ranked}
 use Rattle.tasks.specs.declared.Tasks.{Tasks}
-use Rattle.tasks.specs.Cells.{cellsOf, placeOf}
+use Rattle.tasks.specs.Numbering.{cellsOf, placeOf}
 use Rattle.tasks.specs.Known.{known, wakeKnown}
-use Rattle.tasks.specs.Rows.{stateOf, objectOf, wakeOf, tasksOf, put, placedAt, rankedAt, rowAt, rowsOf}
+use Rattle.tasks.specs.Columns.{stateOf, objectCell, wakeCell, tasksOf, put, placedAt, rankedAt, rowAt, rowsOf}
 
 -- the numbers of a place say it, and one that it does not use is 0
 pub place-back : (p : Place) → (placeOf (cellsOf p) ≡ p) × ((known (cellsOf p .state) (cellsOf p .object) && wakeKnown (cellsOf p .state) (cellsOf p .wake)) ≡ true)
@@ -31,7 +31,7 @@ place-back Suspended = (refl, refl)
 pub row-of : (xs : List Task) (n : ℕ) → rowAt (tasksOf xs) n ≡ getD xs n freeTask
 unfolding rowAt tasksOf
 row-of xs n =
-    rw (List·getD-map stateOf xs n freeTask, List·getD-map objectOf xs n freeTask, List·getD-map wakeOf xs n freeTask)
+    rw (List·getD-map stateOf xs n freeTask, List·getD-map objectCell xs n freeTask, List·getD-map wakeCell xs n freeTask)
     (rw (List·getD-map (λ (x : Task). x .own) xs n freeTask, List·getD-map (λ (x : Task). x .effective) xs n freeTask)
     (rw (List·getD-map (λ (x : Task). x .outcome) xs n freeTask, place-back (getD xs n freeTask .place) .0)))
 
@@ -39,7 +39,7 @@ row-of xs n =
 pub put-of : (xs : List Task) (n : ℕ) (x : Task) → put (tasksOf xs) n x ≡ tasksOf (set xs n x)
 unfolding put tasksOf
 put-of xs n x =
-    rw (map-set stateOf xs n x, map-set objectOf xs n x, map-set wakeOf xs n x, map-set (λ (y : Task). y .own) xs n x, map-set (λ (y : Task). y .effective) xs n x)
+    rw (map-set stateOf xs n x, map-set objectCell xs n x, map-set wakeCell xs n x, map-set (λ (y : Task). y .own) xs n x, map-set (λ (y : Task). y .effective) xs n x)
     (rw (map-set (λ (y : Task). y .outcome) xs n x))
 
 -- and so is a store of a place and an outcome alone, or of the priorities
@@ -47,14 +47,14 @@ pub placed-of : (xs : List Task) (n : ℕ) (p : Place) (o : ℕ) → placedAt (t
 unfolding placedAt tasksOf
 placed-of xs n p o =
     let x : Task = placed (getD xs n freeTask) p o in
-    rw (← map-set stateOf xs n x, ← map-set objectOf xs n x, ← map-set wakeOf xs n x, map-set-same (λ (y : Task). y .own) xs n x freeTask refl)
+    rw (← map-set stateOf xs n x, ← map-set objectCell xs n x, ← map-set wakeCell xs n x, map-set-same (λ (y : Task). y .own) xs n x freeTask refl)
     (rw (map-set-same (λ (y : Task). y .effective) xs n x freeTask refl, ← map-set (λ (y : Task). y .outcome) xs n x))
 
 pub ranked-of : (xs : List Task) (n own effective : ℕ) → rankedAt (tasksOf xs) n own effective ≡ tasksOf (set xs n (ranked (getD xs n freeTask) own effective))
 unfolding rankedAt tasksOf
 ranked-of xs n own effective =
     let x : Task = ranked (getD xs n freeTask) own effective in
-    rw (map-set-same stateOf xs n x freeTask refl, map-set-same objectOf xs n x freeTask refl, map-set-same wakeOf xs n x freeTask refl)
+    rw (map-set-same stateOf xs n x freeTask refl, map-set-same objectCell xs n x freeTask refl, map-set-same wakeCell xs n x freeTask refl)
     (rw (← map-set (λ (y : Task). y .own) xs n x, ← map-set (λ (y : Task). y .effective) xs n x, map-set-same (λ (y : Task). y .outcome) xs n x freeTask refl))
 
 -- each column has its sixteen numbers
@@ -77,7 +77,7 @@ module _ (ts : Tasks) (f : Full ts) (n : ℕ) (h : 16 ≤ n) where
   pub lost-row : (x : Task) → put ts n x ≡ ts
   unfolding put
   lost-row x =
-      rw (set-out (ts .state) n (stateOf x) (omega arith), set-out (ts .object) n (objectOf x) (omega arith), set-out (ts .wake) n (wakeOf x) (omega arith))
+      rw (set-out (ts .state) n (stateOf x) (omega arith), set-out (ts .object) n (objectCell x) (omega arith), set-out (ts .wake) n (wakeCell x) (omega arith))
       (rw (set-out (ts .own) n (x .own) (omega arith), set-out (ts .effective) n (x .effective) (omega arith), set-out (ts .outcome) n (x .outcome) (omega arith)))
 
   pub lost-place : (p : Place) (o : ℕ) → placedAt ts n p o ≡ ts

@@ -16,13 +16,13 @@ use Rattle.slots.specs.declared.Who.the-variants.{AllReady}
 use Rattle.slots.specs.SoundSlots.{idleFine, notDue, mayWaitOn}
 use Rattle.slots.proofs.Sweeps.{none-counted}
 use Rattle.tasks.specs.declared.Tasks.{Tasks}
-use Rattle.tasks.specs.Cells.{cells, placeOf}
-use Rattle.tasks.specs.Rows.{tasksOf, rowAt, rowsOf}
-use Rattle.tasks.specs.Known.{waits, known, wakeKnown, canonical}
+use Rattle.tasks.specs.Numbering.{cells, placeOf}
+use Rattle.tasks.specs.Columns.{tasksOf, rowAt, rowsOf}
+use Rattle.tasks.specs.Known.{waitsState, known, wakeKnown, canonical}
 use Rattle.tasks.specs.Fine.{rowFine, wakeFine, aloneFine, rowsFine, wakesFine, waitsBy, waitsAt, waitingIn}
 use Rattle.tasks.proofs.Columns.{Full}
-use Rattle.tasks.proofs.Tables.{tasks-back}
-use Rattle.tasks.proofs.Tests.{by-state, suspended, row-meant}
+use Rattle.tasks.proofs.WayBack.{tasks-back}
+use Rattle.tasks.proofs.StateTests.{by-state, is-suspended, row-meant}
 
 module _ (o w own level outcome n : ℕ) (held : Bool) where
   abbrev Same : ℕ → Type 0
@@ -32,7 +32,7 @@ module _ (o w own level outcome n : ℕ) (held : Bool) where
   unfolding rowFine placeOf
   row-is s =
       by-state Same refl refl refl refl refl
-      (λ m h. rw (suspended m o w h, ne-eqb m 0 (λ e. omega arith), ne-eqb m 1 (λ e. omega arith), ne-eqb m 2 (λ e. omega arith), ne-eqb m 3 (λ e. omega arith), ne-eqb m 4 (λ e. omega arith)))
+      (λ m h. rw (is-suspended m o w h, ne-eqb m 0 (λ e. omega arith), ne-eqb m 1 (λ e. omega arith), ne-eqb m 2 (λ e. omega arith), ne-eqb m 3 (λ e. omega arith), ne-eqb m 4 (λ e. omega arith)))
       s
 
 module _ (o w tick : ℕ) where
@@ -43,7 +43,7 @@ module _ (o w tick : ℕ) where
   unfolding wakeFine placeOf
   wake-is s =
       by-state Likewise (rw and-true) (rw and-true) refl refl (rw and-true)
-      (λ m h. rw (suspended m o w h, ne-eqb m 2 (λ e. omega arith), ne-eqb m 3 (λ e. omega arith), and-true))
+      (λ m h. rw (is-suspended m o w h, ne-eqb m 2 (λ e. omega arith), ne-eqb m 3 (λ e. omega arith), and-true))
       s
 
 -- each test, and all of them
@@ -90,27 +90,27 @@ fine-whole ts full tick stands holds a h =
 -- the waits
 abbrev pub waitNumber : List ℕ → List ℕ → List Bool → List Bool → List ℕ → ℕ → Bool
 waitNumber states objects opens takes holder i =
-    if waits (getD states i 0) then ltb (getD objects i 0) 16 && mayWaitOn opens takes holder (task i) (getD objects i 0) else true
+    if waitsState (getD states i 0) then ltb (getD objects i 0) 16 && mayWaitOn opens takes holder (task i) (getD objects i 0) else true
 
 module _ (states objects : List ℕ) (opens takes : List Bool) (holder : List ℕ) (i o : ℕ) (same : o ≡ getD objects i 0) (ok : Bool) where
   abbrev wait : Bool
   wait = waitNumber states objects opens takes holder i
 
-  pub wait-fits : waits (getD states i 0) ≡ true → o < 16 → (ok && mayWaitOn opens takes holder (task i) o) ≡ (ok && wait)
+  pub wait-fits : waitsState (getD states i 0) ≡ true → o < 16 → (ok && mayWaitOn opens takes holder (task i) o) ≡ (ok && wait)
   wait-fits e l = rw (e, ← same, lt-ltb o 16 l)
 
-  pub wait-past : waits (getD states i 0) ≡ true → 16 ≤ o → false ≡ (ok && wait)
+  pub wait-past : waitsState (getD states i 0) ≡ true → 16 ≤ o → false ≡ (ok && wait)
   wait-past e l = and-off ok wait (rw (e, ← same, le-ltb o 16 l))
 
-pub wait-not : (states objects : List ℕ) (opens takes : List Bool) (holder : List ℕ) (i : ℕ) (ok : Bool) → waits (getD states i 0) ≡ false → ok ≡ (ok && waitNumber states objects opens takes holder i)
+pub wait-not : (states objects : List ℕ) (opens takes : List Bool) (holder : List ℕ) (i : ℕ) (ok : Bool) → waitsState (getD states i 0) ≡ false → ok ≡ (ok && waitNumber states objects opens takes holder i)
 wait-not states objects opens takes holder i ok e = and-on ok (waitNumber states objects opens takes holder i) (rw e)
 
 module _ (ts : Tasks) (opens takes : List Bool) (holder : List ℕ) where
-  wait-is : (i s o w : ℕ) → waitsBy opens takes holder (task i) (placeOf (cells s o w)) ≡ (if waits s then ltb o 16 && mayWaitOn opens takes holder (task i) o else true)
+  wait-is : (i s o w : ℕ) → waitsBy opens takes holder (task i) (placeOf (cells s o w)) ≡ (if waitsState s then ltb o 16 && mayWaitOn opens takes holder (task i) o else true)
   unfolding placeOf
   wait-is i s o w =
-      by-state (λ n. waitsBy opens takes holder (task i) (placeOf (cells n o w)) ≡ (if waits n then ltb o 16 && mayWaitOn opens takes holder (task i) o else true)) refl refl refl refl refl
-      (λ n h. rw (suspended n o w h, ne-eqb n 3 (λ e. omega arith), ne-eqb n 4 (λ e. omega arith))) s
+      by-state (λ n. waitsBy opens takes holder (task i) (placeOf (cells n o w)) ≡ (if waitsState n then ltb o 16 && mayWaitOn opens takes holder (task i) o else true)) refl refl refl refl refl
+      (λ n h. rw (is-suspended n o w h, ne-eqb n 3 (λ e. omega arith), ne-eqb n 4 (λ e. omega arith))) s
 
   waits-is : (i : ℕ) → waitNumber (ts .state) (ts .object) opens takes holder i ≡ waitsAt ts opens takes holder i
   unfolding rowAt
@@ -120,7 +120,7 @@ module _ (ts : Tasks) (opens takes : List Bool) (holder : List ℕ) where
   waits-are = all-same 16 (waitNumber (ts .state) (ts .object) opens takes holder) (waitsAt ts opens takes holder) (λ i l. waits-is i)
 
   -- where nobody waits, nothing is asked
-  none-waits : (i : ℕ) → waits (getD (ts .state) i 0) ≡ false → waitNumber (ts .state) (ts .object) opens takes holder i ≡ true
+  none-waits : (i : ℕ) → waitsState (getD (ts .state) i 0) ≡ false → waitNumber (ts .state) (ts .object) opens takes holder i ≡ true
   none-waits i e = rw e
 
   pub waits-end : {ok : Bool} {i : ℕ} → Held (waitNumber (ts .state) (ts .object) opens takes holder) true ok i → i ≡ min 16 (16 * waitingIn ts) → ok ≡ allBelow 16 (waitsAt ts opens takes holder)
@@ -131,7 +131,7 @@ module _ (ts : Tasks) (opens takes : List Bool) (holder : List ℕ) where
       go true q =
           let z : i ≡ 0 = omega (arith, eqb-true (waitingIn ts) 0 q) in
           inv .so ∙ rw z (sym (below-all 16 (waitNumber (ts .state) (ts .object) opens takes holder)
-          (λ j l. none-waits j (none-counted (λ k. waits (getD (ts .state) k 0)) 16 (eqb-true (waitingIn ts) 0 q) j l)))) ∙ waits-are
+          (λ j l. none-waits j (none-counted (λ k. waitsState (getD (ts .state) k 0)) 16 (eqb-true (waitingIn ts) 0 q) j l)))) ∙ waits-are
       go false q =
           let z : i ≡ 16 = omega (arith, eqb-false (waitingIn ts) 0 q) in
           inv .so ∙ rw z waits-are

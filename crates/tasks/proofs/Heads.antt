@@ -24,12 +24,12 @@ use Rattle.slots.specs.Leads.{better, leadOver, leadsOr}
 use Rattle.slots.specs.Values.{freeTask, inLine}
 use Rattle.tasks.specs.declared.Tasks.{Tasks}
 use Rattle.tasks.specs.declared.Woken.{Woken}
-use Rattle.tasks.specs.Rows.{rowAt, rowsOf}
+use Rattle.tasks.specs.Columns.{rowAt, rowsOf}
 use Rattle.tasks.specs.Walks.{leadIn, lineIn, headOr, readyLevel, topIn, waitedIn}
 use Rattle.tasks.specs.Dues.{timed, wakeNow, woken, wakeIn, wakesIn}
 use Rattle.tasks.specs.Fine.{headed}
 use Rattle.tasks.proofs.Columns.{Full, past-row, row-at, rows-many}
-use Rattle.tasks.proofs.Tests.{row-due}
+use Rattle.tasks.proofs.StateTests.{row-due}
 
 -- where none passes, none does
 pub none-passes : {A : Type 0} (p : A → Bool) (xs : List A) (d : A) → any p xs ≡ false → (i : ℕ) → i < length xs → p (getD xs i d) ≡ false

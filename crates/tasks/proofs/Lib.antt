@@ -1,9 +1,9 @@
 pub mod ByNumber
 pub mod Columns
-pub mod Tests
-pub mod Turns
+pub mod StateTests
+pub mod WalkTurns
 pub mod Heads
 pub mod Fines
-pub mod Lists
-pub mod Tables
+pub mod ByList
+pub mod WayBack
 pub mod Plain

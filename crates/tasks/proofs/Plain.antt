@@ -6,11 +6,11 @@ use lib.ListN.{getD, List·getD-map}
 use Rattle.lists.proofs.Bools.{below-all}
 use Rattle.slots.specs.declared.Task.{Task}
 use Rattle.slots.specs.Values.{freeTask}
-use Rattle.tasks.specs.Rows.{stateOf, objectOf, wakeOf, tasksOf}
+use Rattle.tasks.specs.Columns.{stateOf, objectCell, wakeCell, tasksOf}
 use Rattle.tasks.specs.Known.{canonical}
 use Rattle.tasks.proofs.Columns.{place-back}
 
 pub tasks-plain : (xs : List Task) → canonical (tasksOf xs) ≡ true
 unfolding canonical tasksOf
 tasks-plain xs =
-    below-all 16 _ (λ i l. rw (List·getD-map stateOf xs i freeTask, List·getD-map objectOf xs i freeTask, List·getD-map wakeOf xs i freeTask) (place-back (getD xs i freeTask .place) .1))
+    below-all 16 _ (λ i l. rw (List·getD-map stateOf xs i freeTask, List·getD-map objectCell xs i freeTask, List·getD-map wakeCell xs i freeTask) (place-back (getD xs i freeTask .place) .1))

@@ -14,7 +14,7 @@ use Rattle.slots.specs.Places.{wakesAt, outcomeDue, away}
 use Rattle.slots.specs.Values.{placed}
 use Rattle.tasks.specs.declared.Tasks.{Tasks}
 use Rattle.tasks.specs.declared.Woken.{Woken}
-use Rattle.tasks.specs.Rows.{rowAt, rowsOf, put}
+use Rattle.tasks.specs.Columns.{rowAt, rowsOf, put}
 
 -- the states that have a wake tick: delayed, and waiting but not for ever
 abbrev pub timed : ℕ → Bool

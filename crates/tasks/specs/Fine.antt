@@ -15,13 +15,13 @@ use Rattle.slots.specs.declared.Task.{Task}
 use Rattle.slots.specs.Places.{isReady}
 use Rattle.slots.specs.SoundSlots.{idleFine, standsFine, ordersFine, prioritiesFine, outcomeFine, freshIfFree, freeHolds, notDue, mayWaitOn}
 use Rattle.tasks.specs.declared.Tasks.{Tasks}
-use Rattle.tasks.specs.Rows.{tasksOf, rowAt, rowsOf}
+use Rattle.tasks.specs.Columns.{tasksOf, rowAt, rowsOf}
 use Rattle.tasks.specs.Walks.{outrankedIn, lineIn}
 use Rattle.tasks.specs.Dues.{timed}
-use Rattle.tasks.specs.Known.{waits, known, wakeKnown}
+use Rattle.tasks.specs.Known.{waitsState, known, wakeKnown}
 
 abbrev pub blocked : ℕ → Bool
-blocked s = eqb s 2 || waits s
+blocked s = eqb s 2 || waitsState s
 
 -- a row by itself, where it stands n times in the order and holds a mutex or not
 abbrev pub aloneFine : ℕ → Bool → Task → Bool
@@ -74,7 +74,7 @@ waitsAt ts opens takes holder i = waitsBy opens takes holder (task i) (rowAt ts 
 
 -- how many wait on an object
 unfoldable pub waitingIn : Tasks → ℕ
-waitingIn ts = upTo (λ n i. n + (if waits (getD (ts .state) i 0) then 1 else 0)) 16 0
+waitingIn ts = upTo (λ n i. n + (if waitsState (getD (ts .state) i 0) then 1 else 0)) 16 0
 
 -- "the running task heads its line, and with hold 0 no higher line is occupied": no row stands higher
 abbrev pub headed : List TaskSlot → TaskSlot → Bool

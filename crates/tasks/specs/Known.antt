@@ -8,12 +8,12 @@ use Rattle.tasks.specs.declared.Tasks.{Tasks}
 use Rattle.tasks.specs.Dues.{timed}
 
 -- the states that have an object
-abbrev pub waits : ℕ → Bool
-waits s = eqb s 3 || eqb s 4
+abbrev pub waitsState : ℕ → Bool
+waitsState s = eqb s 3 || eqb s 4
 
 -- of a state and its object; of a state and its wake tick
 abbrev pub known : ℕ → ℕ → Bool
-known s o = leb s 5 && (waits s || eqb o 0)
+known s o = leb s 5 && (waitsState s || eqb o 0)
 
 abbrev pub wakeKnown : ℕ → ℕ → Bool
 wakeKnown s w = timed s || eqb w 0

@@ -1,5 +1,5 @@
-pub mod Cells
-pub mod Rows
+pub mod Numbering
+pub mod Columns
 pub mod Walks
 pub mod Dues
 pub mod Known

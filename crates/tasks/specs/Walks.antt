@@ -17,7 +17,7 @@ use Rattle.slots.specs.Places.{isReady, waitsOn}
 use Rattle.slots.specs.Leads.{better}
 use Rattle.slots.specs.Values.{inLine, inHigher}
 use Rattle.tasks.specs.declared.Tasks.{Tasks}
-use Rattle.tasks.specs.Rows.{rowAt, rowsOf}
+use Rattle.tasks.specs.Columns.{rowAt, rowsOf}
 
 -- the best of those meant, among those that `l` lists
 unfoldable pub leadIn : Tasks → Who → List TaskSlot → Lead

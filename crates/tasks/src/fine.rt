@@ -3,8 +3,8 @@ ghost use mathlib.Core.Path.{_≡_};
 ghost use Rattle.lists.specs.Lists.{allBelow};
 ghost use Rattle.slots.specs.SoundSlots.{idleFine};
 ghost use Rattle.order.specs.Order.{listed};
-ghost use Rattle.tasks.specs.Rows.{rowAt};
-ghost use Rattle.tasks.specs.Known.{waits};
+ghost use Rattle.tasks.specs.Columns.{rowAt};
+ghost use Rattle.tasks.specs.Known.{waitsState};
 ghost use Rattle.tasks.specs.Fine.{rowFine, wakeFine, rowsFine, wakesFine, waitingIn, waitsAt, runsIn, Fine};
 use crate::Tasks;
 use numbers::TaskSlot;
@@ -18,7 +18,7 @@ fn wide(n: u8) -> usize
 
 // The state has an object.
 fn waits(s: u8) -> bool
-    ensures { λ r. ⌜ r ≡ waits s ⌝ }
+    ensures { λ r. ⌜ r ≡ waitsState s ⌝ }
 {
     lists::either(s == 3, s == 4)
 }

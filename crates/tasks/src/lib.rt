@@ -4,7 +4,7 @@ ghost use mathlib.Core.Path.{_≡_};
 ghost use lib.ListN.{replicate};
 ghost use mathlib.Core.List.{_∷_};
 ghost use Rattle.slots.specs.Values.{freeTask, readyAt};
-ghost use Rattle.tasks.specs.Rows.{tasksOf, rowAt, put, placedAt, rankedAt};
+ghost use Rattle.tasks.specs.Columns.{tasksOf, rowAt, put, placedAt, rankedAt};
 use numbers::TaskSlot;
 use order::Order;
 use slots::Place;

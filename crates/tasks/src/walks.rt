@@ -6,7 +6,7 @@ ghost use Rattle.order.specs.Order.{listed};
 ghost use Rattle.lists.specs.Choice.{if_then_else_};
 ghost use Rattle.slots.specs.declared.Who.the-variants.{AllReady, WaitersOf};
 ghost use Rattle.slots.specs.Leads.{leadsOr};
-ghost use Rattle.tasks.specs.Rows.{freeIn};
+ghost use Rattle.tasks.specs.Columns.{freeIn};
 ghost use Rattle.tasks.specs.Walks.{isMeant, leadIn, higherIn, outrankedIn, lineIn, headOr, ready, topIn, waitedIn};
 use crate::Tasks;
 use numbers::ObjSlot;

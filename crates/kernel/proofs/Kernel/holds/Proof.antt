@@ -1,6 +1,6 @@
 use borrow.Author.Needs.{needs}
 use Rattle.kernel.specs.Stands.{kernelOf}
-use Rattle.objects.proofs.Lists.{holds-of}
+use Rattle.objects.proofs.ByList.{holds-of}
 use mathlib.Core.Path.{_∙_}
 use Rattle.rules.specs.Tables.{holds}
 use Rattle.kernel.proofs.Kernel.holds.Statement.{statement}

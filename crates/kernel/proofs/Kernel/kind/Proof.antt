@@ -1,6 +1,6 @@
 use borrow.Author.Needs.{needs}
 use Rattle.kernel.specs.Stands.{kernelOf}
-use Rattle.objects.proofs.Lists.{object-of}
+use Rattle.objects.proofs.ByList.{object-of}
 use mathlib.Core.Path.{_∙_}
 use Rattle.kernel.proofs.Kernel.kind.Statement.{statement}
 use Rattle.kernel.proofs.Kernel.kind.Tie as tie

@@ -3,8 +3,8 @@ use Rattle.kernel.specs.Stands.{kernelOf}
 use Rattle.rules.specs.Tables.{freeSlot, freeObject}
 use borrow.Author.Tests.{ne-eqb}
 use mathlib.Core.Path.{sym, _∙_}
-use Rattle.tasks.proofs.Lists.{free-of}
-use Rattle.objects.proofs.Lists.{free-of as free-object-of}
+use Rattle.tasks.proofs.ByList.{free-of}
+use Rattle.objects.proofs.ByList.{free-of as free-object-of}
 use Rattle.kernel.proofs.Kernel.new_slot.Statement.{statement}
 use Rattle.kernel.proofs.Kernel.new_slot.Tie as tie
 

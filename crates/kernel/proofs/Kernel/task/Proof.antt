@@ -1,6 +1,6 @@
 use borrow.Author.Needs.{needs}
 use Rattle.kernel.specs.Stands.{kernelOf}
-use Rattle.tasks.proofs.Lists.{task-of}
+use Rattle.tasks.proofs.ByList.{task-of}
 use mathlib.Core.Path.{_∙_}
 use Rattle.kernel.proofs.Kernel.task.Statement.{statement}
 use Rattle.kernel.proofs.Kernel.task.Tie as tie

@@ -1,6 +1,6 @@
 use borrow.Author.Needs.{needs}
 use Rattle.kernel.specs.Stands.{kernelOf}
-use Rattle.tasks.proofs.Lists.{until-of}
+use Rattle.tasks.proofs.ByList.{until-of}
 use mathlib.Core.Path.{_∙_}
 use Rattle.rules.specs.Ticks.{untilDue}
 use Rattle.kernel.proofs.Kernel.until_due.Statement.{statement}

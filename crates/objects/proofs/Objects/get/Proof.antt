@@ -1,6 +1,6 @@
 use borrow.Author.Needs.{needs}
 use Rattle.objects.proofs.Columns.{Full, past-kind}
-use Rattle.objects.specs.Rows.{kindIn}
+use Rattle.objects.specs.Columns.{kindIn}
 use mathlib.Core.Path.{sym, _∙_}
 use native.Mathlib.Omega.{arith}
 use Rattle.objects.proofs.Objects.get.Statement.{statement}

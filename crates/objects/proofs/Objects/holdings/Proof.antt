@@ -1,7 +1,7 @@
 use borrow.Author.Needs.{needs}
 use Rattle.objects.proofs.Columns.{Full, rows-many}
 use Rattle.objects.proofs.Fines.{waits-is, fine-canonical}
-use Rattle.objects.proofs.Tables.{objects-back}
+use Rattle.objects.proofs.WayBack.{objects-back}
 use mathlib.Core.Path.{sym, _∙_}
 use Rattle.objects.proofs.Objects.holdings.Statement.{statement}
 use Rattle.objects.proofs.Objects.holdings.Tie as tie

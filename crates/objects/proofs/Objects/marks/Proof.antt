@@ -1,7 +1,7 @@
 use borrow.Author.Needs.{needs}
 use Prim.Native.Nat.{ℕ, _-_, _≤_}
 use Rattle.lists.proofs.Loops.{start}
-use Rattle.objects.proofs.Columns.{Full, held}
+use Rattle.objects.proofs.Columns.{Full, held-kind}
 use Rattle.objects.proofs.Fines.{Marked, mark-next, marks-end}
 use lib.ListN.{set}
 use mathlib.Core.Bool.{true}
@@ -13,10 +13,10 @@ use Rattle.objects.proofs.Objects.marks.Statement.{statement}
 use Rattle.objects.proofs.Objects.marks.Tie as tie
 
 abbrev Inv-loop : tie.InvT-loop
-Inv-loop state holder n held₀ i₀ held i = Marked state holder held₀ held i × (i ≤ n)
+Inv-loop state holder n held₀ i₀ held-kind i = Marked state holder held₀ held-kind i × (i ≤ n)
 
 abbrev μ-loop : tie.MeasureT-loop
-μ-loop state holder n held₀ i₀ held i = n - i
+μ-loop state holder n held₀ i₀ held-kind i = n - i
 
 loop-holds : tie.Need-loop-holds Inv-loop μ-loop
 loop-holds c = (record { upto = start; wide = refl }, search needs)

@@ -3,7 +3,7 @@ use Prim.Native.Nat.{_-_, _≤_}
 use Rattle.lists.proofs.Loops.{Held, all-begin, all-turn, all-done}
 use Rattle.objects.proofs.Fines.{fines-are}
 use Rattle.objects.specs.Fine.{rowFine}
-use Rattle.objects.specs.Rows.{six}
+use Rattle.objects.specs.Columns.{six}
 use lib.ListN.{getD}
 use mathlib.Core.Bool.{true}
 use mathlib.Core.Path.{refl, _∙_}

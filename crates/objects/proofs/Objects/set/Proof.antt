@@ -1,6 +1,6 @@
 use borrow.Author.Needs.{needs}
 use Rattle.objects.proofs.Columns.{Full, lost-kind}
-use Rattle.objects.specs.Rows.{putKind}
+use Rattle.objects.specs.Columns.{putKind}
 use mathlib.Core.Path.{sym}
 use native.Mathlib.Omega.{arith}
 use Rattle.objects.proofs.Objects.set.Statement.{statement}

@@ -4,7 +4,7 @@ use Rattle.numbers.specs.Numbers.{idle}
 use Rattle.tasks.proofs.Columns.{Full, rows-many}
 use Rattle.tasks.proofs.Fines.{fine-whole}
 use Rattle.tasks.specs.Fine.{rowsFine, wakesFine, idleAlone}
-use Rattle.tasks.specs.Rows.{rowAt}
+use Rattle.tasks.specs.Columns.{rowAt}
 use lib.ListN.{getD}
 use mathlib.Core.Bool.{false, _&&_}
 use mathlib.Core.Path.{_≡_, sym, _∙_}

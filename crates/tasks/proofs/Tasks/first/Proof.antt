@@ -4,7 +4,7 @@ use Rattle.lists.proofs.Loops.{Rest, begin, turn, done, length-mapped}
 use Rattle.numbers.specs.Numbers.{object, idle}
 use Rattle.order.specs.Order.{listed}
 use Rattle.tasks.proofs.Columns.{Full}
-use Rattle.tasks.proofs.Turns.{leadStep, lead-is, lead-takes, lead-stays, lead-past}
+use Rattle.tasks.proofs.WalkTurns.{leadStep, lead-is, lead-takes, lead-stays, lead-past}
 use lib.ListN.{length, getD}
 use mathlib.Core.Logic.{⊎-elim}
 use mathlib.Core.Path.{_≡_, sym, _∙_}

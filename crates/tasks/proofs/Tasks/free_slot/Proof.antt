@@ -1,6 +1,6 @@
 use borrow.Author.Needs.{needs}
 use Rattle.tasks.proofs.Columns.{Full}
-use Rattle.tasks.proofs.Turns.{free-first}
+use Rattle.tasks.proofs.WalkTurns.{free-first}
 use mathlib.Core.Path.{_∙_}
 use Rattle.tasks.proofs.Tasks.free_slot.Statement.{statement}
 use Rattle.tasks.proofs.Tasks.free_slot.Tie as tie

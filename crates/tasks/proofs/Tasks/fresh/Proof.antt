@@ -1,5 +1,5 @@
 use borrow.Author.Needs.{needs}
-use Rattle.tasks.specs.Rows.{tasksOf}
+use Rattle.tasks.specs.Columns.{tasksOf}
 use mathlib.Core.Path.{refl}
 use Rattle.tasks.proofs.Tasks.fresh.Statement.{statement}
 use Rattle.tasks.proofs.Tasks.fresh.Tie as tie

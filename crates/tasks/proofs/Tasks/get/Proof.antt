@@ -1,6 +1,6 @@
 use borrow.Author.Needs.{needs}
 use Rattle.tasks.proofs.Columns.{Full, past-row}
-use Rattle.tasks.specs.Rows.{rowAt}
+use Rattle.tasks.specs.Columns.{rowAt}
 use mathlib.Core.Path.{sym, _∙_}
 use native.Mathlib.Omega.{arith}
 use Rattle.tasks.proofs.Tasks.get.Statement.{statement}

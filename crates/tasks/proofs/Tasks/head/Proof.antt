@@ -4,7 +4,7 @@ use Rattle.lists.proofs.Loops.{length-mapped, Skipped, skip-none, skip, met, me
 use Rattle.numbers.specs.Numbers.{idle}
 use Rattle.order.specs.Order.{listed}
 use Rattle.tasks.proofs.Columns.{Full}
-use Rattle.tasks.proofs.Turns.{isLevel, line-is, level-at, level-past}
+use Rattle.tasks.proofs.WalkTurns.{isLevel, line-is, level-at, level-past}
 use Rattle.tasks.specs.Walks.{headOr}
 use lib.ListN.{length, getD}
 use mathlib.Core.Logic.{⊎-elim}

@@ -4,7 +4,7 @@ use Rattle.lists.proofs.Loops.{length-mapped, Sought, seek, not-this, this, non
 use Rattle.numbers.specs.Numbers.{idle}
 use Rattle.order.specs.Order.{listed}
 use Rattle.tasks.proofs.Columns.{Full}
-use Rattle.tasks.proofs.Turns.{first-long, first-at, isAbove, above-is, above-at, above-past}
+use Rattle.tasks.proofs.WalkTurns.{first-long, first-at, isAbove, above-is, above-at, above-past}
 use lib.ListN.{length, getD, take}
 use mathlib.Core.Logic.{⊎-elim}
 use mathlib.Core.Path.{_≡_, sym, _∙_}

@@ -1,6 +1,6 @@
 use borrow.Author.Needs.{needs}
 use Rattle.tasks.proofs.Columns.{Full, lost-place}
-use Rattle.tasks.specs.Rows.{placedAt}
+use Rattle.tasks.specs.Columns.{placedAt}
 use mathlib.Core.Path.{sym}
 use native.Mathlib.Omega.{arith}
 use Rattle.tasks.proofs.Tasks.placed.Statement.{statement}

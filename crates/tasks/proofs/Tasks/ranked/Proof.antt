@@ -1,6 +1,6 @@
 use borrow.Author.Needs.{needs}
 use Rattle.tasks.proofs.Columns.{Full, lost-rank}
-use Rattle.tasks.specs.Rows.{rankedAt}
+use Rattle.tasks.specs.Columns.{rankedAt}
 use mathlib.Core.Path.{sym}
 use native.Mathlib.Omega.{arith}
 use Rattle.tasks.proofs.Tasks.ranked.Statement.{statement}

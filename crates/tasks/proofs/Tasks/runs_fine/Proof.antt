@@ -3,7 +3,7 @@ use Rattle.order.specs.Order.{listed}
 use Rattle.tasks.proofs.Columns.{Full}
 use Rattle.tasks.proofs.Heads.{runs-is}
 use Rattle.tasks.specs.Fine.{runsIn}
-use Rattle.tasks.specs.Rows.{rowAt}
+use Rattle.tasks.specs.Columns.{rowAt}
 use Rattle.tasks.specs.Walks.{outrankedIn}
 use mathlib.Core.Bool.{not, _||_}
 use mathlib.Core.Path.{_∙_}

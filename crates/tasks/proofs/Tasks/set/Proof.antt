@@ -1,6 +1,6 @@
 use borrow.Author.Needs.{needs}
 use Rattle.tasks.proofs.Columns.{Full, lost-row}
-use Rattle.tasks.specs.Rows.{put}
+use Rattle.tasks.specs.Columns.{put}
 use mathlib.Core.Path.{sym}
 use native.Mathlib.Omega.{arith}
 use Rattle.tasks.proofs.Tasks.set.Statement.{statement}

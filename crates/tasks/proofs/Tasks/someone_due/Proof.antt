@@ -2,7 +2,7 @@ use borrow.Author.Needs.{needs}
 use Prim.Native.Nat.{_-_, _≤_}
 use Rattle.lists.proofs.Loops.{Upto, start, next, ended, found}
 use Rattle.tasks.proofs.Columns.{Full}
-use Rattle.tasks.proofs.Turns.{now-is}
+use Rattle.tasks.proofs.WalkTurns.{now-is}
 use lib.Dec.{eqb}
 use lib.ListN.{getD}
 use mathlib.Core.Bool.{false, _||_}

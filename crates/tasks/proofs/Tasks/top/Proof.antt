@@ -3,7 +3,7 @@ use Prim.Native.Nat.{_-_, _≤_}
 use Rattle.lists.proofs.Loops.{Upto, start, next, ended}
 use Rattle.lists.specs.Lists.{larger}
 use Rattle.tasks.proofs.Columns.{Full}
-use Rattle.tasks.proofs.Turns.{top-or}
+use Rattle.tasks.proofs.WalkTurns.{top-or}
 use Rattle.tasks.specs.Walks.{ready}
 use lib.ListN.{getD}
 use mathlib.Core.Path.{_≡_, ap, _∙_}

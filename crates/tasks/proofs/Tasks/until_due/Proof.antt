@@ -4,7 +4,7 @@ use Rattle.lists.proofs.Loops.{Upto, start, next, ended}
 use Rattle.lists.specs.Choice.{if_then_else_}
 use Rattle.slots.specs.Places.{ahead}
 use Rattle.tasks.proofs.Columns.{Full}
-use Rattle.tasks.proofs.Turns.{until-is}
+use Rattle.tasks.proofs.WalkTurns.{until-is}
 use Rattle.tasks.specs.Dues.{timed}
 use lib.ListN.{getD}
 use mathlib.Core.Path.{ap, _∙_}

@@ -3,7 +3,7 @@ use Prim.Native.Nat.{_-_, _≤_}
 use Rattle.lists.proofs.Loops.{Upto, start, next, ended, found}
 use Rattle.numbers.specs.Numbers.{object}
 use Rattle.tasks.proofs.Columns.{Full}
-use Rattle.tasks.proofs.Turns.{waited-is}
+use Rattle.tasks.proofs.WalkTurns.{waited-is}
 use Rattle.tasks.specs.Walks.{isMeant}
 use lib.ListN.{getD}
 use mathlib.Core.Bool.{false, _||_}

@@ -4,14 +4,14 @@ use Rattle.lists.proofs.Loops.{Upto, start, next, ended}
 use Rattle.lists.specs.Choice.{if_then_else_}
 use Rattle.slots.proofs.Sweeps.{one-few}
 use Rattle.tasks.specs.Fine.{waitingIn}
-use Rattle.tasks.specs.Known.{waits}
+use Rattle.tasks.specs.Known.{waitsState}
 use lib.ListN.{getD}
 use native.Mathlib.Omega.{arith}
 use Rattle.tasks.proofs.Tasks.waiting.Statement.{statement}
 use Rattle.tasks.proofs.Tasks.waiting.Tie as tie
 
 abbrev Inv-loop : tie.InvT-loop
-Inv-loop state n₀ i₀ n i = Upto (λ m j. m + (if waits (getD state j 0) then 1 else 0)) 0 n i × (i ≤ 16) × (n ≤ i)
+Inv-loop state n₀ i₀ n i = Upto (λ m j. m + (if waitsState (getD state j 0) then 1 else 0)) 0 n i × (i ≤ 16) × (n ≤ i)
 
 abbrev μ-loop : tie.MeasureT-loop
 μ-loop state n₀ i₀ n i = 16 - i

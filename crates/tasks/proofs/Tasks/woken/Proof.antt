@@ -3,7 +3,7 @@ use Prim.Native.Nat.{_-_, _≤_}
 use Rattle.lists.proofs.Loops.{Upto, start, next, ended}
 use Rattle.tasks.proofs.ByNumber.{by-number}
 use Rattle.numbers.specs.Numbers.{task, object}
-use Rattle.tasks.proofs.Turns.{columns, woken-alike, due-turn, not-turn}
+use Rattle.tasks.proofs.WalkTurns.{columns, woken-alike, due-turn, not-turn}
 use Rattle.tasks.specs.Dues.{woken, wakeIn, wakesIn}
 use lib.Dec.{eqb}
 use lib.ListN.{getD}

@@ -13,7 +13,7 @@ use Rattle.slots.specs.declared.Object.{Object}
 use Rattle.slots.specs.Kinds.{unused}
 use Rattle.objects.specs.declared.Objects.{Objects}
 use Rattle.objects.specs.declared.Cells.{Cells}
-use Rattle.objects.specs.Rows.{six, cellsOf, kindOf, objectsOf, kindIn, rowsOf, noRing, known, cellsAt, canonical}
+use Rattle.objects.specs.Columns.{six, cellsOf, kindOf, objectsOf, kindIn, rowsOf, noRing, known, cellsAt, canonical}
 use Rattle.objects.proofs.Columns.{Full, rows-many, row-at}
 
 -- no ring and no holder; no ring

@@ -13,8 +13,8 @@ use Rattle.slots.specs.declared.Task.{Task}
 use Rattle.slots.specs.Values.{freeTask}
 use Rattle.tasks.specs.declared.Tasks.{Tasks}
 use Rattle.tasks.specs.declared.Cells.{Cells}
-use Rattle.tasks.specs.Cells.{cells, cellsOf, placeOf}
-use Rattle.tasks.specs.Rows.{stateOf, objectOf, wakeOf, tasksOf, rowAt, rowsOf}
+use Rattle.tasks.specs.Numbering.{cells, cellsOf, placeOf}
+use Rattle.tasks.specs.Columns.{stateOf, objectCell, wakeCell, tasksOf, rowAt, rowsOf}
 use Rattle.tasks.specs.Known.{known, wakeKnown, canonical}
 use Rattle.tasks.proofs.Columns.{Full, rows-many, row-at}
 
@@ -50,8 +50,8 @@ module _ (ts : Tasks) (full : Full ts) where
   unfolding tasksOf canonical rowAt
   tasks-back h = λ j. record {
     state = column stateOf (ts .state) (full .states) refl (λ i l. ap (λ (c : Cells). c .state) (same i l)) j;
-    object = column objectOf (ts .object) (full .objects) refl (λ i l. ap (λ (c : Cells). c .object) (same i l)) j;
-    wake = column wakeOf (ts .wake) (full .wakes) refl (λ i l. ap (λ (c : Cells). c .wake) (same i l)) j;
+    object = column objectCell (ts .object) (full .objects) refl (λ i l. ap (λ (c : Cells). c .object) (same i l)) j;
+    wake = column wakeCell (ts .wake) (full .wakes) refl (λ i l. ap (λ (c : Cells). c .wake) (same i l)) j;
     own = column (λ (x : Task). x .own) (ts .own) (full .owns) refl (λ i l. refl) j;
     effective = column (λ (x : Task). x .effective) (ts .effective) (full .effectives) refl (λ i l. refl) j;
     outcome = column (λ (x : Task). x .outcome) (ts .outcome) (full .outcomes) refl (λ i l. refl) j;

@@ -25,11 +25,11 @@ use Rattle.slots.specs.Leads.{leadOver, better}
 use Rattle.slots.specs.Values.{freeTask, inHigher}
 use Rattle.slots.proofs.Sweeps.{by-rows, some-row, first-row}
 use Rattle.tasks.specs.declared.Tasks.{Tasks}
-use Rattle.tasks.specs.Rows.{rowAt, rowsOf, put, freeIn}
+use Rattle.tasks.specs.Columns.{rowAt, rowsOf, put, freeIn}
 use Rattle.tasks.specs.Walks.{leadIn, higherIn, outrankedIn, lineIn, readyLevel, topIn, waitedIn, isMeant, ready}
 use Rattle.tasks.specs.Dues.{timed, untilIn, wakeNow, woken, tailed, wakeIn}
 use Rattle.tasks.proofs.Columns.{Full, row-at, rows-many}
-use Rattle.tasks.proofs.Tests.{row-meant, row-free, row-line, row-higher, row-away, row-due, row-ended}
+use Rattle.tasks.proofs.StateTests.{row-meant, row-free, row-line, row-higher, row-away, row-due, row-ended}
 
 -- the first n of a list that is long enough
 module _ (xs : List TaskSlot) (n : ℕ) (h : n ≤ length xs) where

@@ -6,7 +6,7 @@ use Rattle.numbers.specs.declared.TaskSlot.{TaskSlot}
 use Rattle.numbers.specs.declared.ObjSlot.{ObjSlot}
 use Rattle.slots.specs.declared.Object.{Object}
 use Rattle.slots.specs.Kinds.{kindAt, isUnused, heldBy}
-use Rattle.objects.specs.Rows.{objectsOf, kindIn, heldIn, unusedIn}
+use Rattle.objects.specs.Columns.{objectsOf, kindIn, heldIn, unusedIn}
 use Rattle.objects.proofs.Columns.{kind-of, rows-of}
 
 -- a row says the kind of that slot

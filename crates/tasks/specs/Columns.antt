@@ -7,25 +7,25 @@ use Rattle.slots.specs.declared.Place.{Place}
 use Rattle.slots.specs.declared.Task.{Task}
 use Rattle.slots.specs.Places.{isFree}
 use Rattle.tasks.specs.declared.Tasks.{Tasks}
-use Rattle.tasks.specs.Cells.{cells, cellsOf, placeOf}
+use Rattle.tasks.specs.Numbering.{cells, cellsOf, placeOf}
 
 -- a task's numbers
 abbrev pub stateOf : Task → ℕ
 stateOf x = cellsOf (x .place) .state
 
-abbrev pub objectOf : Task → ℕ
-objectOf x = cellsOf (x .place) .object
+abbrev pub objectCell : Task → ℕ
+objectCell x = cellsOf (x .place) .object
 
-abbrev pub wakeOf : Task → ℕ
-wakeOf x = cellsOf (x .place) .wake
+abbrev pub wakeCell : Task → ℕ
+wakeCell x = cellsOf (x .place) .wake
 
 -- the columns that stand for a list of tasks
 unfoldable pub tasksOf : List Task → Tasks
 tasksOf xs =
     record {
       state = map stateOf xs;
-      object = map objectOf xs;
-      wake = map wakeOf xs;
+      object = map objectCell xs;
+      wake = map wakeCell xs;
       own = map (λ (x : Task). x .own) xs;
       effective = map (λ (x : Task). x .effective) xs;
       outcome = map (λ (x : Task). x .outcome) xs;
@@ -36,8 +36,8 @@ unfoldable pub put : Tasks → ℕ → Task → Tasks
 put ts n x =
     record {
       state = set (ts .state) n (stateOf x);
-      object = set (ts .object) n (objectOf x);
-      wake = set (ts .wake) n (wakeOf x);
+      object = set (ts .object) n (objectCell x);
+      wake = set (ts .wake) n (wakeCell x);
       own = set (ts .own) n (x .own);
       effective = set (ts .effective) n (x .effective);
       outcome = set (ts .outcome) n (x .outcome);

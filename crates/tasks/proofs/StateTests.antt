@@ -14,8 +14,8 @@ use Rattle.slots.specs.Places.{isFree, isReady, waitsOn, wakesAt, outcomeDue, a
 use Rattle.slots.specs.Leads.{isWho}
 use Rattle.slots.specs.Values.{inLine, inHigher}
 use Rattle.tasks.specs.declared.Tasks.{Tasks}
-use Rattle.tasks.specs.Cells.{cells, placeOf}
-use Rattle.tasks.specs.Rows.{rowAt}
+use Rattle.tasks.specs.Numbering.{cells, placeOf}
+use Rattle.tasks.specs.Columns.{rowAt}
 use Rattle.tasks.specs.Walks.{isMeant}
 use Rattle.tasks.specs.Dues.{timed}
 
@@ -28,35 +28,35 @@ by-state P a b c d e f (suc (suc (suc zero))) = d
 by-state P a b c d e f (suc (suc (suc (suc zero)))) = e
 by-state P a b c d e f (suc (suc (suc (suc (suc n))))) = f (suc (suc (suc (suc (suc n))))) (omega arith)
 
-pub suspended : (s o w : ℕ) → 5 ≤ s → placeOf (cells s o w) ≡ Suspended
+pub is-suspended : (s o w : ℕ) → 5 ≤ s → placeOf (cells s o w) ≡ Suspended
 unfolding placeOf
-suspended s o w h =
+is-suspended s o w h =
     rw (ne-eqb s 0 (λ e. omega arith), ne-eqb s 1 (λ e. omega arith), ne-eqb s 2 (λ e. omega arith), ne-eqb s 3 (λ e. omega arith), ne-eqb s 4 (λ e. omega arith))
 
 meant-is : (w : Who) (s o x : ℕ) → isWho w (placeOf (cells s o x)) ≡ isMeant w s o
 unfolding placeOf
 meant-is AllReady s o x =
-    by-state (λ n. isReady (placeOf (cells n o x)) ≡ eqb n 1) refl refl refl refl refl (λ n h. rw (suspended n o x h, ne-eqb n 1 (λ e. omega arith))) s
+    by-state (λ n. isReady (placeOf (cells n o x)) ≡ eqb n 1) refl refl refl refl refl (λ n h. rw (is-suspended n o x h, ne-eqb n 1 (λ e. omega arith))) s
 meant-is (WaitersOf y) s o x =
     by-state (λ n. waitsOn y (placeOf (cells n o x)) ≡ ((eqb n 3 || eqb n 4) && eqb o (y .0))) refl refl refl refl refl
-    (λ n h. rw (suspended n o x h, ne-eqb n 3 (λ e. omega arith), ne-eqb n 4 (λ e. omega arith))) s
+    (λ n h. rw (is-suspended n o x h, ne-eqb n 3 (λ e. omega arith), ne-eqb n 4 (λ e. omega arith))) s
 
 free-is : (s o x : ℕ) → isFree (placeOf (cells s o x)) ≡ eqb s 0
 unfolding placeOf
-free-is s o x = by-state (λ n. isFree (placeOf (cells n o x)) ≡ eqb n 0) refl refl refl refl refl (λ n h. rw (suspended n o x h, ne-eqb n 0 (λ e. omega arith))) s
+free-is s o x = by-state (λ n. isFree (placeOf (cells n o x)) ≡ eqb n 0) refl refl refl refl refl (λ n h. rw (is-suspended n o x h, ne-eqb n 0 (λ e. omega arith))) s
 
 -- the wake tick: how far away, whether it is now, and the outcome
 away-is : (now s o w : ℕ) → away now (placeOf (cells s o w)) ≡ (if timed s then ahead now w else 4294967295)
 unfolding placeOf
 away-is now s o w =
     by-state (λ n. away now (placeOf (cells n o w)) ≡ (if timed n then ahead now w else 4294967295)) refl refl refl refl refl
-    (λ n h. rw (suspended n o w h, ne-eqb n 2 (λ e. omega arith), ne-eqb n 3 (λ e. omega arith))) s
+    (λ n h. rw (is-suspended n o w h, ne-eqb n 2 (λ e. omega arith), ne-eqb n 3 (λ e. omega arith))) s
 
 due-is : (now s o w : ℕ) → wakesAt now (placeOf (cells s o w)) ≡ (timed s && eqb w now)
 unfolding placeOf
 due-is now s o w =
     by-state (λ n. wakesAt now (placeOf (cells n o w)) ≡ (timed n && eqb w now)) refl refl refl refl refl
-    (λ n h. rw (suspended n o w h, ne-eqb n 2 (λ e. omega arith), ne-eqb n 3 (λ e. omega arith))) s
+    (λ n h. rw (is-suspended n o w h, ne-eqb n 2 (λ e. omega arith), ne-eqb n 3 (λ e. omega arith))) s
 
 ended-is : (s o w : ℕ) → timed s ≡ true → outcomeDue (placeOf (cells s o w)) ≡ (if eqb s 2 then 1 else 2)
 unfolding placeOf

@@ -15,7 +15,7 @@ use Rattle.slots.specs.Places.{isFree, wakesAt, away}
 use Rattle.slots.specs.Values.{taskAt, inHigher}
 use Rattle.slots.specs.Leads.{better}
 use Rattle.tasks.specs.declared.Woken.{Woken}
-use Rattle.tasks.specs.Rows.{tasksOf, freeIn, put, rowAt}
+use Rattle.tasks.specs.Columns.{tasksOf, freeIn, put, rowAt}
 use Rattle.tasks.specs.Walks.{leadIn, higherIn}
 use Rattle.tasks.specs.Dues.{untilIn, woken, readyOf, tailed, wakeIn, wakesIn}
 use Rattle.tasks.proofs.Columns.{row-of, rows-of, put-of}
