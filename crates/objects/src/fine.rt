@@ -5,17 +5,10 @@ ghost use Rattle.lists.specs.Choice.{if_then_else_};
 ghost use Rattle.lists.specs.Lists.{allBelow};
 ghost use Rattle.slots.specs.SoundSlots.{ringFine};
 ghost use Rattle.slots.specs.Kinds.{marksOf};
-ghost use Rattle.objects.specs.Columns.{rowsOf, noRing, ring, six};
+ghost use Rattle.objects.specs.Columns.{rowsOf, ring, six};
 ghost use Rattle.objects.specs.Fine.{rowFine, fineAt, openAt, takenAt, holdingIn, Each, HoldingsAre};
 use crate::Holdings;
 use crate::Objects;
-
-fn no_ring(c: u8, z: u8, f: u8, k: u8) -> bool
-    ensures { λ r. ⌜ r ≡ noRing c z f k ⌝ }
-{
-    let few = lists::both(f == 0, k == 0);
-    lists::both(c == 0, lists::both(z == 0, few))
-}
 
 fn ring_fine(c: u8, z: u8, f: u8, k: u8) -> bool
     ensures { λ r. ⌜ r ≡ ringFine (ring c z f k) ⌝ }
@@ -29,7 +22,9 @@ fn ring_fine(c: u8, z: u8, f: u8, k: u8) -> bool
 fn row_fine(s: u8, c: u8, z: u8, f: u8, k: u8, h: u8) -> bool
     ensures { λ r. ⌜ r ≡ rowFine (six s c z f k h) ⌝ }
 {
-    let rings = lists::either(s == 1, no_ring(c, z, f, k));
+    let few = lists::both(f == 0, k == 0);
+    let none = lists::both(c == 0, lists::both(z == 0, few));
+    let rings = lists::either(s == 1, none);
     let known = lists::both(s <= 3, lists::both(rings, lists::either(s == 3, h == 0)));
     let ranges = lists::either(s != 1, ring_fine(c, z, f, k));
     lists::both(known, lists::both(ranges, h < 16))

@@ -161,32 +161,32 @@ module _ (k : State) (S : Sound k) (store : ℕ) (o : ObjSlot) (w : ℕ) where
   waiting : 0 < w → not (eqb w 0) ≡ true
   waiting s = not-off (eqb w 0) (ne-eqb w 0 (λ e. omega arith))
 
-  module _ (P : Passed k (onObject 13 AQueue o w) store) where
-    sends-queue : isQueue (kindAt (k .objects) o) ≡ true
-    unfolding namesNone
-    sends-queue = on (isQueue (kindAt (k .objects) o)) (P .named)
+  -- what is done with a queue, where no row turns the call away
+  module _ (n : ℕ) (P : Passed k (onObject n AQueue o w) store) where
+    busy : 0 < w → k .running .0 ≡ 0 → ⊥
+    busy s = wait-busy k (onObject n AQueue o w) (P .idle) (waiting s)
 
+    no-hold : 0 < w → 0 < k .hold → ⊥
+    no-hold s = wait-free k (onObject n AQueue o w) (P .held) (waiting s)
+
+    queue-keeps : (does : Kind → State) → ((q : Ring) → kindAt (k .objects) o ≡ Queue q → Keeps (does (Queue q))) → Keeps (does (kindAt (k .objects) o))
+    unfolding namesNone
+    queue-keeps does f =
+        by-kind (kindAt (k .objects) o) (λ x. isQueue x ≡ true → Keeps (does x)) (λ m. absurd (false≢true m)) (λ q e m. f q e) (λ e m. absurd (false≢true m)) (λ t e m. absurd (false≢true m))
+        (on (isQueue (kindAt (k .objects) o)) (P .named))
+
+  module _ (P : Passed k (onObject 13 AQueue o w) store) where
     send-waits : (q : Ring) → kindAt (k .objects) o ≡ Queue q → q .count ≡ q .capacity → 0 < w
     send-waits q e full = some-wait (onObject 13 AQueue o w) (must-wait k (onObject 13 AQueue o w) (P .may-wait) (rw (e, eq-eqb (q .count) (q .capacity) full)))
 
     pub send-keeps : Keeps (effect k (onObject 13 AQueue o w))
     unfolding effect
-    send-keeps =
-        by-kind (kindAt (k .objects) o) (λ x. isQueue x ≡ true → Keeps (sentTo k o x w)) (λ m. absurd (false≢true m))
-        (λ q e m. sent-keeps k S o q e w (send-waits q e) (λ s. wait-busy k (onObject 13 AQueue o w) (P .idle) (waiting s)) (λ s. wait-free k (onObject 13 AQueue o w) (P .held) (waiting s)))
-        (λ e m. absurd (false≢true m)) (λ h e m. absurd (false≢true m)) sends-queue
+    send-keeps = queue-keeps 13 P (λ x. sentTo k o x w) (λ q e. sent-keeps k S o q e w (send-waits q e) (busy 13 P) (no-hold 13 P))
 
   module _ (P : Passed k (onObject 14 AQueue o w) store) where
-    receives-queue : isQueue (kindAt (k .objects) o) ≡ true
-    unfolding namesNone
-    receives-queue = on (isQueue (kindAt (k .objects) o)) (P .named)
-
     receive-waits : (q : Ring) → kindAt (k .objects) o ≡ Queue q → q .count ≡ 0 → 0 < w
     receive-waits q e none = some-wait (onObject 14 AQueue o w) (must-wait k (onObject 14 AQueue o w) (P .may-wait) (rw (e, eq-eqb (q .count) 0 none)))
 
     pub receive-keeps : Keeps (effect k (onObject 14 AQueue o w))
     unfolding effect
-    receive-keeps =
-        by-kind (kindAt (k .objects) o) (λ x. isQueue x ≡ true → Keeps (receivedFrom k o x w)) (λ m. absurd (false≢true m))
-        (λ q e m. received-keeps k S o q e w (receive-waits q e) (λ s. wait-busy k (onObject 14 AQueue o w) (P .idle) (waiting s)) (λ s. wait-free k (onObject 14 AQueue o w) (P .held) (waiting s)))
-        (λ e m. absurd (false≢true m)) (λ h e m. absurd (false≢true m)) receives-queue
+    receive-keeps = queue-keeps 14 P (λ x. receivedFrom k o x w) (λ q e. received-keeps k S o q e w (receive-waits q e) (busy 14 P) (no-hold 14 P))
