@@ -34,11 +34,10 @@ use Rattle.rules.specs.State.{State}
 use Rattle.rules.specs.Sound.{sound}
 use Rattle.rules.specs.Refusals.{laterRow, refusal}
 use Rattle.rules.specs.Steps.{Stepped, turnedAway, steppedBy, step}
-use Rattle.rules.specs.Sessions.{noLine, stepTold, stepRead, readLine, readCut, lineStep, Run, told, answeredBy, fed, noRoom, run, begun, closed}
+use Rattle.rules.specs.Sessions.{noLineOf, noLine, stepTold, stepRead, readLine, readCut, lineStep, Run, told, answeredBy, fed, noRoom, run, begun, closed}
 use Rattle.rules.proofs.KeepEvery.{step-kept}
 use Rattle.kernel.specs.Types.{Kernel, Step, Served}
 use Rattle.kernel.specs.Stands.{kernelOf, shown, standing}
-use Rattle.kernel.specs.Sessions.{callIn, beforeCall}
 use Rattle.kernel.specs.Promises.{Is, SoundSteps, Ran}
 use Rattle.kernel.proofs.Shown.{shown-running, stays-standing, next-shown}
 
@@ -81,46 +80,32 @@ step-by b k c item s e = ap (λ (t : Bool). steppedBy (if t then laterRow k (ask
 abbrev itemOf : Read → List ℕ
 itemOf r = take (r .len) (r .item)
 
-no-line : (k : State) (s : List ℕ) (b : Bool) (m : ℕ) → sound k ≡ b → noLine k s ≡ beforeCall (Refused m) b (length s)
+no-line : (k : State) (s : List ℕ) (b : Bool) → b ≡ sound k → noLine k s ≡ noLineOf b (length s)
 unfolding noLine
-no-line k s true m e = ap (λ (t : Bool). if t then (if eqb (length s) 9216 then 3 else 2) else 1) e
-no-line k s false m e = ap (λ (t : Bool). if t then (if eqb (length s) 9216 then 3 else 2) else 1) e
+no-line k s b e = ap (λ (t : Bool). noLineOf t (length s)) (sym e)
 
 -- what was read says t, by which the step goes
 read-as : (k : Kernel) (s : List ℕ) (r : Read) (t : Reading) (d : Stepped) (q : Step) (after : List ℕ)
     → r .answer ≡ t → stepTold (shown k) s t (itemOf r) ≡ d → Is k d q after → Is k (stepRead (shown k) s r) q after
 read-as k s r t d q after e f = subst (λ (x : Stepped). Is k x q after) (sym (ap (λ (x : Reading). stepTold (shown k) s x (itemOf r)) e ∙ f))
 
--- a number that is not 0 is given before the call is looked at
-pub line-turned-away : (k : Kernel) (s : List ℕ) (r : Read) (fine : Bool) (n : ℕ) → fine ≡ sound (shown k) → (sound (shown k) ≡ true → k ≡ kernelOf (shown k))
-    → n ≡ beforeCall (r .answer) fine (length s) → (n ≡ 0 → ⊥) → Is k (stepRead (shown k) s r) record { kernel = k; answer = NotDone n } s
-line-turned-away k s r fine n e stands g h = go (r .answer) refl fine (sym e) g
-  where
-    away : (t : Reading) → r .answer ≡ t → stepTold (shown k) s t (itemOf r) ≡ turnedAway (shown k) n s → Is k (stepRead (shown k) s r) record { kernel = k; answer = NotDone n } s
-    away t p q = read-as k s r t (turnedAway (shown k) n s) record { kernel = k; answer = NotDone n } s p q record { kernel = stays-standing k stands; answer = refl; store = refl }
+-- a line that is no call's, and any line where the kernel is not sound, is turned away
+module _ (k : Kernel) (s : List ℕ) (r : Read) (stands : sound (shown k) ≡ true → k ≡ kernelOf (shown k)) where
+  away : (t : Reading) (n : ℕ) → r .answer ≡ t → stepTold (shown k) s t (itemOf r) ≡ turnedAway (shown k) n s
+      → Is k (stepRead (shown k) s r) record { kernel = k; answer = NotDone n } s
+  away t n p q = read-as k s r t (turnedAway (shown k) n s) record { kernel = k; answer = NotDone n } s p q record { kernel = stays-standing k stands; answer = refl; store = refl }
 
-    go : (t : Reading) → r .answer ≡ t → (b : Bool) → sound (shown k) ≡ b → n ≡ beforeCall t b (length s) → Is k (stepRead (shown k) s r) record { kernel = k; answer = NotDone n } s
-    go (Says c) p true f q = absurd (h q)
-    go (Says c) p false f q = away (Says c) p (step-by false (shown k) c (itemOf r) s f ∙ ap (λ (x : ℕ). turnedAway (shown k) x s) (sym q))
-    go (Refused m) p b f q = away (Refused m) p (ap (λ (x : ℕ). turnedAway (shown k) x s) (no-line (shown k) s b m f ∙ sym q))
+  pub unsound-step : (c : Call) → r .answer ≡ Says c → sound (shown k) ≡ false → Is k (stepRead (shown k) s r) record { kernel = k; answer = NotDone 1 } s
+  unsound-step c p f = away (Says c) 1 p (step-by false (shown k) c (itemOf r) s f)
 
-two-or-three : (b : Bool) → _≡_ {A = ℕ} (if b then 3 else 2) 0 → ⊥
-two-or-three true z = omega arith
-two-or-three false z = omega arith
+  pub no-line-step : (m : ℕ) (b : Bool) (n : ℕ) → r .answer ≡ Refused m → b ≡ sound (shown k) → n ≡ noLineOf b (length s)
+      → Is k (stepRead (shown k) s r) record { kernel = k; answer = NotDone n } s
+  no-line-step m b n p e q = away (Refused m) n p (ap (λ (x : ℕ). turnedAway (shown k) x s) (no-line (shown k) s b e ∙ sym q))
 
--- else the line has a call, and the kernel is sound
-pub has-call : (k : State) (s : List ℕ) (r : Read) (fine : Bool) (n : ℕ) → fine ≡ sound k → n ≡ beforeCall (r .answer) fine (length s) → n ≡ 0
-    → (sound k ≡ true) × (r .answer ≡ Says (callIn (r .answer)))
-has-call k s r fine n e g h = go (r .answer) fine (sym e) (sym g ∙ h)
-  where
-    go : (t : Reading) (b : Bool) → sound k ≡ b → beforeCall t b (length s) ≡ 0 → (sound k ≡ true) × (t ≡ Says (callIn t))
-    go t false f q = absurd (omega arith)
-    go (Says c) true f q = (f, refl)
-    go (Refused m) true f q = absurd (two-or-three (eqb (length s) 9216) q)
-
-pub sound-step : (k : Kernel) (s : List ℕ) (r : Read) (q : Step) (after : List ℕ) → (sound (shown k) ≡ true) × (r .answer ≡ Says (callIn (r .answer)))
-    → SoundSteps k (asked (callIn (r .answer))) (itemOf r) s q after → Is k (stepRead (shown k) s r) q after
-sound-step k s r q after h = read-as k s r (Says (callIn (r .answer))) _ q after (h .1) (step-by true (shown k) (callIn (r .answer)) (itemOf r) s (h .0))
+-- else the step is the call's
+pub sound-step : (k : Kernel) (s : List ℕ) (r : Read) (c : Call) (q : Step) (after : List ℕ) → r .answer ≡ Says c → sound (shown k) ≡ true
+    → SoundSteps k (asked c) (itemOf r) s q after → Is k (stepRead (shown k) s r) q after
+sound-step k s r c q after p f = read-as k s r (Says c) _ q after p (step-by true (shown k) c (itemOf r) s f)
 
 -- a line's step leaves the kernel as sound as it was
 told-keeps : (k : State) (s : List ℕ) (t : Reading) (item : List ℕ) (b : Bool) → sound k ≡ b → sound (stepTold k s t item .kernel) ≡ b
@@ -386,12 +371,12 @@ module _ (k : Kernel) (s : List ℕ) (c : Cut) (lent : List ℕ) where
 
   -- the line without a newline is answered
   pub last-told : (empty b fine : Bool) (m next : ℕ) (out : List ℕ) → empty ≡ isBlank c → b ≡ (empty || ltb (length lent) 256) → b ≡ false
-      → fine ≡ sound (shown k) → m ≡ beforeCall (Refused 3) fine (length s) → Wrote lent 0 (replyOf (NotDone m) (taskNo (k .running))) next out
+      → fine ≡ sound (shown k) → m ≡ noLineOf fine (length s) → Wrote lent 0 (replyOf (NotDone m) (taskNo (k .running))) next out
       → Ran k (closed (length lent) (shown k) s c) lent record { session = record { kernel = k; cut = cutOf (c .bytes) 0 }; taken = 0; written = next } s out
   unfolding ended
   last-told empty b fine m next out e f g p q w =
       let room : 256 ≤ length lent = ltb-false (length lent) 256 (or-off empty (ltb (length lent) 256) (sym f ∙ g) .1) in
-      let no : m ≡ noLine (shown k) s = q ∙ sym (no-line (shown k) s fine 3 (sym p)) in
+      let no : m ≡ noLine (shown k) s = q ∙ sym (no-line (shown k) s fine p) in
       let x = first-text w (omega (arith, reply-short (NotDone m) (taskNo (k .running)))) in
       subst (λ (x : Run). Ran k x lent record { session = record { kernel = k; cut = cutOf (c .bytes) 0 }; taken = 0; written = next } s out)
       (ap (λ (u : TaskSlot). record { taken = 0; kernel = shown k; store = s; cut = ended c; answers = replyOf (NotDone m) (taskNo u) }) (sym (shown-running k))

@@ -2,4 +2,3 @@ pub mod Types
 pub mod Stands
 pub mod Does
 pub mod Promises
-pub mod Sessions

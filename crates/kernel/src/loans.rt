@@ -1,5 +1,5 @@
 // How a priority comes about: given, lent, paid back.
-ghost use Rattle.rules.specs.Loans.{moved, movedIf, prioritized, newPriority, lent, ownAgain};
+ghost use Rattle.rules.specs.Loans.{moved, prioritized, newPriority, lent, ownAgain};
 ghost use Rattle.kernel.specs.Does.{Does};
 use crate::Kernel;
 use numbers::TaskSlot;
@@ -16,27 +16,21 @@ impl Kernel {
         }
     }
 
-    fn moved_if(self, ready: bool, unchanged: bool, t: TaskSlot) -> Kernel
-        ensures { λ r. ⌜ Does self (λ s. movedIf ready unchanged s t) r ⌝ }
-    {
-        if ready {
-            if unchanged {
-                return self;
-            }
-            self.moved(t)
-        } else {
-            self
-        }
-    }
-
     // Own and effective priority changed; a ready task whose effective priority changes moves.
     fn prioritized(self, t: TaskSlot, own: u8, effective: u8) -> Kernel
         ensures { λ r. ⌜ Does self (λ s. prioritized s t own effective) r ⌝ }
     {
         let x = self.task(t);
         let p = x.place;
-        self.ranked(t, own, effective)
-            .moved_if(p.is_ready(), x.effective == effective, t)
+        let next = self.ranked(t, own, effective);
+        if p.is_ready() {
+            if x.effective == effective {
+                return next;
+            }
+            next.moved(t)
+        } else {
+            next
+        }
     }
 
     pub(crate) fn new_priority(self, t: TaskSlot, p: u8) -> Kernel

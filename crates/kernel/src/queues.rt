@@ -65,27 +65,18 @@ impl Kernel {
         }
     }
 
-    fn refilled_by(self, o: ObjSlot, q: Ring, f: Found) -> Kernel
-        requires { ⌜ q .count < 255 ⌝ }
-        ensures { λ r. ⌜ Does self (λ s. refilledBy s o q (whom f)) r ⌝ }
+    // If a sender waits, the first waiter's item goes from its slip into the queue, and it is made ready.
+    fn refilled(self, o: ObjSlot, q: Ring, f: Found, store: &mut [u8]) -> Kernel
+        requires { ⌜ RingFits q × (o .0 < 16) × ((t : TaskSlot) → whom f ≡ t ∷ [] → t .0 < 16) × (length (now store) ≡ 9216) ⌝ }
+        ensures { λ r. ⌜ Does self (λ s. refilledBy s o q (whom f)) r × (now (store .exit) ≡ storeRefilledBy o q (whom f) (now (store .entry))) ⌝ }
     {
         match f {
             Found::NoOne => self.with_object(o, Kind::Queue(q)),
-            Found::Someone(t) => self.with_object(o, Kind::Queue(rings::one_more(q)))
-                .arrives(t, Place::Ready, 1),
-        }
-    }
-
-    // The first waiting sender's item goes from its slip into the queue.
-    fn refill(o: ObjSlot, q: Ring, f: Found, store: &mut [u8])
-        requires { ⌜ RingFits q × (o .0 < 16) × ((t : TaskSlot) → whom f ≡ t ∷ [] → t .0 < 16) × (length (now store) ≡ 9216) ⌝ }
-        ensures { λ r. ⌜ now (store .exit) ≡ storeRefilledBy o q (whom f) (now (store .entry)) ⌝ }
-    {
-        match f {
-            Found::NoOne => {}
             Found::Someone(t) => {
                 let item = parts::of_slip(t, q.size as usize, store);
                 parts::to_ring(o, q, q.count, &item, store);
+                self.with_object(o, Kind::Queue(rings::one_more(q)))
+                    .arrives(t, Place::Ready, 1)
             }
         }
     }
@@ -110,7 +101,6 @@ impl Kernel {
         let rest = rings::one_less(q);
         let item = parts::of_ring(o, q, 0, store);
         parts::to_slip(u, &item, q.size as usize, store);
-        Kernel::refill(o, rest, f, store);
-        self.refilled_by(o, rest, f)
+        self.refilled(o, rest, f, store)
     }
 }

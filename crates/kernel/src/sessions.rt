@@ -6,16 +6,14 @@ ghost use lib.Dec.{ltb};
 ghost use Rattle.lists.specs.Choice.{if_then_else_};
 ghost use mathlib.Core.Bool.{true};
 ghost use Rattle.rules.specs.Sound.{sound};
-ghost use Rattle.rules.specs.Sessions.{stepRead};
+ghost use Rattle.rules.specs.Sessions.{noLineOf, stepRead};
 ghost use Rattle.kernel.specs.Stands.{kernelOf, shown};
-ghost use Rattle.kernel.specs.Sessions.{beforeCall, callIn};
 ghost use Rattle.kernel.specs.Promises.{Is, ReadsAndSteps, Answers, Closes, newSession};
 use crate::Kernel;
 use crate::Served;
 use crate::Session;
 use crate::Step;
 use calls::Answer;
-use calls::Call;
 use calls::TaskNo;
 use cuts::Cut;
 use cuts::gather;
@@ -32,27 +30,14 @@ fn whole(len: usize) -> usize
     if 256 < len { 0 } else { len }
 }
 
-// The number that a line gets before its call is looked at: 1 and 2 stand before 3; 0 if it has a call to step.
-fn line_refusal(says: Reading, fine: bool, len: usize) -> u32
-    ensures { λ r. ⌜ r ≡ beforeCall says fine len ⌝ }
+// The number of a line that is no call's: 1 and 2 stand before 3.
+fn no_line(fine: bool, len: usize) -> u32
+    ensures { λ r. ⌜ r ≡ noLineOf fine len ⌝ }
 {
     if !fine {
         return 1;
     }
-    match says {
-        Reading::Says(_) => 0,
-        Reading::Refused(_) => if len == 9216 { 3 } else { 2 },
-    }
-}
-
-// The call that a line says; any call, where it says none.
-fn call_in(says: Reading) -> Call
-    ensures { λ r. ⌜ r ≡ callIn says ⌝ }
-{
-    match says {
-        Reading::Says(call) => call,
-        Reading::Refused(_) => Call::Tick,
-    }
+    if len == 9216 { 3 } else { 2 }
 }
 
 impl Kernel {
@@ -62,16 +47,23 @@ impl Kernel {
         ensures { λ r. ⌜ Is self (stepRead (shown self) (now (store .entry)) line) r (now (store .exit)) ⌝ }
     {
         let says = line.answer;
-        let no = line_refusal(says, fine, store.len());
-        if no != 0 {
-            return Step {
-                kernel: self,
-                answer: Answer::Refused(no),
-            };
-        }
         let item = line.item;
         let n = line.len;
-        self.step_sound(call_in(says), &item[..n], store)
+        match says {
+            Reading::Says(call) => {
+                if fine {
+                    return self.step_sound(call, &item[..n], store);
+                }
+                Step {
+                    kernel: self,
+                    answer: Answer::Refused(1),
+                }
+            }
+            Reading::Refused(_) => Step {
+                kernel: self,
+                answer: Answer::Refused(no_line(fine, store.len())),
+            },
+        }
     }
 
     // The step of a line: any bytes, of whatever length.
@@ -144,7 +136,7 @@ impl Session {
                 written: 0,
             };
         }
-        let no = line_refusal(Reading::Refused(3), self.kernel.sound(), store.len());
+        let no = no_line(self.kernel.sound(), store.len());
         let written = put_answer(
             out,
             0,

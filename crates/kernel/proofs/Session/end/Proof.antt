@@ -17,11 +17,11 @@ returns-2 c =
     let is-empty = c8 .before .before .is-empty in
     let either = c8 .before .either in
     let sound = c4 .before .before .before .sound in
-    let line-refusal = c4 .before .before .line-refusal in
+    let no-line = c4 .before .before .no-line in
     let put-answer = c .before .before .before .put-answer in
     let a = c12 .before .before .args in
-    last-told (a .self .kernel) (a .store .now) (a .self .cut) (a .out .now) (is-empty .result) (either .result) (sound .result) (line-refusal .result) (put-answer .result) (put-answer .last .0)
-    (is-empty .ensures) (either .ensures) (c8 .if1 .left) (sound .ensures .0) (line-refusal .ensures) (rw (← c4 .of-slot .ensures) (put-answer .ensures))
+    last-told (a .self .kernel) (a .store .now) (a .self .cut) (a .out .now) (is-empty .result) (either .result) (sound .result) (no-line .result) (put-answer .result) (put-answer .last .0)
+    (is-empty .ensures) (either .ensures) (c8 .if1 .left) (sound .ensures .0) (no-line .ensures) (rw (← c4 .of-slot .ensures) (put-answer .ensures))
 
 pub end-spec : {M : Type 1} → statement M
 end-spec =
