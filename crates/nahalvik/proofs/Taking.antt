@@ -28,7 +28,7 @@ use Rattle.promises.specs.Turns.{goesOn, atStart, afterEnd}
 use Rattle.promises.proofs.AnyBlocks.{beyond, from-here}
 use Rattle.lists.proofs.Loops.{fold-append}
 use Rattle.promises.proofs.WholeBlocks.{whole-taken, all-counted, fed-then-ended, fed-kernel, fed-store}
-use Rattle.nahalvik.specs.Blocks.{fedAll, onward, roomFor, fromStart, Whole, Brought, Came}
+use Rattle.nahalvik.specs.Blocks.{fedAll, onward, roomFor, fromStart, Brought, Came}
 
 -- the answers stand in the output
 pub fits : (k : Kernel) (d : Run) (lent : List ℕ) (r : Served) (s o : List ℕ) → Ran k d lent r s o → r .written ≤ length o
@@ -36,15 +36,6 @@ fits k d lent r s o h = omega (arith, h .written, ap length (h .output), length-
 
 pub fits-take : (k : Kernel) (d : Run) (lent : List ℕ) (r : Served) (s o : List ℕ) → Ran k d lent r s o → r .written ≡ length (take (r .written) o)
 fits-take k d lent r s o h = sym (length-take-le (r .written) o (fits k d lent r s o h))
-
--- with room for an answer to each byte, a block is taken whole
-pub whole : (n : Session) (block s lent : List ℕ) (r : Served) (after o : List ℕ) → roomFor block ≤ length lent → Answers n block s lent r after o
-    → Whole n block s lent r after o
-whole n block s lent r after o h a =
-    let start = begun (shown (n .kernel)) s (n .cut) in
-    let ran =
-    subst (λ (d : Run). Ran (standing (n .kernel) (d .kernel)) d lent r after o) (whole-taken (length lent) start block (omega arith)) a in
-    record { taken = omega (arith, ran .taken, all-counted start block); ran = ran }
 
 pub none-brought : (n : Session) (buffer s lent : List ℕ) → Brought n buffer s lent record { session = n; taken = 0; written = 0 } s lent
 unfolding foldl
@@ -55,13 +46,17 @@ on-from : (n : Session) (s bytes : List ℕ) (m : ℕ) → m ≡ length bytes �
 on-from n s [] m e h = absurd (h e)
 on-from n s (b ∷ l) m e h = refl
 
+-- m bytes have come. With room for an answer to each of them, they are taken whole
 pub some-brought : (n : Session) (buffer s lent : List ℕ) (r : Served) (after o : List ℕ) (m : ℕ) → m ≤ length buffer → m ≡ length (take m buffer)
-    → (m ≡ 0 → ⊥) → Whole n (take m buffer) s lent r after o → Brought n buffer s lent r after o
-some-brought n buffer s lent r after o m h e some w =
-    let t : r .taken ≡ m = w .taken ∙ sym e in
+    → (m ≡ 0 → ⊥) → roomFor (take m buffer) ≤ length lent → Answers n (take m buffer) s lent r after o → Brought n buffer s lent r after o
+some-brought n buffer s lent r after o m h e some room a =
+    let start = begun (shown (n .kernel)) s (n .cut) in
     let d = fedAll n s (take m buffer) in
+    let whole : Ran (standing (n .kernel) (d .kernel)) d lent r after o =
+    subst (λ (d : Run). Ran (standing (n .kernel) (d .kernel)) d lent r after o) (whole-taken (length lent) start (take m buffer) (omega arith)) a in
+    let t : r .taken ≡ m = omega (arith, whole .taken, all-counted start (take m buffer)) in
     let ran : Ran (onward n s (take m buffer)) d lent r after o =
-    subst (λ (k : Kernel). Ran k d lent r after o) (on-from n s (take m buffer) m e some) (w .ran) in
+    subst (λ (k : Kernel). Ran k d lent r after o) (on-from n s (take m buffer) m e some) whole in
     record {
       within = omega arith;
       ran = subst (λ (i : ℕ). Ran (onward n s (take i buffer)) (fedAll n s (take i buffer)) lent r after o) (sym t) ran;

@@ -25,11 +25,6 @@ onward n s (b ∷ bytes) = standing (n .kernel) (fedAll n s (b ∷ bytes) .kerne
 abbrev pub roomFor : List ℕ → ℕ
 roomFor block = 64 * length block + 256
 
--- the promise of a block: it is taken whole; session, store, the bytes written and all others of the lent output are what the session's definition says
-pub record Whole (n : Session) (block s lent : List ℕ) (r : Served) (after o : List ℕ) : Type 0 where
-  pub taken : r .taken ≡ length block
-  pub ran : Ran (standing (n .kernel) (fedAll n s block .kernel)) (fedAll n s block) lent r after o
-
 -- the promise of a read: as many bytes came as were taken; they stand first in the buffer, and are answered as a whole block
 pub record Brought (n : Session) (buffer s lent : List ℕ) (r : Served) (after o : List ℕ) : Type 0 where
   pub within : r .taken ≤ length buffer

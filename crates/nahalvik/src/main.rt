@@ -3,7 +3,7 @@ ghost use Prim.Native.Nat.{_≤_};
 ghost use mathlib.Core.Path.{_≡_};
 ghost use lib.ListN.{length, replicate};
 ghost use Rattle.kernel.specs.Promises.{Closes};
-ghost use Rattle.nahalvik.specs.Blocks.{roomFor, Whole, Brought, Came};
+ghost use Rattle.nahalvik.specs.Blocks.{roomFor, Brought, Came};
 use kernel::Served;
 use kernel::Session;
 use libc::STDIN_FILENO;
@@ -25,21 +25,6 @@ fn tell(answers: &[u8]) -> bool {
     false
 }
 
-// Answers the whole block at once, since the output has room for that, and writes the answers.
-fn answer_block(session: Session, block: &[u8], store: &mut [u8], out: &mut [u8]) -> Turn
-    requires { ⌜ roomFor (now block) ≤ length (now out) ⌝ }
-    ensures { λ r. ⌜ Whole session (now (block .entry)) (now (store .entry)) (now (out .entry)) (r .served) (now (store .exit)) (now (out .exit)) ⌝ }
-{
-    let served = session.answer(block, store, out);
-    let n = served.written;
-    let fine = tell(&out[..n]);
-    Turn {
-        served,
-        more: fine,
-        fine,
-    }
-}
-
 // Whether a read that brought nothing met the input's end. Where it failed instead, it says so, with the system's reason.
 fn ended(got: isize) -> bool {
     if 0 <= got {
@@ -49,7 +34,7 @@ fn ended(got: isize) -> bool {
     false
 }
 
-// Reads once, and answers what came. A line that a failed read cuts gets no answer.
+// Reads once, answers all that came at once, since the output has room for that, and writes the answers. A line that a failed read cuts gets no answer.
 fn read_block(session: Session, block: &mut [u8], store: &mut [u8], out: &mut [u8]) -> Turn
     requires { ⌜ roomFor (now block) ≤ length (now out) ⌝ }
     ensures { λ r. ⌜ Brought session (now (block .exit)) (now (store .entry)) (now (out .entry)) (r .served) (now (store .exit)) (now (out .exit)) ⌝ }
@@ -67,7 +52,14 @@ fn read_block(session: Session, block: &mut [u8], store: &mut [u8], out: &mut [u
             fine: ended(got),
         };
     }
-    answer_block(session, &block[..n], store, out)
+    let served = session.answer(&block[..n], store, out);
+    let written = served.written;
+    let fine = tell(&out[..written]);
+    Turn {
+        served,
+        more: fine,
+        fine,
+    }
 }
 
 // A proved loop has to end, and nothing says that the input does: the turns are counted down from a number that no run uses up.

@@ -1,16 +1,26 @@
 use borrow.Author.Needs.{needs}
-use Rattle.nahalvik.proofs.Taking.{none-brought, some-brought}
+use Rattle.nahalvik.proofs.Taking.{fits, fits-take, none-brought, some-brought}
+use native.Mathlib.Omega.{arith}
 use Rattle.nahalvik.proofs.read_block.Statement.{statement}
 use Rattle.nahalvik.proofs.read_block.Tie as tie
 
 returns : tie.Need-returns
 returns c = none-brought _ _ _ _
 
+slice-reshare-prefix-tell : tie.Need-slice-reshare-prefix-tell
+slice-reshare-prefix-tell c = fits _ _ _ (c .before .before .before .before .answer .result) _ _ (c .before .before .before .before .answer .ensures)
+
+slice-aggregate-tell : tie.Need-slice-aggregate-tell
+slice-aggregate-tell c = fits-take _ _ _ (c .before .before .before .before .before .answer .result) _ _ (c .before .before .before .before .before .answer .ensures)
+
 returns-2 : tie.Need-returns-2
 returns-2 c =
-    let a = c .before .before .before .before in
-    let n = a .before .before .before .before .before .count in
-    some-brought _ _ _ _ (a .answer-block .result .served) _ _ (n .result) (n .ensures .0 .0) (n .ensures .0 .1) (a .before .before .before .before .if1 .left) (a .answer-block .ensures)
+    let a = c .before .before .before .before .before .before in
+    let c11 = a .before .before .before .before .before in
+    let n = c11 .count in
+    let o = c11 .before .before .before .before .before .before .before .before .before in
+    some-brought _ _ _ _ (a .answer .result) _ _ (n .result) (n .ensures .0 .0) (n .ensures .0 .1) (a .before .before .before .before .if1 .left)
+    (omega (arith, o .pre, n .ensures .0 .0, n .ensures .0 .1, c11 .before .before .before .block .given)) (a .answer .ensures)
 
 pub read-block-spec : {M : Type 1} → statement M
 read-block-spec =
@@ -23,6 +33,9 @@ read-block-spec =
     returns
     (λ c. search needs)
     (λ c. search needs)
+    (λ c κs. search needs)
+    slice-reshare-prefix-tell
+    slice-aggregate-tell
     (λ c κs. search needs)
     (λ c. search needs)
     (λ c. search needs)
