@@ -5,7 +5,7 @@ use mathlib.Core.List.{List, [], _∷_, _++_}
 use Rattle.lists.specs.Lists.{foldl}
 use Rattle.rules.specs.Types.{State}
 use Rattle.rules.specs.Steps.{Stepped}
-use Rattle.rules.specs.Trace.{trace, stateAfter, storeAfter, CallMade, stepMade}
+use Rattle.rules.specs.Trace.{trace, stateAfter, CallMade, stepMade}
 
 -- what every step keeps, a run keeps
 pub trace-keeps : {A : Type 0} (f : State → List ℕ → A → Stepped) (P : State → Type 0) → ((k : State) (s : List ℕ) (x : A) → P k → P (f k s x .kernel))

@@ -1,6 +1,6 @@
 use borrow.Author.Needs.{needs}
 use lib.Seq.{length-take-le}
-use mathlib.Core.Path.{_≡_, sym, subst, _∙_}
+use mathlib.Core.Path.{sym, subst, _∙_}
 use Rattle.journal.specs.declared.Read.{Read}
 use Rattle.rules.specs.Sessions.{stepRead, stepOfLine}
 use Rattle.kernel.specs.Stands.{shown}

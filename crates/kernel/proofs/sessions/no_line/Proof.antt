@@ -1,4 +1,3 @@
-use borrow.Author.Needs.{needs}
 use Rattle.lists.proofs.Bools.{off, on}
 use borrow.Author.Tests.{eq-eqb, ne-eqb}
 use Rattle.kernel.proofs.sessions.no_line.Statement.{statement}

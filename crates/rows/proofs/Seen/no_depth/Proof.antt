@@ -1,4 +1,3 @@
-use borrow.Author.Needs.{needs}
 use Rattle.rows.specs.Applies.{noDepth}
 use borrow.Author.Tests.{ne-eqb}
 use mathlib.Core.Bool.{or-false}
