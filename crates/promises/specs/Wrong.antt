@@ -36,10 +36,10 @@ Stepping = State → Call → List ℕ → List ℕ → Stepped
 
 -- the step with another refusal, effect, choose and store; with the kernel's own it is the step
 unfoldable pub stepOf : (State → Asked → ℕ → ℕ → ℕ) → (State → Asked → State) → (State → State) → (State → Asked → List ℕ → List ℕ → List ℕ) → Stepping
-stepOf refuses does choose stores k c anyItem s =
-    let n = refuses k (asked c) (length anyItem) (length s) in
+stepOf refuses does choose stores k c item s =
+    let n = refuses k (asked c) (length item) (length s) in
     let next = choose (does k (asked c)) in
-    if eqb n 0 then record { kernel = next; answer = answered k (asked c) next; store = stores k (asked c) anyItem s } else turnedAway k n s
+    if eqb n 0 then record { kernel = next; answer = answered k (asked c) next; store = stores k (asked c) item s } else turnedAway k n s
 
 abbrev pub stepBy : (State → Asked → State) → (State → State) → Stepping
 stepBy does choose = stepOf refusal does choose stored
@@ -53,15 +53,15 @@ abbrev pub Numbers : Type 0
 Numbers = State → Call → List ℕ → List ℕ → ℕ
 
 unfoldable pub turnsAllAway : Numbers → Stepping
-turnsAllAway number k c anyItem s = turnedAway k (number k c anyItem s) s
+turnsAllAway number k c item s = turnedAway k (number k c item s) s
 
 -- "One that always answers done"
 unfoldable pub alwaysDone : Stepping
-alwaysDone k c anyItem s = let r = step k c anyItem s in record { kernel = r .kernel; answer = says done 0; store = r .store }
+alwaysDone k c item s = let r = step k c item s in record { kernel = r .kernel; answer = says done 0; store = r .store }
 
 -- "and one that changes nothing"
 unfoldable pub changesNothing : Stepping
-changesNothing k c anyItem s = record { kernel = k; answer = step k c anyItem s .answer; store = s }
+changesNothing k c item s = record { kernel = k; answer = step k c item s .answer; store = s }
 
 -- a tick whose wakes are other ones
 abbrev pub tickedBy : (State → State) → State → State
@@ -131,15 +131,15 @@ wokenOr k a [] = changed 3 (λ k a. staysIfWaiting k (a .task)) k a
 wokenOr k a (t ∷ l) = arrives k t Ready 1
 
 abbrev pub slipOr : State → Asked → List ℕ → List ℕ → List TaskSlot → List ℕ
-slipOr k a anyItem s [] = stored k a anyItem s
-slipOr k a anyItem s (t ∷ l) = putAt (slipOf t) anyItem s
+slipOr k a item s [] = stored k a item s
+slipOr k a item s (t ∷ l) = putAt (slipOf t) item s
 
 abbrev pub staysListed : Stepping
-staysListed = stepOf laterRow (λ k a. wokenOr k a (foundBy k a)) chosen (λ k a anyItem s. slipOr k a anyItem s (foundBy k a))
+staysListed = stepOf laterRow (λ k a. wokenOr k a (foundBy k a)) chosen (λ k a item s. slipOr k a item s (foundBy k a))
 
 -- "Deleting a holder and leaving the next task in that slot as holder."; a kernel whose holder is gone is not sound, so neither does this one ask that
 abbrev pub tenLifted : State → Asked → ℕ → ℕ → ℕ
-tenLifted k a anyItem store = let n = laterRow k a anyItem store in if is 2 a && eqb n 10 then 0 else n
+tenLifted k a item store = let n = laterRow k a item store in if is 2 a && eqb n 10 then 0 else n
 
 abbrev pub deletesHolders : Stepping
 deletesHolders = stepOf tenLifted effect chosen stored
