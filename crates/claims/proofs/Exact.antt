@@ -10,7 +10,7 @@ use Rattle.kernel.specs.Stands.{kernelOf, shown, standing}
 use Rattle.kernel.specs.Promises.{Steps}
 use Rattle.kernel.proofs.Shown.{stays-standing}
 use Rattle.kernel.proofs.StepEnds.{stands-on, stays}
-use Rattle.promises.specs.TurnedAway.{None, notThisRow, thisRow, ValueExactly as RulesExactly}
+use Rattle.promises.specs.TurnedAway.{None, notThisRow, thisRow, Exactly}
 use Rattle.promises.proofs.TurnedAway.{turned-away-exactly}
 use Rattle.claims.specs.Types.{Call, Kernel, Step}
 use Rattle.claims.specs.Values.{SoundValue, Stands}
@@ -19,7 +19,7 @@ use Rattle.claims.proofs.Values.{test-says}
 
 module _ (k : Kernel) (c : Call) (item s : List ℕ) (r : Step) (after : List ℕ) (S : Steps k c item s r after) where
   -- what the rules say of the state that is shown
-  E : RulesExactly (shown k) c item s (step (shown k) c item s)
+  E : Exactly (shown k) c item s (step (shown k) c item s)
   E = turned-away-exactly (shown k) c item s
 
   none-sound : None (tableFor k c item s) → sound (shown k) ≡ true
