@@ -72,10 +72,10 @@ impl Seen {
     fn wrong_size(self, a: Asked, n: usize) -> bool
         ensures { λ r. ⌜ r ≡ wrongSize self a n ⌝ }
     {
-        let x = self.kind;
         if a.number != 13 {
             return false;
         }
+        let x = self.kind;
         match x {
             Kind::Unused => false,
             Kind::Queue(q) => n != q.size as usize,
@@ -146,10 +146,13 @@ impl Seen {
     fn must_wait(self, a: Asked) -> bool
         ensures { λ r. ⌜ r ≡ mustWait self a ⌝ }
     {
-        let x = self.kind;
         if a.wait != 0 {
             return false;
         }
+        if a.number < 13 {
+            return false;
+        }
+        let x = self.kind;
         match x {
             Kind::Unused => false,
             Kind::Queue(q) => stops_at(a, q),
