@@ -1,14 +1,12 @@
 // The table: a method for each row, and the first row that applies. A row that speaks of one call looks at the call's number first.
 ghost use mathlib.Core.Path.{_≡_};
-ghost use Rattle.rows.specs.Applies.{outOfRange, namesNone, wrongSize, notForIdle, notWithHold, notHis, hisAlready, notSuspended, stopsAt, mustWait, noDepth, noTick};
+ghost use Rattle.rows.specs.Applies.{outOfRange, namesNone, sizeDiffers, wrongSize, notForIdle, notWithHold, notHis, hisAlready, notSuspended, isFull, isEmpty, stopsAt, mustWait, noDepth, noTick};
 ghost use Rattle.rows.specs.Applies.{firstRow, orRow, row, table};
-ghost use Rattle.slots.specs.declared.Kind.the-variants.{Queue};
 use crate::Seen;
 use crate::asking;
 use calls::Asked;
 use calls::Names;
 use slots::Kind;
-use slots::Ring;
 
 fn out_of_range(a: Asked) -> bool
     ensures { λ r. ⌜ r ≡ outOfRange a ⌝ }
@@ -33,14 +31,49 @@ fn out_of_range(a: Asked) -> bool
     512 < c * s
 }
 
-// A send to a full queue, or a receive from an empty one.
-fn stops_at(a: Asked, q: Ring) -> bool
-    ensures { λ r. ⌜ r ≡ stopsAt a (Queue q) ⌝ }
+fn size_differs(x: Kind, n: usize) -> bool
+    ensures { λ r. ⌜ r ≡ sizeDiffers n x ⌝ }
+{
+    match x {
+        Kind::Unused => false,
+        Kind::Queue(q) => n != q.size as usize,
+        Kind::Mutex(_) => false,
+    }
+}
+
+fn is_full(x: Kind) -> bool
+    ensures { λ r. ⌜ r ≡ isFull x ⌝ }
+{
+    match x {
+        Kind::Unused => false,
+        Kind::Queue(q) => q.count == q.capacity,
+        Kind::Mutex(_) => false,
+    }
+}
+
+fn is_empty(x: Kind) -> bool
+    ensures { λ r. ⌜ r ≡ isEmpty x ⌝ }
+{
+    match x {
+        Kind::Unused => false,
+        Kind::Queue(q) => q.count == 0,
+        Kind::Mutex(_) => false,
+    }
+}
+
+fn stops_at(a: Asked, x: Kind) -> bool
+    ensures { λ r. ⌜ r ≡ stopsAt a x ⌝ }
 {
     if a.number == 13 {
-        return q.count == q.capacity;
+        return is_full(x);
     }
-    lists::both(a.number == 14, q.count == 0)
+    if a.number == 14 {
+        return is_empty(x);
+    }
+    if a.number == 15 {
+        return x.is_held();
+    }
+    false
 }
 
 // The number so far, 0 for none, else this row's.
@@ -72,15 +105,11 @@ impl Seen {
     fn wrong_size(self, a: Asked, n: usize) -> bool
         ensures { λ r. ⌜ r ≡ wrongSize self a n ⌝ }
     {
-        if a.number != 13 {
-            return false;
+        if a.number == 13 {
+            let x = self.kind;
+            return size_differs(x, n);
         }
-        let x = self.kind;
-        match x {
-            Kind::Unused => false,
-            Kind::Queue(q) => n != q.size as usize,
-            Kind::Mutex(_) => false,
-        }
+        false
     }
 
     fn not_for_idle(self, a: Asked) -> bool
@@ -149,15 +178,8 @@ impl Seen {
         if a.wait != 0 {
             return false;
         }
-        if a.number < 13 {
-            return false;
-        }
         let x = self.kind;
-        match x {
-            Kind::Unused => false,
-            Kind::Queue(q) => stops_at(a, q),
-            Kind::Mutex(h) => lists::both(a.number == 15, h.is_taken()),
-        }
+        stops_at(a, x)
     }
 
     fn no_depth(self, a: Asked) -> bool

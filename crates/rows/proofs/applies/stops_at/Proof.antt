@@ -1,14 +1,29 @@
 use borrow.Author.Needs.{needs}
 use borrow.Author.Tests.{ne-eqb}
-use mathlib.Core.Bool.{or-false, and-false}
+use mathlib.Core.Bool.{or-false}
 use Rattle.rows.proofs.applies.stops_at.Statement.{statement}
 use Rattle.rows.proofs.applies.stops_at.Tie as tie
 
 returns : tie.Need-returns
-returns c = rw (c .before .if1 .taken, or-false)
+returns c = rw (c .before .if1 .taken, or-false) (c .is-full .ensures)
 
 returns-2 : tie.Need-returns-2
-returns-2 c = rw (ne-eqb (c .before .before .before .before .before .args .a .number) 13 (c .before .before .before .if1 .left), and-false, or-false) (c .both .ensures)
+returns-2 c = rw (c .before .if2 .taken, or-false) (c .is-empty .ensures)
+
+returns-3 : tie.Need-returns-3
+returns-3 c = rw (c .before .if3 .taken) (c .is-held .ensures)
+
+returns-4 : tie.Need-returns-4
+returns-4 c = let n = c .before .before .before .before .before .before .args .a .number in rw (ne-eqb n 13 (c .before .before .before .before .if1 .left), ne-eqb n 14 (c .before .before .if2 .left), ne-eqb n 15 (c .if3 .left))
 
 pub stops-at-spec : {M : Type 1} → statement M
-stops-at-spec = tie.close (tie.spec returns (λ c κs. search needs) returns-2)
+stops-at-spec =
+    tie.close
+    (tie.spec
+    (λ c κs. search needs)
+    returns
+    (λ c κs. search needs)
+    returns-2
+    (λ c κs. search needs)
+    returns-3
+    returns-4)
