@@ -1,6 +1,6 @@
 //! The seventeen calls: what each does once it is not turned away.
 
-use crate::kernel::{Kernel, Kind, ObjectNo, Outcome, Queue, Role, Stand, Task, TaskNo, FREE_TASK};
+use crate::kernel::{Kernel, Kind, ObjectSlot, Outcome, Queue, Role, Stand, Task, TaskSlot};
 use crate::refusals::refusal;
 use crate::store;
 
@@ -48,13 +48,52 @@ impl Call<'_> {
             Call::Tick => 17,
         }
     }
+
+    /// What the call names.
+    pub fn named(&self) -> Named {
+        match *self {
+            Call::Delete { task } | Call::Suspend { task } | Call::Resume { task } | Call::SetPriority { task, .. } => {
+                Named::Task(task)
+            }
+            Call::Remove { object }
+            | Call::Send { object, .. }
+            | Call::Receive { object, .. }
+            | Call::Take { object, .. }
+            | Call::Give { object } => Named::Object(object),
+            _ => Named::Nothing,
+        }
+    }
+
+    /// The same call with another number for what it names.
+    pub fn naming(mut self, number: u32) -> Self {
+        match &mut self {
+            Call::Delete { task } | Call::Suspend { task } | Call::Resume { task } | Call::SetPriority { task, .. } => {
+                *task = number
+            }
+            Call::Remove { object }
+            | Call::Send { object, .. }
+            | Call::Receive { object, .. }
+            | Call::Take { object, .. }
+            | Call::Give { object } => *object = number,
+            _ => {}
+        }
+        self
+    }
+}
+
+/// The number in a call, by what it is meant for.
+#[derive(Clone, Copy, PartialEq, Eq, Debug)]
+pub enum Named {
+    Nothing,
+    Task(u32),
+    Object(u32),
 }
 
 /// "An accepted call answers done, made with the new number, or waiting".
 #[derive(Clone, Copy, PartialEq, Eq, Debug)]
 pub enum Answer {
     Done,
-    Made(u8),
+    Made(u32),
     Waiting,
     Refused(u8),
 }
@@ -80,7 +119,7 @@ pub fn step(kernel: &mut Kernel, store: &mut [u8], call: &Call) -> Answer {
 const NAMED: &str = "the refusals have seen that the number names one";
 
 /// The effect of an accepted call, without the choose. Gives the new number, if any.
-fn take_effect(kernel: &mut Kernel, store: &mut [u8], call: &Call) -> Option<u8> {
+fn take_effect(kernel: &mut Kernel, store: &mut [u8], call: &Call) -> Option<u32> {
     match *call {
         Call::Create { priority } => return Some(create(kernel, priority as u8)),
         Call::Delete { task } => delete(kernel, kernel.find_task(task).expect(NAMED)),
@@ -105,11 +144,7 @@ fn take_effect(kernel: &mut Kernel, store: &mut [u8], call: &Call) -> Option<u8>
         }
         // "lowest free object"
         Call::MakeMutex => return Some(make(kernel, Kind::Mutex { holder: None })),
-        Call::Remove { object } => {
-            // "items in it are dropped"
-            let object = kernel.find_object(object).expect(NAMED);
-            kernel.object_mut(object).kind = Kind::Free;
-        }
+        Call::Remove { object } => remove(kernel, kernel.find_object(object).expect(NAMED)),
         Call::Send { object, item, wait } => {
             let (object, queue) = kernel.find_queue(object).expect(NAMED);
             send(kernel, store, object, queue, item, wait);
@@ -129,24 +164,26 @@ fn take_effect(kernel: &mut Kernel, store: &mut [u8], call: &Call) -> Option<u8>
 }
 
 /// "lowest free slot; ready"
-fn create(kernel: &mut Kernel, priority: u8) -> u8 {
+fn create(kernel: &mut Kernel, priority: u8) -> u32 {
     let task = kernel.free_task().expect("row 9 has passed");
-    *kernel.task_mut(task) = Task { own: priority, effective: priority, ..FREE_TASK };
+    let uses = kernel.task(task).uses;
+    *kernel.task_mut(task) = Task { own: priority, effective: priority, ..Task::free(uses) };
     kernel.make_ready(task);
-    task.number()
+    kernel.task_number(task)
 }
 
-/// "leaves any wait; slot is free and used again"
-fn delete(kernel: &mut Kernel, task: TaskNo) {
+/// "leaves any wait; slot is free and used again"; its use goes up by one
+fn delete(kernel: &mut Kernel, task: TaskSlot) {
     match kernel.task(task).stand {
         Stand::Ready => kernel.leave_line(task),
         Stand::Waiting { object, .. } => kernel.leave_object(task, object),
         _ => {}
     }
-    *kernel.task_mut(task) = FREE_TASK;
+    let uses = kernel.task(task).uses + 1;
+    *kernel.task_mut(task) = Task::free(uses);
 }
 
-fn suspend(kernel: &mut Kernel, task: TaskNo) {
+fn suspend(kernel: &mut Kernel, task: TaskSlot) {
     match kernel.task(task).stand {
         // "if delayed or waiting, leaves that with outcome 3"
         Stand::Delayed { .. } => kernel.task_mut(task).outcome = Outcome::BrokenOff,
@@ -164,7 +201,7 @@ fn suspend(kernel: &mut Kernel, task: TaskNo) {
 
 /// "own changes; effective becomes own if no mutex is held, else the larger of
 /// effective and new (D)"
-fn set_priority(kernel: &mut Kernel, task: TaskNo, priority: u8) {
+fn set_priority(kernel: &mut Kernel, task: TaskSlot, priority: u8) {
     kernel.task_mut(task).own = priority;
     let effective = if kernel.holds_a_mutex(task) { kernel.task(task).effective.max(priority) } else { priority };
     kernel.set_effective(task, effective);
@@ -183,13 +220,20 @@ fn release(kernel: &mut Kernel) {
     }
 }
 
-fn make(kernel: &mut Kernel, kind: Kind) -> u8 {
+fn make(kernel: &mut Kernel, kind: Kind) -> u32 {
     let object = kernel.free_object().expect("row 9 has passed");
     kernel.object_mut(object).kind = kind;
-    object.number()
+    kernel.object_number(object)
 }
 
-fn send(kernel: &mut Kernel, store: &mut [u8], object: ObjectNo, queue: Queue, item: &[u8], wait: u32) {
+/// "items in it are dropped"; the slot's use goes up by one
+fn remove(kernel: &mut Kernel, object: ObjectSlot) {
+    let slot = kernel.object_mut(object);
+    slot.kind = Kind::Free;
+    slot.uses += 1;
+}
+
+fn send(kernel: &mut Kernel, store: &mut [u8], object: ObjectSlot, queue: Queue, item: &[u8], wait: u32) {
     // Receivers wait only on an empty queue and senders only on a full one, so with
     // the queue empty all waiters are receivers.
     if queue.count == 0 {
@@ -211,7 +255,7 @@ fn send(kernel: &mut Kernel, store: &mut [u8], object: ObjectNo, queue: Queue, i
     }
 }
 
-fn receive(kernel: &mut Kernel, store: &mut [u8], object: ObjectNo, queue: Queue, wait: u32) {
+fn receive(kernel: &mut Kernel, store: &mut [u8], object: ObjectSlot, queue: Queue, wait: u32) {
     // "Empty: the caller waits."
     if queue.count == 0 {
         kernel.wait_running(object, Role::Receiver, wait);
@@ -235,7 +279,7 @@ fn receive(kernel: &mut Kernel, store: &mut [u8], object: ObjectNo, queue: Queue
     kernel.object_mut(object).kind = Kind::Queue(queue);
 }
 
-fn take(kernel: &mut Kernel, object: ObjectNo, holder: Option<TaskNo>, wait: u32) {
+fn take(kernel: &mut Kernel, object: ObjectSlot, holder: Option<TaskSlot>, wait: u32) {
     let caller = kernel.running;
     match holder {
         // "A free mutex becomes the caller's."
@@ -250,7 +294,7 @@ fn take(kernel: &mut Kernel, object: ObjectNo, holder: Option<TaskNo>, wait: u32
     }
 }
 
-fn give(kernel: &mut Kernel, object: ObjectNo) {
+fn give(kernel: &mut Kernel, object: ObjectSlot) {
     let giver = kernel.running;
     // "The first waiter becomes holder and is made ready, outcome 1; with none, the
     // mutex is free."

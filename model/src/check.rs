@@ -1,9 +1,11 @@
-//! The self-check: document 01's soundness sentence over the kernel's own structures,
-//! and what can be said of one step by looking at the kernel before and after.
+//! The self-check: document 01's soundness sentence, with request 1's clauses on uses, over
+//! the kernel's own structures, and what can be said of one step by looking at the kernel
+//! before and after.
 
-use crate::calls::{step, Answer, Call};
+use crate::calls::{step, Answer, Call, Named};
 use crate::kernel::{
-    Kernel, Kind, ObjectNo, Outcome, Role, Stand, TaskNo, FREE_TASK, IDLE, MOST_HOLD, MOST_PENDED, PRIORITIES, TASKS,
+    Kernel, Kind, ObjectSlot, Outcome, Role, Stand, Task, TaskSlot, IDLE, LAST_USE, MOST_HOLD, MOST_PENDED, PRIORITIES,
+    RETIRED, TASKS,
 };
 use crate::refusals::{refusal, refusal_by_rows};
 
@@ -20,10 +22,10 @@ pub fn soundness(kernel: &Kernel) -> Result<(), String> {
     check_idle(kernel)?;
     check_lines(kernel)?;
     check_waiters(kernel)?;
-    for task in TaskNo::all() {
+    for task in TaskSlot::all() {
         check_task(kernel, task)?;
     }
-    for object in ObjectNo::all() {
+    for object in ObjectSlot::all() {
         check_object(kernel, object)?;
     }
     must(kernel.hold <= MOST_HOLD && kernel.pended <= MOST_PENDED, "counts and places obey the ranges")?;
@@ -33,6 +35,7 @@ pub fn soundness(kernel: &Kernel) -> Result<(), String> {
 fn check_idle(kernel: &Kernel) -> Result<(), String> {
     let idle = kernel.task(IDLE);
     must(idle.stand == Stand::Ready && idle.own == 0 && idle.effective == 0, "idle is as above")?;
+    must(idle.uses == 0, "idle's use is 0")?;
     must(!kernel.holds_a_mutex(IDLE), "idle never waits or holds")
 }
 
@@ -50,7 +53,7 @@ fn check_lines(kernel: &Kernel) -> Result<(), String> {
             times_in_a_line[task.index()] += 1;
         }
     }
-    for task in TaskNo::all() {
+    for task in TaskSlot::all() {
         let ready = kernel.task(task).stand == Stand::Ready;
         must(times_in_a_line[task.index()] == usize::from(ready), "each ready task stands once in the line")?;
     }
@@ -61,7 +64,7 @@ fn check_lines(kernel: &Kernel) -> Result<(), String> {
 }
 
 fn check_waiters(kernel: &Kernel) -> Result<(), String> {
-    for object in ObjectNo::all() {
+    for object in ObjectSlot::all() {
         let slot = kernel.object(object);
         for (place, &waiter) in slot.waiters.iter().enumerate() {
             must(!slot.waiters[..place].contains(&waiter), "each object lists its waiters once")?;
@@ -69,7 +72,7 @@ fn check_waiters(kernel: &Kernel) -> Result<(), String> {
             must(waits_here, "and no one else")?;
         }
     }
-    for task in TaskNo::all() {
+    for task in TaskSlot::all() {
         if let Stand::Waiting { object, role, .. } = kernel.task(task).stand {
             let slot = kernel.object(object);
             must(slot.waiters.contains(&task), "each object lists its waiters")?;
@@ -90,10 +93,17 @@ fn check_waiters(kernel: &Kernel) -> Result<(), String> {
     Ok(())
 }
 
-fn check_task(kernel: &Kernel, task: TaskNo) -> Result<(), String> {
+/// "a use is at most 65,536, in a taken slot 65,535"
+fn check_use(uses: u32, free: bool) -> Result<(), String> {
+    must(uses <= RETIRED, "a use is at most 65,536")?;
+    must(free || uses <= LAST_USE, "in a taken slot 65,535")
+}
+
+fn check_task(kernel: &Kernel, task: TaskSlot) -> Result<(), String> {
     let slot = kernel.task(task);
-    if slot.stand == Stand::Free {
-        return must(*slot == FREE_TASK, "free slots carry the fresh values");
+    check_use(slot.uses, slot.is_free())?;
+    if slot.is_free() {
+        return must(*slot == Task::free(slot.uses), "free slots carry the fresh values");
     }
     must((slot.own.max(slot.effective) as usize) < PRIORITIES, "counts and places obey the ranges")?;
     must(slot.effective >= slot.own, "effective is at least own")?;
@@ -107,8 +117,9 @@ fn check_task(kernel: &Kernel, task: TaskNo) -> Result<(), String> {
     must(!kernel.is_blocked(task) || slot.outcome == Outcome::None, "an outcome is 0 if delayed or waiting")
 }
 
-fn check_object(kernel: &Kernel, object: ObjectNo) -> Result<(), String> {
+fn check_object(kernel: &Kernel, object: ObjectSlot) -> Result<(), String> {
     let slot = kernel.object(object);
+    check_use(slot.uses, slot.is_free())?;
     match slot.kind {
         Kind::Free => must(slot.waiters.is_empty(), "free slots carry the fresh values"),
         Kind::Queue(queue) => {
@@ -118,7 +129,7 @@ fn check_object(kernel: &Kernel, object: ObjectNo) -> Result<(), String> {
             must(shape && places, "counts and places obey the ranges")
         }
         Kind::Mutex { holder } => {
-            let exists = holder.is_none_or(|holder| kernel.task(holder).stand != Stand::Free);
+            let exists = holder.is_none_or(|holder| !kernel.task(holder).is_free());
             must(exists, "holders exist")
         }
     }
@@ -163,14 +174,46 @@ fn check_step(
         before.hold == 0 || after.hold == 0 || before.running == after.running,
         "with a hold, the running task stays",
     )?;
+    check_uses(before, call, answer, after)?;
+    if let Answer::Made(number) = answer {
+        check_made(before, call, number, after)?;
+    }
     // "in order of arrival": what stays keeps its order, and only the caller can come, last.
-    for object in ObjectNo::all() {
+    for object in ObjectSlot::all() {
         let old = &before.object(object).waiters;
         let new = &after.object(object).waiters;
-        let stayed: Vec<TaskNo> = old.iter().copied().filter(|task| new.contains(task)).collect();
+        let stayed: Vec<TaskSlot> = old.iter().copied().filter(|task| new.contains(task)).collect();
         let came = &new[stayed.len().min(new.len())..];
         must(new.starts_with(&stayed), "waiters are in order of arrival")?;
         must(came.is_empty() || came == [caller], "only the caller can begin to wait")?;
     }
     Ok(())
+}
+
+/// A use "goes up by one at each delete or remove", that of the slot whose number is in the
+/// call, and stays otherwise.
+fn check_uses(before: &Kernel, call: &Call, answer: Answer, after: &Kernel) -> Result<(), String> {
+    let accepted = !matches!(answer, Answer::Refused(_));
+    let ends = accepted && matches!(call, Call::Delete { .. } | Call::Remove { .. });
+    for task in TaskSlot::all() {
+        let ended = ends && call.named() == Named::Task(before.task_number(task));
+        let uses = before.task(task).uses + u32::from(ended);
+        must(after.task(task).uses == uses, "a task slot's use goes up by one at each delete")?;
+    }
+    for object in ObjectSlot::all() {
+        let ended = ends && call.named() == Named::Object(before.object_number(object));
+        let uses = before.object(object).uses + u32::from(ended);
+        must(after.object(object).uses == uses, "an object slot's use goes up by one at each remove")?;
+    }
+    Ok(())
+}
+
+/// The new number named nothing, and now names what was made.
+fn check_made(before: &Kernel, call: &Call, number: u32, after: &Kernel) -> Result<(), String> {
+    let is_new = match call {
+        Call::Create { .. } => before.find_task(number).is_none() && after.find_task(number).is_some(),
+        Call::MakeQueue { .. } => before.find_object(number).is_none() && after.find_queue(number).is_some(),
+        _ => before.find_object(number).is_none() && after.find_mutex(number).is_some(),
+    };
+    must(is_new, "made with the new number")
 }

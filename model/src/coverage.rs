@@ -1,8 +1,37 @@
 //! What a journal exercises: calls, refusals, damage and events inside the kernel.
 
-use crate::calls::{Answer, Call};
-use crate::kernel::{Kernel, Kind, ObjectNo, Outcome, Stand, TaskNo, IDLE};
+use crate::calls::{Answer, Call, Named};
+use crate::kernel::{apart, number_of, Kernel, ObjectSlot, Outcome, Stand, TaskSlot, IDLE, RETIRED};
+use crate::refusals::refusal;
 use std::collections::BTreeMap;
+
+/// Why a number names nothing.
+struct Reasons {
+    free: &'static str,
+    old: &'static str,
+    old_and_free: &'static str,
+    not_yet: &'static str,
+    beyond: &'static str,
+    only_use: &'static str,
+}
+
+const OF_TASKS: Reasons = Reasons {
+    free: "task: a free slot's next number",
+    old: "task: an old number, another task in its slot",
+    old_and_free: "task: an old number, its slot free",
+    not_yet: "task: a use too high",
+    beyond: "task: 1,048,576 and more",
+    only_use: "task: refused for the use alone",
+};
+
+const OF_OBJECTS: Reasons = Reasons {
+    free: "object: a free slot's next number",
+    old: "object: an old number, another object in its slot",
+    old_and_free: "object: an old number, its slot free",
+    not_yet: "object: a use too high",
+    beyond: "object: 1,048,576 and more",
+    only_use: "object: refused for the use alone",
+};
 
 #[derive(Default)]
 pub struct Coverage {
@@ -42,11 +71,32 @@ impl Coverage {
         }
     }
 
+    /// Names why a call's number names nothing; the call was refused 5.
+    pub fn observe_unnamed(&mut self, kernel: &Kernel, store: &[u8], call: &Call) {
+        let (reasons, named) = match call.named() {
+            Named::Nothing => return,
+            Named::Task(number) => (OF_TASKS, number),
+            Named::Object(number) => (OF_OBJECTS, number),
+        };
+        let (slot, part) = apart(named);
+        let (uses, free) = match call.named() {
+            Named::Task(_) => (kernel.tasks[slot].uses, kernel.tasks[slot].is_free()),
+            _ => (kernel.objects[slot].uses, kernel.objects[slot].is_free()),
+        };
+        self.event_if(part == uses && free, reasons.free);
+        self.event_if(part < uses && !free, reasons.old);
+        self.event_if(part < uses && free, reasons.old_and_free);
+        self.event_if(part > uses && part < RETIRED, reasons.not_yet);
+        self.event_if(part >= RETIRED, reasons.beyond);
+        let right = call.naming(number_of(slot, uses));
+        self.event_if(part != uses && refusal(kernel, store, &right).is_none(), reasons.only_use);
+    }
+
     /// Names what an accepted call did, by the kernel before and after.
     pub fn observe(&mut self, before: &Kernel, call: &Call, after: &Kernel) {
         let caller = before.running;
         let woken = |outcome: Outcome| {
-            TaskNo::all()
+            TaskSlot::all()
                 .filter(|&task| before.is_blocked(task) && after.task(task).stand == Stand::Ready)
                 .filter(|&task| after.task(task).outcome == outcome)
                 .count()
@@ -57,6 +107,7 @@ impl Coverage {
             overtaken && stays_head && after.task(caller).effective == before.task(caller).effective,
             "running task overtaken",
         );
+        self.event_if(after.task(after.running).uses > 0, "runs: a task in a slot used again");
         self.event_if(caller == IDLE, "idle: calls");
         self.event_if(before.lines[0].len() > 1, "idle: shares its line");
         let below_another = after.hold > 0 && after.highest_line() > after.task(caller).effective as usize;
@@ -78,7 +129,7 @@ impl Coverage {
                 self.event_if(before.pended > 1, "release: several pended ticks run");
                 self.event_if(before.pended > 1 && due > 1, "release: several tasks woken by pended ticks");
                 self.event_if(before.pended > 60_000, "release: over 60,000 pended ticks run");
-                let long_wait = TaskNo::all().any(|task| match before.task(task).stand {
+                let long_wait = TaskSlot::all().any(|task| match before.task(task).stand {
                     Stand::Waiting { wake: Some(wake), .. } => {
                         let left = wake.wrapping_sub(before.tick);
                         left > 60_000 && left <= before.pended
@@ -159,14 +210,18 @@ impl Coverage {
                 self.event_if(task == IDLE, "set priority: idle to 0");
             }
             Call::Create { .. } => {
-                let last = before.tasks.iter().rposition(|task| task.stand != Stand::Free);
-                let made = TaskNo::all().find(|&task| before.task(task).stand == Stand::Free);
-                self.event_if(made.map(|made| made.index()) < last, "create: a slot below the last one");
+                let last = before.tasks.iter().rposition(|task| !task.is_free());
+                let made = before.free_task().expect("accepted");
+                self.event_if(Some(made.index()) < last, "create: a slot below the last one");
+                self.event_if(before.task(made).uses > 0, "create: a slot used again");
+                self.event_if(before.task(made).uses > 255, "create: a use above 255");
             }
             Call::MakeQueue { .. } | Call::MakeMutex => {
-                let last = before.objects.iter().rposition(|object| object.kind != Kind::Free);
-                let made = before.free_object();
-                self.event_if(made.map(|made| made.index()) < last, "make: a slot below the last one");
+                let last = before.objects.iter().rposition(|object| !object.is_free());
+                let made = before.free_object().expect("accepted");
+                self.event_if(Some(made.index()) < last, "make: a slot below the last one");
+                self.event_if(before.object(made).uses > 0, "make: a slot used again");
+                self.event_if(before.object(made).uses > 255, "make: a use above 255");
             }
             Call::Remove { object } => {
                 let filled = before.find_queue(object).is_some_and(|(_, queue)| queue.count > 0);
@@ -176,7 +231,7 @@ impl Coverage {
         }
     }
 
-    fn observe_first_waiter(&mut self, before: &Kernel, object: ObjectNo) {
+    fn observe_first_waiter(&mut self, before: &Kernel, object: ObjectSlot) {
         let waiters = &before.object(object).waiters;
         let Some(first) = before.first_waiter(object) else { return };
         let best = before.task(first).effective;

@@ -37,7 +37,7 @@ pub fn run<R: Read, W: Write>(input: &mut R, output: &mut W, machine: &mut Machi
             } else {
                 machine.answer(line)
             };
-            write_answer(answer, machine.kernel.running, &mut answers);
+            write_answer(answer, machine.kernel.running_number(), &mut answers);
             if answers.len() >= BUFFER_BYTES {
                 flush(&mut answers, output)?;
             }
@@ -54,7 +54,7 @@ pub fn run<R: Read, W: Write>(input: &mut R, output: &mut W, machine: &mut Machi
     }
     // "and so is a last line without a newline"
     if too_long || kept > 0 {
-        write_answer(Answer::Refused(NOT_A_CALL), machine.kernel.running, &mut answers);
+        write_answer(Answer::Refused(NOT_A_CALL), machine.kernel.running_number(), &mut answers);
     }
     flush(&mut answers, output)
 }

@@ -4,7 +4,10 @@
 use crate::calls::{Answer, Call};
 use crate::coverage::Coverage;
 use crate::damage;
-use crate::kernel::{Kernel, Kind, ObjectNo, Stand, TaskNo, FOR_EVER, IDLE, MOST_HOLD, MOST_PENDED};
+use crate::kernel::{
+    apart, number_of, Kernel, Kind, ObjectSlot, Stand, TaskSlot, FOR_EVER, IDLE, LAST_USE, MOST_HOLD, MOST_PENDED,
+    RETIRED,
+};
 use crate::line::{read_call, ITEM_BYTES};
 use crate::machine::Machine;
 use crate::random::Random;
@@ -55,9 +58,13 @@ enum Plan {
     /// Releases down to depth 0.
     Descend,
     /// Sends to this queue until it is full and this many lines more, then `Drain`.
-    Fill(ObjectNo, u32),
+    Fill(ObjectSlot, u32),
     /// Receives from this queue for this many lines.
-    Drain(ObjectNo, u32),
+    Drain(ObjectSlot, u32),
+    /// Deletes the task in this slot and creates another, again and again, for this many lines.
+    RenewTask(TaskSlot, u32),
+    /// Removes the object in this slot and makes another, again and again, for this many lines.
+    RenewObject(ObjectSlot, u32),
 }
 
 type Fields = Vec<Vec<u8>>;
@@ -169,8 +176,10 @@ impl Author {
         let mut item = [0; ITEM_BYTES];
         let call = read_call(line, &mut item);
         coverage.answer(call.as_ref(), answer);
-        if let (Some(call), false) = (call, matches!(answer, Answer::Refused(_))) {
-            coverage.observe(&before, &call, &self.machine.kernel);
+        match (call, answer) {
+            (Some(call), Answer::Refused(5)) => coverage.observe_unnamed(&before, &self.machine.store, &call),
+            (None, _) | (_, Answer::Refused(_)) => {}
+            (Some(call), _) => coverage.observe(&before, &call, &self.machine.kernel),
         }
     }
 
@@ -202,12 +211,21 @@ impl Author {
         if self.plan == Plan::None && self.random.below(600) == 0 {
             self.plan = self.fill_a_queue();
         }
+        if self.plan == Plan::None && self.random.below(400) == 0 {
+            let lines = self.random.between(4, 40);
+            self.plan = self.renew_a_slot(lines);
+        }
+        // Long enough for a use above 255.
+        if self.plan == Plan::None && left > 2_000 && self.random.below(16_000) == 0 {
+            self.plan = self.renew_a_slot(720);
+        }
         if let Some(fields) = self.planned_call() {
             return fields;
         }
         match self.random.below(100) {
             0..=7 => self.aimed_call(),
             8..=9 => self.faulty_call(),
+            10..=15 => self.misnamed_call(),
             _ => self.accepted_call(),
         }
     }
@@ -222,12 +240,36 @@ impl Author {
 
     /// A plan for the queue of most places, or none without one.
     fn fill_a_queue(&mut self) -> Plan {
-        let capacity = |object: &ObjectNo| match self.kernel().object(*object).kind {
+        let capacity = |object: &ObjectSlot| match self.kernel().object(*object).kind {
             Kind::Queue(queue) => queue.capacity,
             _ => 0,
         };
-        let largest = ObjectNo::all().max_by_key(capacity).filter(|object| capacity(object) > 0);
+        let largest = ObjectSlot::all().max_by_key(capacity).filter(|object| capacity(object) > 0);
         largest.map_or(Plan::None, |object| Plan::Fill(object, 12))
+    }
+
+    /// A plan for one slot: the next to be taken, or any but idle's.
+    fn renew_a_slot(&mut self, lines: u32) -> Plan {
+        let next = self.random.percent(50);
+        if self.random.percent(50) {
+            let slots: Vec<TaskSlot> = TaskSlot::all().filter(|&task| task != IDLE).collect();
+            let any = self.random.pick(&slots);
+            Plan::RenewTask(self.kernel().free_task().filter(|_| next).unwrap_or(any), lines)
+        } else {
+            let slots: Vec<ObjectSlot> = ObjectSlot::all().collect();
+            let any = self.random.pick(&slots);
+            Plan::RenewObject(self.kernel().free_object().filter(|_| next).unwrap_or(any), lines)
+        }
+    }
+
+    /// This call if it is accepted; now and then none, and another is made.
+    fn mostly(&mut self, fields: Fields) -> Option<Fields> {
+        let accepted = self.refusal_of(&fields).is_none();
+        if accepted && self.random.percent(85) {
+            Some(fields)
+        } else {
+            None
+        }
     }
 
     fn planned_call(&mut self) -> Option<Fields> {
@@ -249,7 +291,7 @@ impl Author {
                 let number = self.random.pick(&[6, 14, 15]);
                 let mut fields = call(&[number]);
                 if number != 6 {
-                    fields.push(self.object(number, 0));
+                    fields.push(decimal(self.object(number, 0)));
                 }
                 fields.push(decimal(wait));
                 if self.refusal_of(&fields).is_none() {
@@ -304,18 +346,42 @@ impl Author {
                         (false, _) => Plan::Drain(object, left - 1),
                     };
                 }
-                let number = decimal(object.number().into());
-                let mut fields = vec![decimal(if fill { 13 } else { 14 }), number.clone()];
+                let number = self.kernel().object_number(object);
+                let mut fields = call(&[if fill { 13 } else { 14 }, number]);
                 if fill {
-                    fields.push(self.item(&number, 0));
+                    fields.push(self.item(number, 0));
                 }
                 fields.push(self.wait(0, false));
-                let accepted = self.refusal_of(&fields).is_none();
-                if accepted && self.random.percent(85) {
-                    Some(fields)
-                } else {
-                    None
+                self.mostly(fields)
+            }
+            Plan::RenewTask(_, 0) | Plan::RenewObject(_, 0) => {
+                self.plan = Plan::None;
+                None
+            }
+            Plan::RenewTask(task, left) => {
+                self.plan = Plan::RenewTask(task, left - 1);
+                let number = self.kernel().task_number(task);
+                if !self.kernel().task(task).is_free() {
+                    return self.mostly(call(&[2, number]));
                 }
+                if self.random.percent(20) {
+                    return Some(self.freed_call(number, &[2, 3, 4, 5]));
+                }
+                let create = self.candidate(1, 0);
+                self.mostly(create)
+            }
+            Plan::RenewObject(object, left) => {
+                self.plan = Plan::RenewObject(object, left - 1);
+                let number = self.kernel().object_number(object);
+                if !self.kernel().object(object).is_free() {
+                    return self.mostly(call(&[12, number]));
+                }
+                if self.random.percent(20) {
+                    return Some(self.freed_call(number, &[12, 13, 14, 15, 16]));
+                }
+                let kind = self.random.pick(&[10, 11]);
+                let make = self.candidate(kind, 0);
+                self.mostly(make)
             }
         }
     }
@@ -361,6 +427,27 @@ impl Author {
         self.accepted_call()
     }
 
+    /// A call that would be accepted but for the use part of its number, if one is found.
+    fn misnamed_call(&mut self) -> Fields {
+        for _ in 0..40 {
+            let number = self.random.pick(CALLS_OF_ROW[5]);
+            let mut fields = self.candidate(number, 0);
+            if self.refusal_of(&fields).is_none() {
+                fields[1] = decimal(self.other_use(value(&fields[1])));
+                return fields;
+            }
+        }
+        self.accepted_call()
+    }
+
+    /// One of these calls for a free slot, by its next number or by another use.
+    fn freed_call(&mut self, next: u32, calls: &[u32]) -> Fields {
+        let number = self.random.pick(calls);
+        let mut fields = self.candidate(number, 0);
+        fields[1] = decimal(if self.random.percent(40) { next } else { self.other_use(next) });
+        fields
+    }
+
     /// Any call with wild arguments; often several refusals apply.
     fn faulty_call(&mut self) -> Fields {
         let number = self.random.between(1, 17);
@@ -394,9 +481,9 @@ impl Author {
         let mut fields = call(&[number]);
         match number {
             1 => fields.push(self.priority(wildness)),
-            2..=4 => fields.push(self.task(number, wildness)),
+            2..=4 => fields.push(decimal(self.task(number, wildness))),
             5 => {
-                fields.push(self.task(number, wildness));
+                fields.push(decimal(self.task(number, wildness)));
                 let idle = fields[1] == b"0" && self.random.percent(70);
                 let priority = if idle { decimal(0) } else { self.priority(wildness) };
                 fields.push(priority);
@@ -410,19 +497,19 @@ impl Author {
                 fields.push(decimal(capacity));
                 fields.push(decimal(size));
             }
-            12 => fields.push(self.object(number, wildness)),
+            12 => fields.push(decimal(self.object(number, wildness))),
             13 => {
                 let object = self.object(number, wildness);
-                let item = self.item(&object, wildness);
-                fields.push(object);
+                let item = self.item(object, wildness);
+                fields.push(decimal(object));
                 fields.push(item);
                 fields.push(self.wait(wildness, false));
             }
             14 | 15 => {
-                fields.push(self.object(number, wildness));
+                fields.push(decimal(self.object(number, wildness)));
                 fields.push(self.wait(wildness, false));
             }
-            16 => fields.push(self.object(number, wildness)),
+            16 => fields.push(decimal(self.object(number, wildness))),
             _ => {}
         }
         fields
@@ -439,13 +526,41 @@ impl Author {
         }
     }
 
-    fn task(&mut self, number: u32, wildness: u32) -> Vec<u8> {
+    /// Any number: of a slot as it is now, taken or free, of another use, or none of these.
+    fn wild_number(&mut self, of_slots: &[u32]) -> u32 {
+        let number = self.random.pick(of_slots);
+        match self.random.below(10) {
+            0..=5 => number,
+            6..=7 => self.other_use(number),
+            _ => self.random.pick(&[0, 0, 0, 1, 15, 16, 17, 31, 255, 256, 65_536, 1_048_575, 1_048_576, FOR_EVER]),
+        }
+    }
+
+    /// A number of the same slot with another use part.
+    fn other_use(&mut self, right: u32) -> u32 {
+        let (slot, uses) = apart(right);
+        let other = match if uses > 0 { self.random.below(100) } else { self.random.between(60, 99) } {
+            // Given up, mostly the last one.
+            0..=39 => uses - 1,
+            40..=59 => self.random.below(uses),
+            // Not yet given out.
+            60..=79 => uses + self.random.pick(&[1, 1, 1, 2, 16, 256, 4_096]),
+            80..=84 => LAST_USE,
+            // From 1,048,576 on.
+            85..=89 => RETIRED,
+            _ => uses + RETIRED * self.random.pick(&[1, 2, 256, 4_095]),
+        };
+        number_of(slot, other)
+    }
+
+    fn task(&mut self, number: u32, wildness: u32) -> u32 {
+        let of_slots: Vec<u32> = TaskSlot::all().map(|task| self.kernel().task_number(task)).collect();
         if self.random.percent(wildness) {
-            return decimal(self.random.pick(&[0, 1, 2, 3, 5, 8, 13, 14, 15, 16, 17, 31, 255, 256, 65_536, FOR_EVER]));
+            return self.wild_number(&of_slots);
         }
         let kernel = &self.machine.kernel;
         let choice = self.random.below(100);
-        let wanted: Vec<TaskNo> = TaskNo::all()
+        let wanted: Vec<TaskSlot> = TaskSlot::all()
             .filter(|&task| {
                 let stand = kernel.task(task).stand;
                 let waits = matches!(stand, Stand::Waiting { .. });
@@ -462,19 +577,21 @@ impl Author {
             })
             .collect();
         if wanted.is_empty() {
-            return decimal(self.random.below(16));
+            return self.random.pick(&of_slots);
         }
-        decimal(self.random.pick(&wanted).number().into())
+        let task = self.random.pick(&wanted);
+        self.kernel().task_number(task)
     }
 
-    fn object(&mut self, number: u32, wildness: u32) -> Vec<u8> {
+    fn object(&mut self, number: u32, wildness: u32) -> u32 {
+        let of_slots: Vec<u32> = ObjectSlot::all().map(|object| self.kernel().object_number(object)).collect();
         if self.random.percent(wildness) {
-            return decimal(self.random.pick(&[0, 1, 2, 3, 4, 5, 6, 7, 9, 12, 15, 16, 17, 255, 256, 65_536, FOR_EVER]));
+            return self.wild_number(&of_slots);
         }
         let kernel = &self.machine.kernel;
         let caller = kernel.running;
         let choice = self.random.below(100);
-        let wanted: Vec<ObjectNo> = ObjectNo::all()
+        let wanted: Vec<ObjectSlot> = ObjectSlot::all()
             .filter(|&object| {
                 let slot = kernel.object(object);
                 match (number, slot.kind) {
@@ -493,11 +610,12 @@ impl Author {
             })
             .collect();
         if wanted.is_empty() {
-            return decimal(self.random.below(16));
+            return self.random.pick(&of_slots);
         }
         // The first ones more often, so that waiters gather.
         let last = if self.random.percent(50) { wanted.len().min(3) } else { wanted.len() };
-        decimal(self.random.pick(&wanted[..last]).number().into())
+        let object = self.random.pick(&wanted[..last]);
+        self.kernel().object_number(object)
     }
 
     fn wait(&mut self, wildness: u32, delay: bool) -> Vec<u8> {
@@ -565,11 +683,10 @@ impl Author {
         }
     }
 
-    fn item(&mut self, object: &[u8], wildness: u32) -> Vec<u8> {
-        let number = ObjectNo::all().find(|number| decimal(number.number().into()) == object);
-        let size = match number.map(|number| self.kernel().object(number).kind) {
-            Some(Kind::Queue(queue)) => u32::from(queue.size),
-            _ => self.random.below(5),
+    fn item(&mut self, object: u32, wildness: u32) -> Vec<u8> {
+        let size = match self.kernel().find_queue(object) {
+            Some((_, queue)) => u32::from(queue.size),
+            None => self.random.below(5),
         };
         let length = if self.random.percent(wildness) {
             self.random.pick(&[0, 1, size.saturating_sub(1), (size + 1).min(64), 63, 64])
@@ -583,6 +700,10 @@ impl Author {
 
 fn decimal(number: u32) -> Vec<u8> {
     number.to_string().into_bytes()
+}
+
+fn value(field: &[u8]) -> u32 {
+    String::from_utf8_lossy(field).parse().expect("the author writes decimal numbers")
 }
 
 fn call(numbers: &[u32]) -> Fields {

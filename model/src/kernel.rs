@@ -1,10 +1,15 @@
 //! The kernel value: task slots, object slots and the lines of ready tasks.
-//! Quoted sentences are document 01's.
+//! Quoted sentences are document 01's, and those of request 1 in document 02.
 
 /// "16 task slots, 0 to 15."
 pub const TASKS: usize = 16;
 /// "16 object slots, 0 to 15, each free, a queue or a mutex."
 pub const OBJECTS: usize = 16;
+/// "each number slot + 16 × use"
+pub const SLOTS: u32 = 16;
+/// "A slot given up at use 65,535 then has use 65,536 and is not used again".
+pub const LAST_USE: u32 = 65_535;
+pub const RETIRED: u32 = 65_536;
 /// "Priorities 0 to 31; larger is more urgent."
 pub const PRIORITIES: usize = 32;
 /// "A queue has capacity 1 to 64 and item size 0 to 64 bytes".
@@ -19,52 +24,44 @@ pub const MOST_PENDED: u32 = 65_535;
 /// "4,294,967,295 means for ever."
 pub const FOR_EVER: u32 = 4_294_967_295;
 
-/// "a task number must never be usable where an object number is meant"
+/// A slot of the task table. "a task number must never be usable where an object number
+/// is meant": the doors below are the only way from a number to a slot.
 #[derive(Clone, Copy, PartialEq, Eq, Debug)]
-pub struct TaskNo(u8);
+pub struct TaskSlot(u8);
 
+/// A slot of the object table.
 #[derive(Clone, Copy, PartialEq, Eq, Debug)]
-pub struct ObjectNo(u8);
+pub struct ObjectSlot(u8);
 
 /// "Task 0 is idle".
-pub const IDLE: TaskNo = TaskNo(0);
+pub const IDLE: TaskSlot = TaskSlot(0);
 
-impl TaskNo {
-    pub fn new(number: u32) -> Option<TaskNo> {
-        if number < TASKS as u32 {
-            Some(TaskNo(number as u8))
-        } else {
-            None
-        }
-    }
-    pub fn all() -> impl Iterator<Item = TaskNo> {
-        (0..TASKS as u8).map(TaskNo)
+impl TaskSlot {
+    pub fn all() -> impl Iterator<Item = TaskSlot> {
+        (0..TASKS as u8).map(TaskSlot)
     }
     pub fn index(self) -> usize {
         self.0 as usize
-    }
-    pub fn number(self) -> u8 {
-        self.0
     }
 }
 
-impl ObjectNo {
-    pub fn new(number: u32) -> Option<ObjectNo> {
-        if number < OBJECTS as u32 {
-            Some(ObjectNo(number as u8))
-        } else {
-            None
-        }
-    }
-    pub fn all() -> impl Iterator<Item = ObjectNo> {
-        (0..OBJECTS as u8).map(ObjectNo)
+impl ObjectSlot {
+    pub fn all() -> impl Iterator<Item = ObjectSlot> {
+        (0..OBJECTS as u8).map(ObjectSlot)
     }
     pub fn index(self) -> usize {
         self.0 as usize
     }
-    pub fn number(self) -> u8 {
-        self.0
-    }
+}
+
+/// The number of what is in this slot at this use.
+pub fn number_of(slot: usize, uses: u32) -> u32 {
+    slot as u32 + SLOTS * uses
+}
+
+/// A number taken apart: its slot, and its use part.
+pub fn apart(number: u32) -> (usize, u32) {
+    ((number % SLOTS) as usize, number / SLOTS)
 }
 
 /// "Outcome of a task's last blocked call".
@@ -99,7 +96,7 @@ pub enum Stand {
     },
     /// "a wait for ever has no wake tick"
     Waiting {
-        object: ObjectNo,
+        object: ObjectSlot,
         role: Role,
         wake: Option<u32>,
     },
@@ -109,13 +106,24 @@ pub enum Stand {
 /// "Each task has its own priority and its effective one."
 #[derive(Clone, Copy, PartialEq, Eq, Debug)]
 pub struct Task {
+    /// "a slot's use starts at 0 and goes up by one at each delete or remove"
+    pub uses: u32,
     pub stand: Stand,
     pub own: u8,
     pub effective: u8,
     pub outcome: Outcome,
 }
 
-pub const FREE_TASK: Task = Task { stand: Stand::Free, own: 0, effective: 0, outcome: Outcome::None };
+impl Task {
+    /// "a free slot keeps its use, all else in it being fresh"
+    pub const fn free(uses: u32) -> Task {
+        Task { uses, stand: Stand::Free, own: 0, effective: 0, outcome: Outcome::None }
+    }
+
+    pub fn is_free(&self) -> bool {
+        self.stand == Stand::Free
+    }
+}
 
 #[derive(Clone, Copy, PartialEq, Eq, Debug)]
 pub struct Queue {
@@ -130,14 +138,22 @@ pub struct Queue {
 pub enum Kind {
     Free,
     Queue(Queue),
-    Mutex { holder: Option<TaskNo> },
+    Mutex { holder: Option<TaskSlot> },
 }
 
 /// "each object lists its waiters once, in order of arrival"
 #[derive(Clone, PartialEq, Eq, Debug)]
 pub struct Object {
+    /// As a task slot's.
+    pub uses: u32,
     pub kind: Kind,
-    pub waiters: Vec<TaskNo>,
+    pub waiters: Vec<TaskSlot>,
+}
+
+impl Object {
+    pub fn is_free(&self) -> bool {
+        self.kind == Kind::Free
+    }
 }
 
 #[derive(Clone, PartialEq, Eq, Debug)]
@@ -145,10 +161,10 @@ pub struct Kernel {
     pub tasks: [Task; TASKS],
     pub objects: [Object; OBJECTS],
     /// "Each priority has a line of its ready tasks"; index 0 is the head.
-    pub lines: [Vec<TaskNo>; PRIORITIES],
+    pub lines: [Vec<TaskSlot>; PRIORITIES],
     /// One bit for each occupied line; it repeats what `lines` says.
     pub occupied: u32,
-    pub running: TaskNo,
+    pub running: TaskSlot,
     pub tick: u32,
     pub hold: u32,
     pub pended: u32,
@@ -158,8 +174,8 @@ impl Kernel {
     /// "The fresh kernel has idle alone, tick 0, hold 0, no objects."
     pub fn fresh() -> Kernel {
         let mut kernel = Kernel {
-            tasks: [FREE_TASK; TASKS],
-            objects: std::array::from_fn(|_| Object { kind: Kind::Free, waiters: Vec::with_capacity(TASKS) }),
+            tasks: [Task::free(0); TASKS],
+            objects: std::array::from_fn(|_| Object { uses: 0, kind: Kind::Free, waiters: Vec::with_capacity(TASKS) }),
             lines: std::array::from_fn(|_| Vec::with_capacity(TASKS)),
             occupied: 0,
             running: IDLE,
@@ -171,34 +187,41 @@ impl Kernel {
         kernel
     }
 
-    pub fn task(&self, task: TaskNo) -> &Task {
+    pub fn task(&self, task: TaskSlot) -> &Task {
         &self.tasks[task.index()]
     }
 
-    pub fn task_mut(&mut self, task: TaskNo) -> &mut Task {
+    pub fn task_mut(&mut self, task: TaskSlot) -> &mut Task {
         &mut self.tasks[task.index()]
     }
 
-    pub fn object(&self, object: ObjectNo) -> &Object {
+    pub fn object(&self, object: ObjectSlot) -> &Object {
         &self.objects[object.index()]
     }
 
-    pub fn object_mut(&mut self, object: ObjectNo) -> &mut Object {
+    pub fn object_mut(&mut self, object: ObjectSlot) -> &mut Object {
         &mut self.objects[object.index()]
     }
 
-    /// The existing task of this number.
-    pub fn find_task(&self, number: u32) -> Option<TaskNo> {
-        TaskNo::new(number).filter(|&task| self.task(task).stand != Stand::Free)
+    /// The door of task numbers: the slot of the task that this one names. "A number whose
+    /// use part differs from the slot's names nothing." A free slot has nothing to name,
+    /// and no taken one has a use above 65,535, so a number from 1,048,576 on names nothing.
+    pub fn find_task(&self, number: u32) -> Option<TaskSlot> {
+        let (slot, uses) = apart(number);
+        let task = &self.tasks[slot];
+        (task.uses == uses && !task.is_free()).then_some(TaskSlot(slot as u8))
     }
 
-    /// The object of this number, of either kind.
-    pub fn find_object(&self, number: u32) -> Option<ObjectNo> {
-        ObjectNo::new(number).filter(|&object| self.object(object).kind != Kind::Free)
+    /// The door of object numbers, for either kind.
+    pub fn find_object(&self, number: u32) -> Option<ObjectSlot> {
+        let (slot, uses) = apart(number);
+        let object = &self.objects[slot];
+        (object.uses == uses && !object.is_free()).then_some(ObjectSlot(slot as u8))
     }
 
-    pub fn find_queue(&self, number: u32) -> Option<(ObjectNo, Queue)> {
-        let object = ObjectNo::new(number)?;
+    /// The queue of this number.
+    pub fn find_queue(&self, number: u32) -> Option<(ObjectSlot, Queue)> {
+        let object = self.find_object(number)?;
         match self.object(object).kind {
             Kind::Queue(queue) => Some((object, queue)),
             _ => None,
@@ -206,30 +229,45 @@ impl Kernel {
     }
 
     /// The mutex of this number, and its holder.
-    pub fn find_mutex(&self, number: u32) -> Option<(ObjectNo, Option<TaskNo>)> {
-        let object = ObjectNo::new(number)?;
+    pub fn find_mutex(&self, number: u32) -> Option<(ObjectSlot, Option<TaskSlot>)> {
+        let object = self.find_object(number)?;
         match self.object(object).kind {
             Kind::Mutex { holder } => Some((object, holder)),
             _ => None,
         }
     }
 
-    /// "lowest free slot"
-    pub fn free_task(&self) -> Option<TaskNo> {
-        TaskNo::all().find(|&task| self.task(task).stand == Stand::Free)
+    /// The number of the task in this slot; of a free slot, the one that its next task has.
+    pub fn task_number(&self, task: TaskSlot) -> u32 {
+        number_of(task.index(), self.task(task).uses)
     }
 
-    /// "lowest free object"
-    pub fn free_object(&self) -> Option<ObjectNo> {
-        ObjectNo::all().find(|&object| self.object(object).kind == Kind::Free)
+    /// The number of the running task.
+    pub fn running_number(&self) -> u32 {
+        self.task_number(self.running)
     }
 
-    pub fn holds_a_mutex(&self, task: TaskNo) -> bool {
+    /// The number of the object in this slot; of a free slot, the one that its next object has.
+    pub fn object_number(&self, object: ObjectSlot) -> u32 {
+        number_of(object.index(), self.object(object).uses)
+    }
+
+    /// "lowest free slot" that may still be used
+    pub fn free_task(&self) -> Option<TaskSlot> {
+        TaskSlot::all().find(|&task| self.task(task).is_free() && self.task(task).uses < RETIRED)
+    }
+
+    /// "lowest free object" that may still be used
+    pub fn free_object(&self) -> Option<ObjectSlot> {
+        ObjectSlot::all().find(|&object| self.object(object).is_free() && self.object(object).uses < RETIRED)
+    }
+
+    pub fn holds_a_mutex(&self, task: TaskSlot) -> bool {
         self.objects.iter().any(|object| object.kind == Kind::Mutex { holder: Some(task) })
     }
 
     /// Delayed, or waiting on an object.
-    pub fn is_blocked(&self, task: TaskNo) -> bool {
+    pub fn is_blocked(&self, task: TaskSlot) -> bool {
         matches!(self.task(task).stand, Stand::Delayed { .. } | Stand::Waiting { .. })
     }
 
@@ -247,7 +285,7 @@ impl Kernel {
     }
 
     /// "Made ready means put at the tail of the line."
-    pub fn make_ready(&mut self, task: TaskNo) {
+    pub fn make_ready(&mut self, task: TaskSlot) {
         let slot = self.task_mut(task);
         slot.stand = Stand::Ready;
         let priority = slot.effective as usize;
@@ -256,7 +294,7 @@ impl Kernel {
     }
 
     /// A ready task leaves its line.
-    pub fn leave_line(&mut self, task: TaskNo) {
+    pub fn leave_line(&mut self, task: TaskSlot) {
         let priority = self.task(task).effective as usize;
         let line = &mut self.lines[priority];
         let place = line.iter().position(|&other| other == task).expect("a ready task is in its line");
@@ -268,7 +306,7 @@ impl Kernel {
 
     /// "A ready task whose effective priority changes moves to the new line, at the
     /// head if running, else at the tail; unchanged, it stays."
-    pub fn set_effective(&mut self, task: TaskNo, effective: u8) {
+    pub fn set_effective(&mut self, task: TaskSlot, effective: u8) {
         if self.task(task).effective == effective {
             return;
         }
@@ -297,15 +335,15 @@ impl Kernel {
     }
 
     /// A task that waits on an object leaves the object's list.
-    pub fn leave_object(&mut self, task: TaskNo, object: ObjectNo) {
+    pub fn leave_object(&mut self, task: TaskSlot, object: ObjectSlot) {
         let waiters = &mut self.object_mut(object).waiters;
         let place = waiters.iter().position(|&other| other == task).expect("a waiter is in its object's list");
         waiters.remove(place);
     }
 
     /// "First waiter: highest effective priority, then earliest arrival."
-    pub fn first_waiter(&self, object: ObjectNo) -> Option<TaskNo> {
-        let mut first: Option<TaskNo> = None;
+    pub fn first_waiter(&self, object: ObjectSlot) -> Option<TaskSlot> {
+        let mut first: Option<TaskSlot> = None;
         for &waiter in &self.object(object).waiters {
             match first {
                 Some(best) if self.task(best).effective >= self.task(waiter).effective => {}
@@ -316,7 +354,7 @@ impl Kernel {
     }
 
     /// The first waiter leaves the object "and is made ready, outcome 1".
-    pub fn wake_first_waiter(&mut self, object: ObjectNo) -> Option<TaskNo> {
+    pub fn wake_first_waiter(&mut self, object: ObjectSlot) -> Option<TaskSlot> {
         let waiter = self.first_waiter(object)?;
         self.leave_object(waiter, object);
         self.task_mut(waiter).outcome = Outcome::Done;
@@ -347,7 +385,7 @@ impl Kernel {
         self.block_running(Stand::Delayed { wake });
     }
 
-    pub fn wait_running(&mut self, object: ObjectNo, role: Role, wait: u32) {
+    pub fn wait_running(&mut self, object: ObjectSlot, role: Role, wait: u32) {
         let wake = self.wake_tick(wait);
         self.block_running(Stand::Waiting { object, role, wake });
         let caller = self.running;
@@ -356,11 +394,11 @@ impl Kernel {
 
     /// One tick's count and wakes. "the count goes up, then the due tasks are made
     /// ready in order of task number (D), a delayed one with outcome 1, a waiting
-    /// one leaving its object with outcome 2"
+    /// one leaving its object with outcome 2". The order is that of the slots.
     pub fn count_and_wake(&mut self) {
         // "after which it returns to 0"
         self.tick = self.tick.wrapping_add(1);
-        for task in TaskNo::all() {
+        for task in TaskSlot::all() {
             // "the task is due when the count equals it"
             match self.task(task).stand {
                 Stand::Delayed { wake } if wake == self.tick => {

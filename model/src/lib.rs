@@ -1,4 +1,5 @@
-//! A second opinion on the kernel of document 01, written from that document and the readings in docs/DECISIONS.md.
+//! A second opinion on the kernel of document 01 and request 1 of document 02, written from these and the readings in
+//! docs/DECISIONS.md.
 
 pub mod calls;
 pub mod check;
@@ -11,4 +12,5 @@ pub mod line;
 pub mod machine;
 pub mod random;
 pub mod refusals;
+pub mod retire;
 pub mod store;

@@ -1,7 +1,6 @@
 //! The journal line: reading a call, writing an answer. Bytes, not strings.
 
 use crate::calls::{Answer, Call};
-use crate::kernel::TaskNo;
 
 /// "A line has at most 256 bytes with its newline".
 pub const LINE_BYTES: usize = 256;
@@ -145,32 +144,34 @@ pub fn read_call<'a>(line: &[u8], item: &'a mut [u8; ITEM_BYTES]) -> Option<Call
 
 /// "The answer line has three fields parted by tabs, then a newline: ok, wait or no;
 /// the new number, the refusal number, or 0; the running task afterwards."
-pub fn write_answer(answer: Answer, running: TaskNo, out: &mut Vec<u8>) {
-    let (word, length, number): (&[u8; 5], usize, u8) = match answer {
+/// Both the new number and the running task's are full numbers.
+pub fn write_answer(answer: Answer, running: u32, out: &mut Vec<u8>) {
+    let (word, length, number): (&[u8; 5], usize, u32) = match answer {
         Answer::Done => (b"ok\t  ", 3, 0),
         Answer::Made(number) => (b"ok\t  ", 3, number),
         Answer::Waiting => (b"wait\t", 5, 0),
-        Answer::Refused(number) => (b"no\t  ", 3, number),
+        Answer::Refused(number) => (b"no\t  ", 3, number.into()),
     };
-    // The longest answer line has 11 bytes. Copies of a fixed length are the fastest, so
-    // all 11 are put out and the rest is taken back.
-    let mut line = [0; 11];
+    // The longest answer line has 19 bytes, with two numbers of 7 digits. Copies of a fixed
+    // length are the fastest, so all 19 are put out and the rest is taken back.
+    let mut line = [0; 19];
     line[..5].copy_from_slice(word);
-    let mut end = write_small(number, &mut line, length);
+    let mut end = write_number(number, &mut line, length);
     line[end] = b'\t';
-    end = write_small(running.number(), &mut line, end + 1);
+    end = write_number(running, &mut line, end + 1);
     line[end] = b'\n';
     let start = out.len();
     out.extend_from_slice(&line);
     out.truncate(start + end + 1);
 }
 
-/// A number below 100 in decimal; gives the place after it.
-fn write_small(number: u8, line: &mut [u8], mut at: usize) -> usize {
-    if number >= 10 {
-        line[at] = b'0' + number / 10;
-        at += 1;
+/// A number in decimal; gives the place after it.
+fn write_number(number: u32, line: &mut [u8], at: usize) -> usize {
+    let digits = number.checked_ilog10().map_or(1, |log| log as usize + 1);
+    let mut rest = number;
+    for digit in line[at..at + digits].iter_mut().rev() {
+        *digit = b'0' + (rest % 10) as u8;
+        rest /= 10;
     }
-    line[at] = b'0' + number % 10;
-    at + 1
+    at + digits
 }

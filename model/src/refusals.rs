@@ -5,9 +5,10 @@
 //! `refusal_by_rows` is the table itself, row by row; the self-check compares the two.
 //! Row 1 (soundness) is asserted by the self-check; row 3 belongs to the line reader.
 
-use crate::calls::Call;
+use crate::calls::{Call, Named};
 use crate::kernel::{
-    Kernel, Kind, Stand, FOR_EVER, IDLE, MOST_CAPACITY, MOST_HOLD, MOST_ITEM, MOST_PENDED, MOST_PRODUCT, PRIORITIES,
+    Kernel, Kind, ObjectSlot, Stand, TaskSlot, FOR_EVER, IDLE, MOST_CAPACITY, MOST_HOLD, MOST_ITEM, MOST_PENDED,
+    MOST_PRODUCT, PRIORITIES,
 };
 use crate::store::STORE_BYTES;
 
@@ -119,15 +120,12 @@ fn row_applies(row: u8, kernel: &Kernel, store: &[u8], call: &Call) -> bool {
             Call::Delay { ticks } => ticks == 4_294_967_295,
             _ => false,
         },
-        // "task or object number names none, or an object of the wrong kind"
-        5 => match *call {
-            Call::Delete { task } | Call::Suspend { task } | Call::Resume { task } | Call::SetPriority { task, .. } => {
-                kernel.find_task(task).is_none()
-            }
-            Call::Remove { object } => kernel.find_object(object).is_none(),
-            Call::Send { object, .. } | Call::Receive { object, .. } => kernel.find_queue(object).is_none(),
-            Call::Take { object, .. } | Call::Give { object } => kernel.find_mutex(object).is_none(),
-            _ => false,
+        // "task or object number names none, or an object of the wrong kind"; "5 covers a
+        // wrong use part"
+        5 => match call.named() {
+            Named::Nothing => false,
+            Named::Task(number) => task_of(kernel, number).is_none(),
+            Named::Object(number) => !object_of(kernel, number).is_some_and(|kind| fits(call, kind)),
         },
         // "the item's length is not the queue's item size"
         6 => match *call {
@@ -155,10 +153,12 @@ fn row_applies(row: u8, kernel: &Kernel, store: &[u8], call: &Call) -> bool {
                     _ => false,
                 }
         }
-        // "create or make with no free slot"
+        // "create or make with no free slot"; "9 means no slot that may still be used"
         9 => match *call {
-            Call::Create { .. } => kernel.tasks.iter().all(|task| task.stand != Stand::Free),
-            Call::MakeQueue { .. } | Call::MakeMutex => kernel.objects.iter().all(|object| object.kind != Kind::Free),
+            Call::Create { .. } => kernel.tasks.iter().all(|task| !task.is_free() || task.uses == 65_536),
+            Call::MakeQueue { .. } | Call::MakeMutex => {
+                kernel.objects.iter().all(|object| !object.is_free() || object.uses == 65_536)
+            }
             _ => false,
         },
         // "delete of a task that holds a mutex; remove of a held mutex or an object with waiters"
@@ -207,5 +207,27 @@ fn row_applies(row: u8, kernel: &Kernel, store: &[u8], call: &Call) -> bool {
         // "tick with a hold and 65,535 pended"
         16 => matches!(call, Call::Tick) && kernel.hold != 0 && kernel.pended == 65_535,
         _ => false,
+    }
+}
+
+/// The table's own way to what a number names: it is looked for among the numbers of all
+/// that exists.
+fn task_of(kernel: &Kernel, number: u32) -> Option<TaskSlot> {
+    TaskSlot::all().filter(|&task| !kernel.task(task).is_free()).find(|&task| kernel.task_number(task) == number)
+}
+
+fn object_of(kernel: &Kernel, number: u32) -> Option<Kind> {
+    ObjectSlot::all()
+        .filter(|&object| !kernel.object(object).is_free())
+        .find(|&object| kernel.object_number(object) == number)
+        .map(|object| kernel.object(object).kind)
+}
+
+/// Whether the call is for an object of this kind.
+fn fits(call: &Call, kind: Kind) -> bool {
+    match call {
+        Call::Send { .. } | Call::Receive { .. } => matches!(kind, Kind::Queue(_)),
+        Call::Take { .. } | Call::Give { .. } => matches!(kind, Kind::Mutex { .. }),
+        _ => true,
     }
 }

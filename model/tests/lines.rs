@@ -3,10 +3,11 @@
 mod common;
 
 use common::answers;
+use model::calls::Answer;
 use model::damage;
 use model::filter;
 use model::journal::journal;
-use model::line::{read_call, ITEM_BYTES};
+use model::line::{read_call, write_answer, ITEM_BYTES};
 use model::machine::Machine;
 use model::random::Random;
 use std::io::{self, Read};
@@ -73,6 +74,27 @@ fn lines_that_are_no_call() {
 fn the_largest_numbers_are_read() {
     assert_eq!(answers(b"2\t4294967295\n1\t0\n"), b"no\t5\t0\nok\t1\t0\n");
     assert_eq!(answers(b"13\t4294967295\t\t4294967295\n"), b"no\t5\t0\n");
+}
+
+#[test]
+fn answer_lines_of_every_length() {
+    let cases: [(Answer, u32, &[u8]); 10] = [
+        (Answer::Done, 0, b"ok\t0\t0\n"),
+        (Answer::Done, 9, b"ok\t0\t9\n"),
+        (Answer::Made(0), 10, b"ok\t0\t10\n"),
+        (Answer::Made(99), 100, b"ok\t99\t100\n"),
+        (Answer::Made(1_000), 9_999, b"ok\t1000\t9999\n"),
+        (Answer::Made(99_999), 100_000, b"ok\t99999\t100000\n"),
+        (Answer::Made(1_048_575), 1_048_575, b"ok\t1048575\t1048575\n"),
+        (Answer::Waiting, 1_000_000, b"wait\t0\t1000000\n"),
+        (Answer::Refused(3), 999_999, b"no\t3\t999999\n"),
+        (Answer::Refused(16), 1_048_575, b"no\t16\t1048575\n"),
+    ];
+    for (answer, running, line) in cases {
+        let mut out = b"before".to_vec();
+        write_answer(answer, running, &mut out);
+        assert_eq!(out, [b"before", line].concat(), "{answer:?}");
+    }
 }
 
 #[test]

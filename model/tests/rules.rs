@@ -266,9 +266,9 @@ fn the_next_task_in_a_slot_holds_nothing() {
          15 0 0 -> ok 0 1
          16 0 -> ok 0 1
          2 1 -> ok 0 0
-         1 3 -> ok 1 1
-         16 0 -> no 11 1
-         15 0 0 -> ok 0 1",
+         1 3 -> ok 17 17
+         16 0 -> no 11 17
+         15 0 0 -> ok 0 17",
     );
     assert_eq!(machine.kernel.object(object(0)).kind, Kind::Mutex { holder: Some(task(1)) });
 }

@@ -36,6 +36,8 @@ const IDLE: &str = "idle is as above";
 const ONCE: &str = "each ready task stands once in the line";
 const RANGES: &str = "counts and places obey the ranges";
 const OUTCOME: &str = "an outcome is 0 if delayed or waiting";
+const MOST: &str = "a use is at most 65,536";
+const MOST_TAKEN: &str = "in a taken slot 65,535";
 
 fn queue(capacity: u8, size: u8, first: u8, count: u8) -> Kind {
     Kind::Queue(Queue { capacity, size, first, count })
@@ -48,8 +50,20 @@ fn a_busy_kernel_is_sound() {
 }
 
 #[test]
+fn the_largest_uses_are_sound() {
+    let mut kernel = busy();
+    for slot in &mut kernel.tasks[1..] {
+        slot.uses = if slot.is_free() { 65_536 } else { 65_535 };
+    }
+    for slot in &mut kernel.objects {
+        slot.uses = if slot.is_free() { 65_536 } else { 65_535 };
+    }
+    assert_eq!(soundness(&kernel), Ok(()));
+}
+
+#[test]
 fn each_breach_is_found() {
-    let breaches: [Breach; 30] = [
+    let breaches: [Breach; 37] = [
         ("idle suspended", IDLE, |k| {
             k.leave_line(task(0));
             k.tasks[0].stand = Stand::Suspended;
@@ -97,6 +111,13 @@ fn each_breach_is_found() {
         ("outcome of a delayed task", OUTCOME, |k| k.tasks[4].outcome = Outcome::BrokenOff),
         ("pended without a hold", "with hold 0 nothing is pended", |k| k.pended = 1),
         ("free task not fresh", "free slots carry the fresh values", |k| k.tasks[9].own = 1),
+        ("use of idle", "idle's use is 0", |k| k.tasks[0].uses = 1),
+        ("use of a free task slot", MOST, |k| k.tasks[9].uses = 65_537),
+        ("use of a free object slot", MOST, |k| k.objects[9].uses = 65_537),
+        ("use far too large", MOST, |k| k.objects[9].uses = u32::MAX),
+        ("use of a ready task", MOST_TAKEN, |k| k.tasks[3].uses = 65_536),
+        ("use of a waiting task", MOST_TAKEN, |k| k.tasks[2].uses = 65_536),
+        ("use of an object", MOST_TAKEN, |k| k.objects[1].uses = 65_536),
     ];
     for (name, sentence, breach) in breaches {
         let mut kernel = busy();

@@ -12,7 +12,7 @@ use borrow.Author.Tests.{eqb-true, leb-true}
 use Rattle.lists.specs.Lists.{any, index, every, allBelow}
 use Rattle.lists.proofs.Bools.{at, all-below, or-second}
 use Rattle.calls.specs.Types.{Call, Create, Delete, Suspend, Resume, SetPriority, Delay, Yield, Hold, Release, MakeQueue, MakeMutex, Remove, Send, Receive, Take, Give, Tick}
-use Rattle.calls.specs.Types.{Names, Shape, Frame, Asked}
+use Rattle.calls.specs.Types.{Uses, Names, Shape, Frame, Asked}
 use Rattle.calls.specs.Table.{called, word, entries, callOf}
 use Rattle.calls.specs.Behind.{asked}
 use Rattle.calls.specs.Words.{fieldsOf, isBytes, numbersIn, noWords, frameOf, unknown, shapes, shapeOf, askedBy}
@@ -137,15 +137,16 @@ module _ {A : Type 0} (f g : Call → A)
       ∙ List·getD-map g (entries ws) n Tick
       ∙ ap g (call-again c .call)
 
-abbrev askedIn : Frame → Asked
-askedIn f = askedBy (f .names) (f .number) (word (f .words) 0) (word (f .words) 1)
+module _ (us : Uses) where
+  abbrev askedIn : Frame → Asked
+  askedIn f = askedBy us (f .names) (f .number) (word (f .words) 0) (word (f .words) 1)
 
-asked-frame : (c : Call) → askedIn (frameOf c) ≡ asked c
-unfolding asked
-asked-frame = all-rows (λ c. askedIn (frameOf c)) asked (λ a b c d e. refl)
+  asked-frame : (c : Call) → askedIn (frameOf c) ≡ asked us c
+  unfolding asked
+  asked-frame = all-rows (λ c. askedIn (frameOf c)) (asked us) (λ a b c d e. refl)
 
--- by what the code found in the frame
-pub asked-by : (c : Call) (f : Frame) (m : Names) → f ≡ frameOf c → f .names ≡ m
-    → askedBy m (f .number) (word (f .words) 0) (word (f .words) 1) ≡ asked c
-asked-by c f m e h =
-    ap (λ (n : Names). askedBy n (f .number) (word (f .words) 0) (word (f .words) 1)) (sym h) ∙ ap askedIn e ∙ asked-frame c
+  -- by what the code found in the frame
+  pub asked-by : (c : Call) (f : Frame) (m : Names) → f ≡ frameOf c → f .names ≡ m
+      → askedBy us m (f .number) (word (f .words) 0) (word (f .words) 1) ≡ asked us c
+  asked-by c f m e h =
+      ap (λ (n : Names). askedBy us n (f .number) (word (f .words) 0) (word (f .words) 1)) (sym h) ∙ ap askedIn e ∙ asked-frame c

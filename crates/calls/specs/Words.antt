@@ -8,11 +8,11 @@ use lib.Seq.{sets}
 use lib.Dec.{eqb}
 use Rattle.lists.specs.Choice.{if_then_else_}
 use Rattle.lists.specs.Lists.{any, index}
-use Rattle.calls.specs.Types.{Call, Names, Nothing, ATask, AnObject, AQueue, AMutex, Shape, Frame, Asked}
+use Rattle.calls.specs.Types.{Call, Uses, Names, Nothing, ATask, AnObject, AQueue, AMutex, Shape, Frame, Asked}
 use Rattle.calls.specs.Table.{Argument, aTask, anObject, aQueue, aMutex, aPriority, someTicks, aCapacity, aSize, aWait, anItem, called, calls}
 use Rattle.calls.specs.Named.{taskOf, objectOf}
-use Rattle.calls.specs.Door.{taskSlot, objSlot}
-use Rattle.calls.specs.Behind.{asked, nothing, onTask, onObject}
+use Rattle.calls.specs.Door.{lastIn, taskSlot, objSlot}
+use Rattle.calls.specs.Behind.{namesOf, nothing, onTask, onObject}
 
 -- what stands for an argument: a number, or the item's bytes
 pub data Field : Type 0 where
@@ -61,7 +61,7 @@ framed n m ws = record { number = n; names = m; words = ws }
 
 -- the numbers, and zeros after them
 abbrev pub frameOf : Call → Frame
-frameOf c = framed (called c .number) (asked c .names) (sets noWords 0 (numbersIn (fieldsOf c)))
+frameOf c = framed (called c .number) (namesOf c) (sets noWords 0 (numbersIn (fieldsOf c)))
 
 -- ---- how they stand
 
@@ -96,9 +96,9 @@ unnamed n a b =
     else nothing n 0 0 1 0
 
 -- what a word is follows from what the call names
-abbrev pub askedBy : Names → ℕ → ℕ → ℕ → Asked
-askedBy Nothing n a b = unnamed n a b
-askedBy ATask n a b = onTask n (taskSlot (taskOf a)) b
-askedBy AnObject n a b = onObject n AnObject (objSlot (objectOf a)) b
-askedBy AQueue n a b = onObject n AQueue (objSlot (objectOf a)) b
-askedBy AMutex n a b = onObject n AMutex (objSlot (objectOf a)) b
+abbrev pub askedBy : Uses → Names → ℕ → ℕ → ℕ → Asked
+askedBy us Nothing n a b = unnamed n a b
+askedBy us ATask n a b = let t = taskSlot us (taskOf a) in onTask n t (lastIn (us .tasks) (t .0)) b
+askedBy us AnObject n a b = let o = objSlot us (objectOf a) in onObject n AnObject o (lastIn (us .objects) (o .0)) b
+askedBy us AQueue n a b = let o = objSlot us (objectOf a) in onObject n AQueue o (lastIn (us .objects) (o .0)) b
+askedBy us AMutex n a b = let o = objSlot us (objectOf a) in onObject n AMutex o (lastIn (us .objects) (o .0)) b

@@ -1,6 +1,6 @@
 // A call behind the door.
 ghost use mathlib.Core.Path.{_≡_};
-ghost use Rattle.calls.specs.Door.{taskSlot, objSlot};
+ghost use Rattle.calls.specs.Door.{lastIn};
 ghost use Rattle.calls.specs.Behind.{asked, nothing, onTask, onObject};
 ghost use Rattle.calls.specs.Words.{unnamed};
 use crate::Asked;
@@ -8,6 +8,8 @@ use crate::Call;
 use crate::Names;
 use crate::ObjNo;
 use crate::TaskNo;
+use crate::Uses;
+use crate::door;
 use numbers::ObjSlot;
 use numbers::TaskSlot;
 
@@ -21,6 +23,7 @@ impl Asked {
             names: Names::Nothing,
             task: TaskSlot(16),
             object: ObjSlot(16),
+            last: false,
             priority,
             ticks,
             capacity,
@@ -41,14 +44,15 @@ impl Asked {
         }
     }
 
-    fn on_task(number: u8, t: TaskNo, priority: u32) -> Asked
-        ensures { λ r. ⌜ r ≡ onTask number (taskSlot t) priority ⌝ }
+    fn on_task(number: u8, t: TaskSlot, uses: [u16; 16], priority: u32) -> Asked
+        ensures { λ r. ⌜ r ≡ onTask number t (lastIn uses (t .0)) priority ⌝ }
     {
         Asked {
             number,
             names: Names::Task,
-            task: t.slot(),
+            task: t,
             object: ObjSlot(16),
+            last: door::last(uses, t.0),
             priority,
             ticks: 0,
             capacity: 1,
@@ -57,14 +61,15 @@ impl Asked {
         }
     }
 
-    fn on_object(number: u8, names: Names, o: ObjNo, wait: u32) -> Asked
-        ensures { λ r. ⌜ r ≡ onObject number names (objSlot o) wait ⌝ }
+    fn on_object(number: u8, names: Names, o: ObjSlot, uses: [u16; 16], wait: u32) -> Asked
+        ensures { λ r. ⌜ r ≡ onObject number names o (lastIn uses (o .0)) wait ⌝ }
     {
         Asked {
             number,
             names,
             task: TaskSlot(16),
-            object: o.slot(),
+            object: o,
+            last: door::last(uses, o.0),
             priority: 0,
             ticks: 0,
             capacity: 1,
@@ -76,19 +81,39 @@ impl Asked {
 
 impl Call {
     // What a word is follows from what the call names; a word that it does not have is 0.
-    pub fn asked(self) -> Asked
-        ensures { λ r. ⌜ r ≡ asked self ⌝ }
+    pub fn asked(self, uses: Uses) -> Asked
+        ensures { λ r. ⌜ r ≡ asked uses self ⌝ }
     {
         let f = self.frame();
         let names = f.names;
         let a = f.words[0];
         let b = f.words[1];
+        let tasks = uses.tasks;
+        let objects = uses.objects;
         match names {
             Names::Nothing => Asked::unnamed(f.number, a, b),
-            Names::Task => Asked::on_task(f.number, TaskNo(a), b),
-            Names::Object => Asked::on_object(f.number, Names::Object, ObjNo(a), b),
-            Names::Queue => Asked::on_object(f.number, Names::Queue, ObjNo(a), b),
-            Names::Mutex => Asked::on_object(f.number, Names::Mutex, ObjNo(a), b),
+            Names::Task => Asked::on_task(f.number, TaskNo(a).slot(tasks), tasks, b),
+            Names::Object => Asked::on_object(
+                f.number,
+                Names::Object,
+                ObjNo(a).slot(objects),
+                objects,
+                b,
+            ),
+            Names::Queue => Asked::on_object(
+                f.number,
+                Names::Queue,
+                ObjNo(a).slot(objects),
+                objects,
+                b,
+            ),
+            Names::Mutex => Asked::on_object(
+                f.number,
+                Names::Mutex,
+                ObjNo(a).slot(objects),
+                objects,
+                b,
+            ),
         }
     }
 }

@@ -5,7 +5,6 @@ mod named;
 mod table;
 mod words;
 
-pub use door::number;
 use numbers::ObjSlot;
 use numbers::TaskSlot;
 
@@ -13,6 +12,12 @@ use numbers::TaskSlot;
 pub struct TaskNo(pub u32);
 
 pub struct ObjNo(pub u32);
+
+// How often what stood in each slot was given up. A number is slot + 16 × use, so that an old one names nothing.
+pub struct Uses {
+    pub tasks: [u16; 16],
+    pub objects: [u16; 16],
+}
 
 // The 17 calls. The bytes of a sent item are lent beside the call.
 pub enum Call {
@@ -67,13 +72,15 @@ pub struct Shape {
     pub after: usize,
 }
 
-// A call behind the door: its number and arguments, each in its own field, and slots where the caller wrote numbers.
+// A call behind the door: its number and arguments, each in its own field, and slots where the caller wrote numbers; `last` says that the slot
+// stands at its last use.
 // An argument that the call does not have stands at a value that is never turned away.
 pub struct Asked {
     pub number: u8,
     pub names: Names,
     pub task: TaskSlot,
     pub object: ObjSlot,
+    pub last: bool,
     pub priority: u32,
     pub ticks: u32,
     pub capacity: u32,

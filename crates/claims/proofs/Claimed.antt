@@ -11,6 +11,7 @@ use Rattle.kernel.proofs.Kernel.fresh.Met as fresh-code
 use Rattle.kernel.proofs.Kernel.sound.Met as sound-code
 use Rattle.kernel.proofs.Kernel.step.Met as step-code
 use Rattle.kernel.proofs.Kernel.step_line.Met as line-code
+use Rattle.kernel.proofs.Kernel.runs.Met as runs-code
 use Rattle.kernel.proofs.Session.fresh.Met as session-code
 use Rattle.kernel.proofs.Session.answer.Met as answer-code
 use Rattle.kernel.proofs.Session.end.Met as end-code
@@ -23,8 +24,9 @@ use Rattle.promises.proofs.Gate.{both-sides-of-the-gate}
 use Rattle.promises.proofs.TurnedAway.{decided}
 use Rattle.promises.proofs.Reaches.{program-placed}
 use Rattle.histories.proofs.PaidBack.{program-pays-back}
+use Rattle.histories.proofs.NeverAgain.{never-again-task, never-again-object, made-once-task, made-once-object}
 use Rattle.claims.specs.Types.{Call, Read}
-use Rattle.claims.specs.Claims.{Code, Values, Refused, Ruled, Journalled, Kept, Claims}
+use Rattle.claims.specs.Claims.{Code, Values, Refused, Ruled, Journalled, Kept, NeverAgain, Claims}
 use Rattle.claims.proofs.Values.{test-says, says-test, full-stands}
 use Rattle.claims.proofs.Exact.{step-exactly, accepted-so, unsound-stays}
 use Rattle.claims.proofs.Unique.{line-so}
@@ -38,6 +40,7 @@ code =
       sound = sound-code.met;
       step = step-code.met;
       step-line = line-code.met;
+      runs = runs-code.met;
       fresh-session = session-code.met;
       answer = answer-code.met;
       end = end-code.met;
@@ -90,5 +93,8 @@ kept =
       session-borrowed = session-pays-back;
     }
 
+never-again : NeverAgain
+never-again = record { task-gone = never-again-task; object-gone = never-again-object; task-once = made-once-task; object-once = made-once-object }
+
 pub claims : Claims
-claims = record { code = code; values = values; total = total; refused = refused; ruled = ruled; journalled = journalled; kept = kept }
+claims = record { code = code; values = values; total = total; refused = refused; ruled = ruled; journalled = journalled; kept = kept; never-again = never-again }

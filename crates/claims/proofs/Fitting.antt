@@ -9,7 +9,6 @@ use Rattle.lists.specs.Choice.{if_then_else_}
 use Rattle.lists.specs.Lists.{foldl}
 use Rattle.calls.specs.declared.Answer.the-variants.{Done, Made, Waiting, Refused}
 use Rattle.calls.specs.Behind.{asked}
-use Rattle.calls.specs.Door.{number}
 use Rattle.calls.specs.Said.{Saying, says, said, done, made, waiting}
 use Rattle.slots.specs.Places.{isBlocked}
 use Rattle.slots.specs.Values.{taskAt}
@@ -28,7 +27,7 @@ use Rattle.rows.specs.Asking.{makes}
 use Rattle.rules.specs.Refusals.{newSlot}
 use Rattle.rules.specs.Refusals.{refusal}
 use Rattle.rules.specs.Effects.{effect}
-use Rattle.rules.specs.Steps.{answered, accepted, turnedAway, step}
+use Rattle.rules.specs.Steps.{newNumber, answered, accepted, turnedAway, step}
 use Rattle.rules.specs.Sessions.{noLine, stepTold, readLine, stepOfLine, Run, closed}
 use Rattle.rules.specs.Trace.{CallMade}
 use Rattle.kernel.specs.Stands.{kernelOf, shown, standing}
@@ -58,8 +57,8 @@ accepted-answer : (k : State) (a : Asked) (next : State) → Answered (answered 
 unfolding answered
 accepted-answer k a next = go (makes a) (isBlocked (taskAt (next .tasks) (k .running) .place))
   where
-    go : (b c : Bool) → Answered (if b then says made (number (newSlot k a)) else if c then says waiting 0 else says done 0)
-    go true c = record { answer = Made (number (newSlot k a)); says-it = refl }
+    go : (b c : Bool) → Answered (if b then says made (newNumber (k .uses) a (newSlot k a)) else if c then says waiting 0 else says done 0)
+    go true c = record { answer = Made (newNumber (k .uses) a (newSlot k a)); says-it = refl }
     go false true = record { answer = Waiting; says-it = refl }
     go false false = record { answer = Done; says-it = refl }
 
@@ -68,10 +67,10 @@ unfolding step accepted
 step-answer k c item s = go (eqb no 0)
   where
     no : ℕ
-    no = refusal k (asked c) (length item) (length s)
+    no = refusal k (asked (k .uses) c) (length item) (length s)
 
-    go : (b : Bool) → Answered ((if b then accepted k (asked c) item s else turnedAway k no s) .answer)
-    go true = accepted-answer k (asked c) (chosen (effect k (asked c)))
+    go : (b : Bool) → Answered ((if b then accepted k (asked (k .uses) c) item s else turnedAway k no s) .answer)
+    go true = accepted-answer k (asked (k .uses) c) (chosen (effect k (asked (k .uses) c)))
     go false = record { answer = Refused no; says-it = refl }
 
 steps : (k : Kernel) (c : Call) (item s : List ℕ) → OneFits (λ (x : Step × List ℕ). Steps k c item s (x .0) (x .1))

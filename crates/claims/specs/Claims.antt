@@ -1,8 +1,8 @@
 -- What all of it is worth: the three demands, sentence by sentence, in their words. Each field cites the definitions that a reader has to believe; that all of it is true: proofs/Claimed.
 use Prim.Native.Nat.{ℕ, _≤_}
 use mathlib.Core.Path.{_≡_}
-use mathlib.Core.Bool.{Bool, true}
-use mathlib.Core.List.{List, [], map}
+use mathlib.Core.Bool.{Bool, true, false}
+use mathlib.Core.List.{List, [], map, _++_, _∷_}
 use lib.ListN.{length, take, replicate}
 use Rattle.calls.specs.Table.{called}
 use Rattle.journal.specs.Line.{lineOf, HasLine}
@@ -18,6 +18,7 @@ use Rattle.kernel.proofs.Kernel.fresh.Statement as fresh-code
 use Rattle.kernel.proofs.Kernel.sound.Statement as sound-code
 use Rattle.kernel.proofs.Kernel.step.Statement as step-code
 use Rattle.kernel.proofs.Kernel.step_line.Statement as line-code
+use Rattle.kernel.proofs.Kernel.runs.Statement as runs-code
 use Rattle.kernel.proofs.Session.fresh.Statement as session-code
 use Rattle.kernel.proofs.Session.answer.Statement as answer-code
 use Rattle.kernel.proofs.Session.end.Statement as end-code
@@ -32,6 +33,7 @@ use Rattle.promises.specs.ByLines.{LineSteps, ProgramAnswers}
 use Rattle.promises.specs.Turns.{Turn, cameIn}
 use Rattle.promises.specs.Reached.{programCalls}
 use Rattle.histories.specs.Borrowed.{PaysBack}
+use Rattle.histories.specs.Again.{namesTask, namesObject, momentFrom, madeTask, madeObject}
 use Rattle.claims.specs.Types.{TaskSlot, TaskNo, Call, Answer, Asked, Read, Says, Written, Count, State, Kernel, Step, Session, Served}
 use Rattle.claims.specs.Values.{SoundValue, Full, Stands}
 use Rattle.claims.specs.Exact.{ValueRefused, ValueAccepted, tableFor, ValueExactly}
@@ -49,6 +51,7 @@ pub record Code : Type 2 where
   pub sound : {M : Type 1} → sound-code.statement M
   pub step : {M : Type 1} → step-code.statement M
   pub step-line : {M : Type 1} → line-code.statement M
+  pub runs : {M : Type 1} → runs-code.statement M
   pub fresh-session : {M : Type 1} → session-code.statement M
   pub answer : {M : Type 1} → answer-code.statement M
   pub end : {M : Type 1} → end-code.statement M
@@ -125,6 +128,17 @@ pub record Kept : Type 0 where
   pub session-placed : (ts : List Turn) (p : Port) → Turned freshPort ts p → Placed (shown (p .session .kernel))
   pub session-borrowed : (ts : List Turn) (p : Port) (f : Turned freshPort ts p) (t : TaskSlot) → PaysBack (programCalls (linesOf (session-so-far ts p f .taken))) (shown (p .session .kernel)) t
 
+-- Over any history from the fresh kernel, for tasks and for objects: a number that was given up names nothing ever after, and no number is made twice.
+pub record NeverAgain : Type 0 where
+  pub task-gone : (ms ns : List CallMade) (m : CallMade) (n : ℕ) → namesTask (reached ms) n ≡ true → namesTask (reached (ms ++ (m ∷ []))) n ≡ false
+      → namesTask (reached (ms ++ (m ∷ []) ++ ns)) n ≡ false
+  pub object-gone : (ms ns : List CallMade) (m : CallMade) (n : ℕ) → namesObject (reached ms) n ≡ true → namesObject (reached (ms ++ (m ∷ []))) n ≡ false
+      → namesObject (reached (ms ++ (m ∷ []) ++ ns)) n ≡ false
+  pub task-once : (ms ns : List CallMade) (m l : CallMade) (n : ℕ) → madeTask (momentFrom (reached ms) m) n ≡ true
+      → madeTask (momentFrom (reached (ms ++ (m ∷ []) ++ ns)) l) n ≡ false
+  pub object-once : (ms ns : List CallMade) (m l : CallMade) (n : ℕ) → madeObject (momentFrom (reached ms) m) n ≡ true
+      → madeObject (momentFrom (reached (ms ++ (m ∷ []) ++ ns)) l) n ≡ false
+
 pub record Claims : Type 2 where
   pub code : Code
   pub values : Values
@@ -133,3 +147,4 @@ pub record Claims : Type 2 where
   pub ruled : Ruled
   pub journalled : Journalled
   pub kept : Kept
+  pub never-again : NeverAgain

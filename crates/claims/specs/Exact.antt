@@ -3,12 +3,14 @@ use Prim.Native.Nat.{ℕ}
 use mathlib.Core.Path.{_≡_}
 use mathlib.Core.List.{List}
 use lib.ListN.{length}
+use Rattle.calls.specs.declared.Asked.{Asked}
 use Rattle.calls.specs.Behind.{asked}
 use Rattle.calls.specs.Said.{says, said, refused}
+use Rattle.rules.specs.Tables.{withUses}
 use Rattle.rules.specs.Lines.{chosen}
 use Rattle.rows.specs.Applies.{Row}
 use Rattle.rules.specs.Effects.{effect}
-use Rattle.rules.specs.Steps.{answered, stored}
+use Rattle.rules.specs.Steps.{answered, stored, usesAfter}
 use Rattle.kernel.specs.Stands.{kernelOf, shown}
 use Rattle.promises.specs.TurnedAway.{wholeTable, First, None}
 use Rattle.claims.specs.Types.{Call, Kernel, Step}
@@ -19,16 +21,20 @@ pub record ValueRefused (k : Kernel) (s : List ℕ) (n : ℕ) (r : Step) (after 
   pub kernel : r .kernel ≡ k
   pub store : after ≡ s
 
+-- the call behind the door of a kernel value
+abbrev pub behind : Kernel → Call → Asked
+behind k c = asked (shown k .uses) c
+
 -- r and the store `after` are what the call tables say, and no refusal
 pub record ValueAccepted (k : Kernel) (c : Call) (item s : List ℕ) (r : Step) (after : List ℕ) : Type 0 where
-  pub kernel : r .kernel ≡ kernelOf (chosen (effect (shown k) (asked c)))
-  pub answer : said (r .answer) ≡ answered (shown k) (asked c) (chosen (effect (shown k) (asked c)))
-  pub store : after ≡ stored (shown k) (asked c) item s
+  pub kernel : r .kernel ≡ kernelOf (withUses (chosen (effect (shown k) (behind k c))) (usesAfter (shown k .uses) (behind k c)))
+  pub answer : said (r .answer) ≡ answered (shown k) (behind k c) (chosen (effect (shown k) (behind k c)))
+  pub store : after ≡ stored (shown k) (behind k c) item s
   pub no-refusal : (n : ℕ) → said (r .answer) ≡ says refused n → ⊥
 
 -- the table, of a kernel value and a call
 abbrev pub tableFor : Kernel → Call → List ℕ → List ℕ → List Row
-tableFor k c item s = wholeTable (shown k) (asked c) (length item) (length s)
+tableFor k c item s = wholeTable (shown k) (behind k c) (length item) (length s)
 
 -- refused n exactly if row n is the first that applies, and then nothing has changed; else accepted
 pub record ValueExactly (k : Kernel) (c : Call) (item s : List ℕ) (r : Step) (after : List ℕ) : Type 0 where

@@ -11,14 +11,14 @@ use Rattle.claims.specs.Types.{Kernel}
 -- "A kernel value is sound when"
 pub record SoundValue (k : Kernel) : Type 0 where
   -- "a number that a state does not use is 0"
-  pub unused : plain k ≡ true
+  pub unused : plain (k .core) ≡ true
   -- and every other sentence holds of what its tables read as
-  pub state : Sound (asRows k)
+  pub state : Sound (asRows (k .core) (k .uses))
 
 -- what the code's types say: each column of the two tables has its sixteen numbers
 pub record Full (k : Kernel) : Type 0 where
-  pub tasks : FullTasks (k .tasks)
-  pub objects : FullObjects (k .objects)
+  pub tasks : FullTasks (k .core .tasks)
+  pub objects : FullObjects (k .core .objects)
 
 -- a sound value is that of the state that it shows. The code's `sound` promises it of every value that code holds
 abbrev pub Stands : Kernel → Type 0

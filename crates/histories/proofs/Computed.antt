@@ -1,6 +1,9 @@
 -- Loans made, kept and paid back: computed histories, in which the kernel and its history tell the same.
 use mathlib.Core.Path.{_≡_, refl}
+use mathlib.Core.Bool.{true, false}
+use mathlib.Core.List.{[], _∷_, map}
 use Rattle.lists.specs.Lists.{every, allBelow, foldl, upTo, index, any, kept}
+use Rattle.calls.specs.Door.{freshUses, usesFine}
 use Rattle.calls.specs.Behind.{asked}
 use Rattle.order.specs.Order.{ordered, without}
 use Rattle.order.specs.Tidy.{count, tidy}
@@ -15,8 +18,8 @@ use Rattle.rules.specs.Refusals.{heldOrWaited, inUse}
 use Rattle.rows.specs.Applies.{noTick, table}
 use Rattle.rules.specs.Refusals.{laterRow, refusal}
 use Rattle.rules.specs.Sound.{tablesFine, levelsFine, listingFine, clockFine, noHigher, runsFine, sound}
-use Rattle.rules.specs.Steps.{stored, answered, accepted, step}
-use Rattle.rules.specs.Trace.{trace}
+use Rattle.rules.specs.Steps.{stored, answered, usesAfter, accepted, step}
+use Rattle.rules.specs.Trace.{trace, stepMade}
 use Rattle.slots.specs.Values.{taskAt}
 use Rattle.slots.specs.Kinds.{kindAt}
 use Rattle.rules.specs.Tables.{fresh, holds, freeSlot, freeObject}
@@ -25,7 +28,9 @@ use Rattle.rules.specs.Ticks.{wokenIfDue, wakes, oneTick, turned, ticked, ticks
 use Rattle.rules.specs.Waits.{arrives, waitFor}
 use Rattle.histories.specs.Moments.{tasksBelow}
 use Rattle.histories.specs.Borrowed.{largest, givenAt, lastGiven, lentAt, countedSince, due}
-use Rattle.histories.specs.Tales.{shownAfter, shownBy, twoGives, setWithLoan, timeRunsOut, handedWithWaiter, lendsBorrowed, refusedChange, slotUsedAgain}
+use Rattle.histories.specs.Tales.{unlent, shownAfter, shownBy, twoGives, setWithLoan, timeRunsOut, handedWithWaiter, lendsBorrowed, refusedChange, slotUsedAgain}
+use Rattle.histories.specs.Again.{namesTask, namesObject, madeTask, madeObject, usedAgain, atEach}
+use Rattle.histories.specs.ByFullNumber.{givenTo}
 
 pub record TalesFit : Type 0 where
   -- a loan is made, kept over the first of two gives, and paid back at the last
@@ -49,7 +54,7 @@ unfolding trace shownAfter twoGives setWithLoan timeRunsOut handedWithWaiter len
     resumed yielded delayed queueMade mutexMade removed taken handedOn given effect itemAt outlet sent storeSent received storeReceived line
     those highest leader first chosen toTail toHead leaves moved movedIf prioritized newPriority lent ownAgain outOfRange namesNone wrongSize
     notForIdle notWithHold noneFree heldOrWaited inUse notHis hisAlready notSuspended mustWait noDepth noTick table laterRow refusal noHigher
-    runsFine tablesFine levelsFine listingFine clockFine sound stored answered accepted step fresh taskAt kindAt holds freeSlot freeObject wokenIfDue wakes byNumber oneTick turned ticked
+    runsFine tablesFine levelsFine listingFine clockFine usesFine sound stored answered usesAfter accepted step fresh freshUses taskAt kindAt holds freeSlot freeObject wokenIfDue wakes byNumber oneTick turned ticked
     ticks released held arrives waitFor
 tales-fit = record {
   kept-over-first-give = refl;
@@ -59,4 +64,38 @@ tales-fit = record {
   lends-effective = refl;
   not-if-refused = refl;
   another-task = refl;
+}
+
+-- each slot is used again, with another number
+pub record AgainFits : Type 0 where
+  pub first-made : atEach (λ m. madeTask m 1) ≡ true ∷ false ∷ false ∷ false ∷ false ∷ false ∷ []
+  pub first-named : atEach (λ m. namesTask (m .gave .kernel) 1) ≡ true ∷ false ∷ false ∷ false ∷ false ∷ false ∷ []
+  pub second-made : atEach (λ m. madeTask m 17) ≡ false ∷ false ∷ true ∷ false ∷ false ∷ false ∷ []
+  pub second-named : atEach (λ m. namesTask (m .gave .kernel) 17) ≡ false ∷ false ∷ true ∷ true ∷ true ∷ true ∷ []
+  pub first-mutex : atEach (λ m. madeObject m 0) ≡ false ∷ false ∷ false ∷ true ∷ false ∷ false ∷ []
+  pub first-mutex-named : atEach (λ m. namesObject (m .gave .kernel) 0) ≡ false ∷ false ∷ false ∷ true ∷ false ∷ false ∷ []
+  pub second-mutex : atEach (λ m. madeObject m 16) ≡ false ∷ false ∷ false ∷ false ∷ false ∷ true ∷ []
+  pub second-mutex-named : atEach (λ m. namesObject (m .gave .kernel) 16) ≡ false ∷ false ∷ false ∷ false ∷ false ∷ true ∷ []
+  -- each number is given what its own create says
+  pub first-given : map (givenTo 1) (trace stepMade fresh [] (map unlent usedAgain)) ≡ (3 ∷ []) ∷ [] ∷ [] ∷ [] ∷ [] ∷ [] ∷ []
+  pub second-given : map (givenTo 17) (trace stepMade fresh [] (map unlent usedAgain)) ≡ [] ∷ [] ∷ (5 ∷ []) ∷ [] ∷ [] ∷ [] ∷ []
+
+pub again-fits : AgainFits
+unfolding trace usedAgain givenTo every allBelow foldl upTo index any kept asked ordered without count tidy putAt created deleted suspended
+    resumed yielded delayed queueMade mutexMade removed taken handedOn given effect itemAt outlet sent storeSent received storeReceived line
+    those highest leader first chosen toTail toHead leaves moved movedIf prioritized newPriority lent ownAgain outOfRange namesNone wrongSize
+    notForIdle notWithHold noneFree heldOrWaited inUse notHis hisAlready notSuspended mustWait noDepth noTick table laterRow refusal noHigher
+    runsFine tablesFine levelsFine listingFine clockFine usesFine sound stored answered usesAfter accepted step fresh freshUses taskAt kindAt holds freeSlot freeObject wokenIfDue wakes byNumber oneTick turned ticked
+    ticks released held arrives waitFor
+again-fits = record {
+  first-made = refl;
+  first-named = refl;
+  second-made = refl;
+  second-named = refl;
+  first-mutex = refl;
+  first-mutex-named = refl;
+  second-mutex = refl;
+  second-mutex-named = refl;
+  first-given = refl;
+  second-given = refl;
 }

@@ -24,12 +24,12 @@ use Rattle.rows.specs.Applies.{hisAlready}
 use Rattle.rules.specs.Waits.{wakeOf, arrives, waitFor}
 use Rattle.rules.specs.Loans.{prioritized, lent, ownAgain}
 use Rattle.rules.specs.Effects.{takenFrom, taken, handedOn, given}
-use Rattle.rules.proofs.TableSlots.{exists-there, by-kind}
+use Rattle.rules.proofs.TableSlots.{by-kind}
 use Rattle.rules.proofs.TableHolds.{some-holds}
 use Rattle.rules.proofs.RowPasses.{Passed}
 use Rattle.rules.proofs.KeepSlot.{at-same, at-other}
 use Rattle.rules.proofs.KeepBlocks.{Same, prioritized-same, prioritized-tasks}
-use Rattle.rules.proofs.Keeps.{exists-low, ready-low}
+use Rattle.rules.proofs.Keeps.{there-low, ready-low}
 use Rattle.rules.specs.Trace.{Moment, CallMade}
 use Rattle.histories.specs.Types.{TaskSlot, ObjNo, ObjSlot, Wake, Place, Waiting, Task, By, Mutex, State, Take, Give}
 use Rattle.histories.specs.Moments.{waitsIn}
@@ -59,9 +59,9 @@ module _ (k : State) (S : Sound k) (n : ℕ) (a : Saying) where
   caller-low = ready-low (k .tasks) r (S .tables .task-slots) (S .running .runs .ready)
 
   -- 15: take of a mutex that h holds
-  module _ (num : ObjNo) (w : ℕ) (P : Passed k (asked (Take num w)) n) (h : TaskSlot) (kind : kindAt (k .objects) (objSlot num) ≡ Mutex (By h)) where
+  module _ (num : ObjNo) (w : ℕ) (P : Passed k (asked (k .uses) (Take num w)) n) (h : TaskSlot) (kind : kindAt (k .objects) (objSlot (k .uses) num) ≡ Mutex (By h)) where
     abbrev o : ObjSlot
-    o = objSlot num
+    o = objSlot (k .uses) num
 
     abbrev eff : ℕ
     eff = larger (level (k .tasks) h) (level (k .tasks) r)
@@ -77,10 +77,10 @@ module _ (k : State) (S : Sound k) (n : ℕ) (a : Saying) where
 
     -- the holder is there, and is not the caller
     holder-there : isFree (taskAt (k .tasks) h .place) ≡ false
-    holder-there = exists-there (taskAt (k .tasks) h .place) (S .tables .holders h o kind)
+    holder-there = S .tables .holders h o kind
 
     holder-low : h .0 < length (k .tasks)
-    holder-low = omega (arith, exists-low (k .tasks) h (S .tables .task-slots) holder-there, S .tables .task-slots)
+    holder-low = omega (arith, there-low (k .tasks) h (S .tables .task-slots) holder-there, S .tables .task-slots)
 
     not-caller : h .0 ≡ r .0 → ⊥
     unfolding asked hisAlready
@@ -168,16 +168,16 @@ module _ (k : State) (S : Sound k) (n : ℕ) (a : Saying) where
     unfolding asked
     wait-fair t = that-or-other h t (λ v. Fair wait v) holder-fair (λ d. quiet-fair wait t (none-given t wait refl refl) (others t d))
 
-  pub take-fair : (num : ObjNo) (w : ℕ) → Passed k (asked (Take num w)) n → (t : TaskSlot) → Fair (moment k (Take num w) a (taken k (objSlot num) w)) t
+  pub take-fair : (num : ObjNo) (w : ℕ) → Passed k (asked (k .uses) (Take num w)) n → (t : TaskSlot) → Fair (moment k (Take num w) a (taken k (objSlot (k .uses) num) w)) t
   unfolding taken asked lent
   take-fair num w P t =
-      by-kind (kindAt (k .objects) (objSlot num)) (λ x. Fair (moment k (Take num w) a (takenFrom k (objSlot num) x w)) t) (quiet-fair _ t (none-given t _ refl refl) still)
-      (λ q e. quiet-fair _ t (none-given t _ refl refl) still) (λ e. quiet-fair _ t (none-given t _ refl refl) still) (λ h e. wait-fair num w P h e t)
+      by-kind (kindAt (k .objects) (objSlot (k .uses) num)) (λ x. Fair (moment k (Take num w) a (takenFrom k (objSlot (k .uses) num) x w)) t) (quiet-fair _ t (none-given t _ refl refl) still)
+      (quiet-fair _ t (none-given t _ refl refl) still) (λ q e. quiet-fair _ t (none-given t _ refl refl) still) (λ e. quiet-fair _ t (none-given t _ refl refl) still) (λ h e. wait-fair num w P h e t)
 
   -- 16: give
   module _ (num : ObjNo) where
     abbrev p : ObjSlot
-    p = objSlot num
+    p = objSlot (k .uses) num
 
     abbrev i : State
     i = handedOn k p

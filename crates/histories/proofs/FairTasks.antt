@@ -11,12 +11,12 @@ use Rattle.lists.specs.Choice.{if_then_else_}
 use Rattle.lists.specs.Lists.{larger}
 use Rattle.lists.proofs.Tests.{larger-max}
 use Rattle.numbers.specs.Numbers.{task, sameTask}
-use Rattle.calls.specs.Door.{taskSlot}
+use Rattle.calls.specs.Door.{lastIn, taskSlot}
 use Rattle.calls.specs.Behind.{asked}
 use Rattle.calls.specs.Said.{Saying}
 use Rattle.order.proofs.Passing.{one-number}
 use Rattle.slots.specs.Places.{isFree, waitsOn}
-use Rattle.slots.specs.Values.{freeTask, readyAt, ranked, taskAt}
+use Rattle.slots.specs.Values.{freeTask, spentTask, readyAt, ranked, taskAt}
 use Rattle.rules.specs.Tables.{holds, freeSlot}
 use Rattle.rules.specs.Lines.{level, toTail, leaves}
 use Rattle.rules.specs.Sentences.{Sound}
@@ -28,10 +28,10 @@ use Rattle.rules.proofs.TableHolds.{none-holds}
 use Rattle.rules.proofs.RowPasses.{Passed}
 use Rattle.rules.proofs.KeepSlot.{at-same}
 use Rattle.rules.proofs.KeepBlocks.{prioritized-same, prioritized-tasks}
-use Rattle.rules.proofs.Keeps.{exists-low}
+use Rattle.rules.proofs.Keeps.{there-low}
 use Rattle.rules.proofs.KeepTasks.{has-slot, is-free}
 use Rattle.rules.specs.Trace.{Moment, CallMade}
-use Rattle.histories.specs.Types.{TaskNo, TaskSlot, Place, Free, Ready, Delayed, Waiting, Suspended, Task, State, Call, Create, Delete, SetPriority}
+use Rattle.histories.specs.Types.{TaskNo, TaskSlot, ObjSlot, Place, Free, Ready, Delayed, Waiting, Suspended, Task, State, Call, Create, Delete, SetPriority}
 use Rattle.histories.specs.Moments.{isRefusal}
 use Rattle.histories.specs.Borrowed.{largest, givenAt}
 use Rattle.histories.proofs.Quiet.{Quiet, each, slot-quiet, ranked-quiet}
@@ -51,13 +51,6 @@ that-or-other u t P h o = go (sameTask u t) refl
     go true e = subst P (one-number u t (eqb-true (u .0) (t .0) e)) h
     go false e = o (eqb-false (u .0) (t .0) e)
 
-pub no-place : (p : Place) → isFree p ≡ true → p ≡ Free
-no-place Free e = refl
-no-place Ready e = absurd (false≢true e)
-no-place (Delayed w) e = absurd (false≢true e)
-no-place (Waiting o w) e = absurd (false≢true e)
-no-place Suspended e = absurd (false≢true e)
-
 -- a priority changed leaves every place
 pub places-kept : (k : State) (t : TaskSlot) (own eff : ℕ) (v : TaskSlot) → taskAt (prioritized k t own eff .tasks) v .place ≡ taskAt (k .tasks) v .place
 places-kept k t own eff v =
@@ -75,9 +68,21 @@ prioritized-quiet k t u own eff d =
 some-given : {p : ℕ} {l : List ℕ} → l ≡ p ∷ [] → l ≡ [] → ⊥
 some-given e f = let z : _≡_ {A = ℕ} 0 1 = cc in omega arith
 
+-- what a delete leaves in the slot: no task, and no wait
+abbrev left : Bool → Task
+left last = if last then spentTask else freeTask
+
+left-gone : (last : Bool) → isFree (left last .place) ≡ true
+left-gone true = refl
+left-gone false = refl
+
+left-waits : (o : ObjSlot) (last : Bool) → waitsOn o (left last .place) ≡ false
+left-waits o true = refl
+left-waits o false = refl
+
 module _ (k : State) (S : Sound k) (n : ℕ) (a : Saying) where
   -- 1: create
-  module _ (p : ℕ) (P : Passed k (asked (Create p)) n) where
+  module _ (p : ℕ) (P : Passed k (asked (k .uses) (Create p)) n) where
     abbrev new : TaskSlot
     new = task (freeSlot (k .tasks))
 
@@ -90,13 +95,13 @@ module _ (k : State) (S : Sound k) (n : ℕ) (a : Saying) where
 
     holds-none : holds (created k p .objects) new ≡ false
     unfolding asked created toTail
-    holds-none = none-holds (k .objects) new (λ o h. S .tables .holders new o h (no-place _ (is-free k S n p P)))
+    holds-none = none-holds (k .objects) new (λ o h. false≢true (sym (S .tables .holders new o h) ∙ is-free k S n p P))
 
     given-first : givenAt new creation ≡ p ∷ []
     unfolding givenAt asked
     given-first = rw (now-there, is-free k S n p P)
 
-    others : (t : TaskSlot) → (new .0 ≡ t .0 → ⊥) → Quietly t k (created k p)
+    pub others : (t : TaskSlot) → (new .0 ≡ t .0 → ⊥) → Quietly t k (created k p)
     unfolding created toTail
     others t d = slot-quiet t (k .objects) (k .tasks) new (readyAt p) (λ e. absurd (d e)) (λ o h w. absurd (false≢true w))
 
@@ -114,12 +119,15 @@ module _ (k : State) (S : Sound k) (n : ℕ) (a : Saying) where
         (λ d. let q = others t d in quiet-fair creation t (none-given t creation (not-new _ _ (q .there)) refl) q)
 
   -- 2: delete
-  module _ (num : TaskNo) (P : Passed k (asked (Delete num)) n) where
+  module _ (num : TaskNo) (P : Passed k (asked (k .uses) (Delete num)) n) where
     abbrev old : TaskSlot
-    old = taskSlot num
+    old = taskSlot (k .uses) num
+
+    abbrev last : Bool
+    last = lastIn (k .uses .tasks) (old .0)
 
     abbrev deletion : Moment CallMade
-    deletion = moment k (Delete num) a (deleted k old)
+    deletion = moment k (Delete num) a (deleted k old last)
 
     was-there : isFree (taskAt (k .tasks) old .place) ≡ false
     unfolding asked namesNone
@@ -129,21 +137,23 @@ module _ (k : State) (S : Sound k) (n : ℕ) (a : Saying) where
     unfolding asked inUse
     held-none = or-off (holds (k .objects) old) _ (P .unused) .0
 
-    now-gone : isFree (taskAt (deleted k old .tasks) old .place) ≡ true
+    pub now-gone : isFree (taskAt (deleted k old last .tasks) old .place) ≡ true
     unfolding deleted leaves
-    now-gone = ap (λ (x : Task). isFree (x .place)) (at-same (k .tasks) old freeTask (omega (arith, exists-low (k .tasks) old (S .tables .task-slots) was-there, S .tables .task-slots)))
+    now-gone =
+        ap (λ (x : Task). isFree (x .place)) (at-same (k .tasks) old (left last) (omega (arith, there-low (k .tasks) old (S .tables .task-slots) was-there, S .tables .task-slots)))
+        ∙ left-gone last
 
     pub delete-fair : (t : TaskSlot) → Fair deletion t
     unfolding deleted leaves asked
     delete-fair t =
         that-or-other old t (λ v. Fair deletion v)
         (bare-fair deletion old held-none (λ e. absurd (false≢true (sym e ∙ now-gone))) (λ e g. absurd (false≢true (sym e ∙ now-gone))))
-        (λ d. quiet-fair deletion t (none-given t deletion refl refl) (slot-quiet t (k .objects) (k .tasks) old freeTask (λ e. absurd (d e)) (λ o h w. absurd (false≢true w))))
+        (λ d. quiet-fair deletion t (none-given t deletion refl refl) (slot-quiet t (k .objects) (k .tasks) old (left last) (λ e. absurd (d e)) (λ o h w. absurd (false≢true (sym (left-waits o last) ∙ w)))))
 
   -- 5: set priority
-  module _ (ok : isRefusal (a .word) ≡ false) (num : TaskNo) (p : ℕ) (P : Passed k (asked (SetPriority num p)) n) where
+  module _ (ok : isRefusal (a .word) ≡ false) (num : TaskNo) (p : ℕ) (P : Passed k (asked (k .uses) (SetPriority num p)) n) where
     abbrev u : TaskSlot
-    u = taskSlot num
+    u = taskSlot (k .uses) num
 
     abbrev change : Moment CallMade
     change = moment k (SetPriority num p) a (newPriority k u p)
@@ -157,7 +167,7 @@ module _ (k : State) (S : Sound k) (n : ℕ) (a : Saying) where
 
     changed : taskAt (newPriority k u p .tasks) u ≡ ranked (taskAt (k .tasks) u) p eff
     unfolding newPriority
-    changed = ranked-at k u p eff (omega (arith, exists-low (k .tasks) u (S .tables .task-slots) named, S .tables .task-slots))
+    changed = ranked-at k u p eff (omega (arith, there-low (k .tasks) u (S .tables .task-slots) named, S .tables .task-slots))
 
     same-holds : holds (newPriority k u p .objects) u ≡ holds (k .objects) u
     unfolding newPriority

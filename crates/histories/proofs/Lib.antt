@@ -7,3 +7,6 @@ pub mod FairTasks
 pub mod FairMutexes
 pub mod FairSteps
 pub mod PaidBack
+pub mod Lives
+pub mod NeverAgain
+pub mod ByFullNumber

@@ -19,7 +19,6 @@ use Rattle.promises.specs.History.{reached}
 use Rattle.promises.specs.Program.{linesOf, answering}
 use Rattle.promises.specs.Turns.{Turn, afterTurns, atStart}
 use Rattle.promises.specs.Reached.{programCalls}
-use Rattle.rules.proofs.TableSlots.{exists-there}
 use Rattle.promises.proofs.Reaches.{program-reached, session-so-far}
 use Rattle.rules.specs.Trace.{Moment, momentOf, trace, stateAfter, CallMade, stepMade}
 use Rattle.histories.specs.Types.{TaskSlot, State}
@@ -96,7 +95,7 @@ module _ (ms : List CallMade) (t : TaskSlot) (there : Exists ((reached ms) .task
   pub without-mutex : hasMutex (reached ms) t ≡ false → level ((reached ms) .tasks) t ≡ lastGiven t (moments ms)
   without-mutex e =
       sym (sound-says (reached ms) (A .fine) .levels t .equal (not-held ((reached ms) .objects) t e))
-      ∙ A .own t (exists-there (taskAt ((reached ms) .tasks) t .place) there)
+      ∙ A .own t there
 
   -- "A task with one has the largest of" those counted since it went from none to one
   pub with-mutex : hasMutex (reached ms) t ≡ true → level ((reached ms) .tasks) t ≡ largest (countedSince t (moments ms))

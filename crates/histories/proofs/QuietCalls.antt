@@ -94,7 +94,7 @@ module _ (k : State) (S : Sound k) (t : TaskSlot) where
   caller-there = ap isFree (S .running .runs .ready)
 
   first-there : (o : ObjSlot) (u : TaskSlot) (r : List TaskSlot) → first k (WaitersOf o) ≡ u ∷ r → isFree (taskAt (k .tasks) u .place) ≡ false
-  first-there o u r e = passes-there (waitsOn o) (taskAt (k .tasks) u .place) refl (first-meant k (WaitersOf o) u (first-single k (WaitersOf o) u r e))
+  first-there o u r e = passes-there (waitsOn o) (taskAt (k .tasks) u .place) refl refl (first-meant k (WaitersOf o) u (first-single k (WaitersOf o) u r e))
 
   -- the first waiter is made ready, and takes the mutex over
   pub handed-quiet : (o : ObjSlot) → Quietly t k (handedOn k o)
@@ -145,7 +145,7 @@ module _ (k : State) (S : Sound k) (t : TaskSlot) where
         go false (u ∷ r) e = arrives-quiet t _ _ u Ready 1 refl (first-there o u r e) (λ p h. refl)
 
   pub send-quiet : (o : ObjSlot) (w : ℕ) → Quietly t k (sentTo k o (kindAt (k .objects) o) w)
-  send-quiet o w = by-kind (kindAt (k .objects) o) (λ x. Quietly t k (sentTo k o x w)) still (λ q e. sent-quiet o q w e) (λ e. still) (λ h e. still)
+  send-quiet o w = by-kind (kindAt (k .objects) o) (λ x. Quietly t k (sentTo k o x w)) still still (λ q e. sent-quiet o q w e) (λ e. still) (λ h e. still)
 
   pub receive-quiet : (o : ObjSlot) (w : ℕ) → Quietly t k (receivedFrom k o (kindAt (k .objects) o) w)
-  receive-quiet o w = by-kind (kindAt (k .objects) o) (λ x. Quietly t k (receivedFrom k o x w)) still (λ q e. received-quiet o q w e) (λ e. still) (λ h e. still)
+  receive-quiet o w = by-kind (kindAt (k .objects) o) (λ x. Quietly t k (receivedFrom k o x w)) still still (λ q e. received-quiet o q w e) (λ e. still) (λ h e. still)

@@ -23,15 +23,15 @@ largest (n ∷ ns) = larger n (largest ns)
 
 -- "given to it by its creation": by a create at which the task appears
 abbrev pub isCreated : TaskSlot → Moment CallMade → Bool
-isCreated t m = is 1 (asked (m .made .call)) && appears m t
+isCreated t m = is 1 (asked (m .before .uses) (m .made .call)) && appears m t
 
 -- "or an accepted change": by a set priority of this task
 abbrev pub isChanged : TaskSlot → Moment CallMade → Bool
-isChanged t m = is 5 (asked (m .made .call)) && (sameTask (asked (m .made .call) .task) t && notRefused m)
+isChanged t m = is 5 (asked (m .before .uses) (m .made .call)) && (sameTask (asked (m .before .uses) (m .made .call) .task) t && notRefused m)
 
 -- the priority given to t at the moment: a list of one, or of none
 unfoldable pub givenAt : TaskSlot → Moment CallMade → List ℕ
-givenAt t m = if isCreated t m || isChanged t m then asked (m .made .call) .priority ∷ [] else []
+givenAt t m = if isCreated t m || isChanged t m then asked (m .before .uses) (m .made .call) .priority ∷ [] else []
 
 -- "the priority last given to it": its creation gives one, so a slot's earlier tasks are not asked; idle counts as created with 0
 abbrev pub lastOf : List ℕ → ℕ → ℕ

@@ -7,12 +7,12 @@ pub use Rattle.calls.specs.declared.Call.{Call}
 pub use Rattle.calls.specs.declared.Call.the-variants.{Create, Delete, Suspend, Resume, SetPriority, Delay, Yield, Hold, Release, MakeQueue, MakeMutex, Remove, Send, Receive, Take, Give, Tick}
 pub use Rattle.slots.specs.declared.Wake.{Wake}
 pub use Rattle.slots.specs.declared.Place.{Place}
-pub use Rattle.slots.specs.declared.Place.the-variants.{Free, Ready, Delayed, Waiting, Suspended}
+pub use Rattle.slots.specs.declared.Place.the-variants.{Free, Ready, Delayed, Waiting, Suspended, Spent}
 pub use Rattle.slots.specs.declared.Task.{Task}
 pub use Rattle.slots.specs.declared.Ring.{Ring}
 pub use Rattle.slots.specs.declared.Holder.the-variants.{Nobody, By}
 pub use Rattle.slots.specs.declared.Kind.{Kind}
-pub use Rattle.slots.specs.declared.Kind.the-variants.{Unused, Queue, Mutex}
+pub use Rattle.slots.specs.declared.Kind.the-variants.{Unused, Spent as SpentObject, Queue, Mutex}
 pub use Rattle.slots.specs.declared.Object.{Object}
 pub use Rattle.slots.specs.declared.Who.the-variants.{AllReady, WaitersOf}
 pub use Rattle.rules.specs.State.{State}

@@ -13,8 +13,8 @@ use Rattle.rules.specs.Refusals.{newSlot}
 use Rattle.rows.specs.Applies.{sizeDiffers, firstRow, table}
 use Rattle.rules.specs.Refusals.{seen, laterRow}
 use Rattle.rules.proofs.RowPasses.{Passed, passed, InRange, in-range-of, send-sized, hold-fits, release-fits, tick-fits}
-use Rattle.kernel.specs.Types.{Kernel}
-use Rattle.kernel.specs.Stands.{shown}
+use Rattle.kernel.specs.Types.{Core}
+use Rattle.kernel.specs.Stands.{shownCore}
 use Rattle.kernel.specs.Does.{Reads, Firm}
 use Rattle.kernel.proofs.Stands.{same-hold, same-pended}
 
@@ -27,9 +27,9 @@ module _ (s : State) (a : Asked) (x : Seen) (e : x ≡ seen s a) where
   pub new-of : makes a ≡ true → x .new ≡ newSlot s a
   new-of m = ap (λ (y : Seen). y .new) e ∙ rw m
 
-module _ (k : Kernel) (F : Firm k) (a : Asked) (item store : ℕ) (e : laterRow (shown k) a item store ≡ 0) where
-  P : Passed (shown k) a store
-  P = passed (shown k) a item store e
+module _ (k : Core) (F : Firm k) (a : Asked) (item store : ℕ) (e : laterRow (shownCore k) a item store ≡ 0) where
+  P : Passed (shownCore k) a store
+  P = passed (shownCore k) a item store e
 
   pub in-range : InRange a
   in-range = in-range-of a (P .in-range)
@@ -37,23 +37,23 @@ module _ (k : Kernel) (F : Firm k) (a : Asked) (item store : ℕ) (e : laterRow 
   pub whole : store ≡ 9216
   whole = P .whole
 
-  pub right-size : a .number ≡ 13 → sizeDiffers item (kindAt (shown k .objects) (a .object)) ≡ false
-  right-size n = send-sized (shown k) a item store n e
+  pub right-size : a .number ≡ 13 → sizeDiffers item (kindAt (shownCore k .objects) (a .object)) ≡ false
+  right-size n = send-sized (shownCore k) a item store n e
 
   pub may-hold : a .number ≡ 8 → eqb (k .hold) 255 ≡ false
-  may-hold n = rw (same-hold k (shown k) (F .stands)) (hold-fits (shown k) a n (P .deep))
+  may-hold n = rw (same-hold k (shownCore k) (F .stands)) (hold-fits (shownCore k) a n (P .deep))
 
   pub may-release : a .number ≡ 9 → eqb (k .hold) 0 ≡ false
-  may-release n = rw (same-hold k (shown k) (F .stands)) (release-fits (shown k) a n (P .deep))
+  may-release n = rw (same-hold k (shownCore k) (F .stands)) (release-fits (shownCore k) a n (P .deep))
 
   pub may-tick : a .number ≡ 17 → (ltb 0 (k .hold) && eqb (k .pended) 65535) ≡ false
   may-tick n =
-      ap (λ (h : ℕ). ltb 0 h && eqb (k .pended) 65535) (same-hold k (shown k) (F .stands))
-      ∙ ap (λ (p : ℕ). ltb 0 (shown k .hold) && eqb p 65535) (same-pended k (shown k) (F .stands))
-      ∙ tick-fits (shown k) a n (P .ticks)
+      ap (λ (h : ℕ). ltb 0 h && eqb (k .pended) 65535) (same-hold k (shownCore k) (F .stands))
+      ∙ ap (λ (p : ℕ). ltb 0 (shownCore k .hold) && eqb p 65535) (same-pended k (shownCore k) (F .stands))
+      ∙ tick-fits (shownCore k) a n (P .ticks)
 
 -- the slot that was found is that of the call's own table
-module _ {k : Kernel} {n : ℕ} (a : Asked) (f : makes a ≡ true → Reads k (λ s. newSlot s a) n) where
+module _ {k : Core} {n : ℕ} (a : Asked) (f : makes a ≡ true → Reads k (λ s. newSlot s a) n) where
   pub task-slot : a .number ≡ 1 → Reads k (λ s. freeSlot (s .tasks)) n
   task-slot e s h = let m : makes a ≡ true = rw e in rw e at (f m s h)
 

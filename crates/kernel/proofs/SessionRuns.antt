@@ -36,10 +36,10 @@ use Rattle.rules.specs.Refusals.{laterRow, refusal}
 use Rattle.rules.specs.Steps.{Stepped, turnedAway, steppedBy, step}
 use Rattle.rules.specs.Sessions.{noLineOf, noLine, stepTold, stepRead, readLine, readCut, lineStep, Run, told, answeredBy, fed, noRoom, run, begun, closed}
 use Rattle.rules.proofs.KeepEvery.{step-kept}
-use Rattle.kernel.specs.Types.{Kernel, Step, Served}
+use Rattle.kernel.specs.Types.{Kernel, Uses, Step, Served}
 use Rattle.kernel.specs.Stands.{kernelOf, shown, standing}
 use Rattle.kernel.specs.Promises.{Is, SoundSteps, Ran}
-use Rattle.kernel.proofs.Shown.{shown-running, stays-standing, next-shown}
+use Rattle.kernel.proofs.Shown.{shown-running, shown-uses, stays-standing, next-shown}
 
 -- ---- what a line says
 
@@ -73,9 +73,9 @@ whole-line l m r e f =
 
 -- the step of a kernel by its soundness
 step-by : (b : Bool) (k : State) (c : Call) (item s : List ℕ) → sound k ≡ b
-    → step k c item s ≡ steppedBy (if b then laterRow k (asked c) (length item) (length s) else 1) k (asked c) item s
+    → step k c item s ≡ steppedBy (if b then laterRow k (asked (k .uses) c) (length item) (length s) else 1) k (asked (k .uses) c) item s
 unfolding step refusal
-step-by b k c item s e = ap (λ (t : Bool). steppedBy (if t then laterRow k (asked c) (length item) (length s) else 1) k (asked c) item s) e
+step-by b k c item s e = ap (λ (t : Bool). steppedBy (if t then laterRow k (asked (k .uses) c) (length item) (length s) else 1) k (asked (k .uses) c) item s) e
 
 abbrev itemOf : Read → List ℕ
 itemOf r = take (r .len) (r .item)
@@ -104,8 +104,9 @@ module _ (k : Kernel) (s : List ℕ) (r : Read) (stands : sound (shown k) ≡ tr
 
 -- else the step is the call's
 pub sound-step : (k : Kernel) (s : List ℕ) (r : Read) (c : Call) (q : Step) (after : List ℕ) → r .answer ≡ Says c → sound (shown k) ≡ true
-    → SoundSteps k (asked c) (itemOf r) s q after → Is k (stepRead (shown k) s r) q after
-sound-step k s r c q after p f = read-as k s r (Says c) _ q after p (step-by true (shown k) c (itemOf r) s f)
+    → SoundSteps k (asked (k .uses) c) (itemOf r) s q after → Is k (stepRead (shown k) s r) q after
+sound-step k s r c q after p f d = read-as k s r (Says c) _ q after p (step-by true (shown k) c (itemOf r) s f)
+    (subst (λ (us : Uses). SoundSteps k (asked us c) (itemOf r) s q after) (sym (shown-uses k)) d)
 
 -- a line's step leaves the kernel as sound as it was
 told-keeps : (k : State) (s : List ℕ) (t : Reading) (item : List ℕ) (b : Bool) → sound k ≡ b → sound (stepTold k s t item .kernel) ≡ b
@@ -287,10 +288,10 @@ module _ {k₀ : Kernel} {whole : Run} {lent block : List ℕ} {fine : Bool} {k 
   module _ (cut : Cut) (q : Step) (after : List ℕ) (room-next : ℕ) (told-out : List ℕ)
       (keeps : cut ≡ withByte (cutOf bytes len) 10)
       (is : Is k (stepRead (shown k) s (readCut cut)) q after)
-      (wrote : Wrote out written (replyOf (q .answer) (taskNo (q .kernel .running))) room-next told-out)
+      (wrote : Wrote out written (replyOf (q .answer) (taskNo (q .kernel .uses) (q .kernel .core .running))) room-next told-out)
       (room : 256 ≤ length out - written) (ends : drop at block ≡ 10 ∷ drop (at + 1) block) where
     abbrev line : List ℕ
-    line = replyOf (q .answer) (taskNo (q .kernel .running))
+    line = replyOf (q .answer) (taskNo (q .kernel .uses) (q .kernel .core .running))
 
     abbrev now : Stepped
     now = stepRead (shown k) s (readCut cut)
@@ -305,8 +306,11 @@ module _ {k₀ : Kernel} {whole : Run} {lent block : List ℕ} {fine : Bool} {k 
     next : shown (q .kernel) ≡ now .kernel
     next = next-shown k now q after is (λ e. told-stays (shown k) s (readCut cut .answer) (itemOf (readCut cut)) e)
 
-    runs : q .kernel .running ≡ now .kernel .running
+    runs : q .kernel .core .running ≡ now .kernel .running
     runs = sym (shown-running (q .kernel)) ∙ ap (λ (z : State). z .running) next
+
+    used : q .kernel .uses ≡ now .kernel .uses
+    used = sym (shown-uses (q .kernel)) ∙ ap (λ (z : State). z .uses) next
 
     as-sound : sound (shown (q .kernel)) ≡ sound (shown k)
     as-sound = ap sound next ∙ line-keeps (shown k) s (readCut cut)
@@ -318,7 +322,7 @@ module _ {k₀ : Kernel} {whole : Run} {lent block : List ℕ} {fine : Bool} {k 
       kernel = next i;
       store = is .store i;
       cut = cutOf (cut .bytes) 0;
-      answers = w .answers ++ reply (is .answer i) (taskNo (runs i));
+      answers = w .answers ++ reply (is .answer i) (taskNo (used i) (runs i));
     })
 
     stand-on : q .kernel ≡ standing k₀ (shown (q .kernel))
@@ -333,7 +337,7 @@ module _ {k₀ : Kernel} {whole : Run} {lent block : List ℕ} {fine : Bool} {k 
     pub answered-on : Going k₀ whole lent block fine (q .kernel) after (cut .bytes) 0 (at + 1) room-next told-out
     answered-on = record {
       answers = w .answers ++ line;
-      within = omega (arith, length-append (w .answers) line, reply-short (q .answer) (taskNo (q .kernel .running)), fits);
+      within = omega (arith, length-append (w .answers) line, reply-short (q .answer) (taskNo (q .kernel .uses) (q .kernel .core .running)), fits);
       wide = keeps-wide bytes (cut .bytes) len (cut .len) 10 (w .wide) keeps;
       wrote = wrote-then (w .wrote) wrote;
       known = w .known ∙ sym as-sound;
@@ -371,15 +375,15 @@ module _ (k : Kernel) (s : List ℕ) (c : Cut) (lent : List ℕ) where
 
   -- the line without a newline is answered
   pub last-told : (empty b fine : Bool) (m next : ℕ) (out : List ℕ) → empty ≡ isBlank c → b ≡ (empty || ltb (length lent) 256) → b ≡ false
-      → fine ≡ sound (shown k) → m ≡ noLineOf fine (length s) → Wrote lent 0 (replyOf (NotDone m) (taskNo (k .running))) next out
+      → fine ≡ sound (shown k) → m ≡ noLineOf fine (length s) → Wrote lent 0 (replyOf (NotDone m) (taskNo (k .uses) (k .core .running))) next out
       → Ran k (closed (length lent) (shown k) s c) lent record { session = record { kernel = k; cut = cutOf (c .bytes) 0 }; taken = 0; written = next } s out
   unfolding ended
   last-told empty b fine m next out e f g p q w =
       let room : 256 ≤ length lent = ltb-false (length lent) 256 (or-off empty (ltb (length lent) 256) (sym f ∙ g) .1) in
       let no : m ≡ noLine (shown k) s = q ∙ sym (no-line (shown k) s fine p) in
-      let x = first-text w (omega (arith, reply-short (NotDone m) (taskNo (k .running)))) in
+      let x = first-text w (omega (arith, reply-short (NotDone m) (taskNo (k .uses) (k .core .running)))) in
       subst (λ (x : Run). Ran k x lent record { session = record { kernel = k; cut = cutOf (c .bytes) 0 }; taken = 0; written = next } s out)
-      (ap (λ (u : TaskSlot). record { taken = 0; kernel = shown k; store = s; cut = ended c; answers = replyOf (NotDone m) (taskNo u) }) (sym (shown-running k))
+      ((λ i. record { taken = 0; kernel = shown k; store = s; cut = ended c; answers = replyOf (NotDone m) (taskNo (sym (shown-uses k) i) (sym (shown-running k) i)) })
       ∙ ap (λ (j : ℕ). record { taken = 0; kernel = shown k; store = s; cut = ended c; answers = told (turnedAway (shown k) j s) }) no
       ∙ sym (closed-by empty b e f ∙ ap (λ (t : Bool). if t then begun (shown k) s c else told-end) g))
       record { kernel = refl; cut = refl; taken = refl; written = x .0; store = refl; output = x .1 }

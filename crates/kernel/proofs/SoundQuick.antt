@@ -1,4 +1,4 @@
--- The test of the code, one pass over each table's columns, is the plain one of the state that is shown.
+-- The test of the code, one pass over each table's columns, is the plain one of the state that is shownCore.
 use Prim.Native.Nat.{ℕ, _<_, _≤_}
 use mathlib.Core.Path.{_≡_, refl, sym, ap, _∙_}
 use mathlib.Core.Bool.{Bool, true, false, false≢true, not, _&&_, _||_}
@@ -49,9 +49,11 @@ use Rattle.rules.proofs.SoundTables.{TablesTested, tables-tested, tested-tables
 use Rattle.rules.proofs.SoundListing.{ListingTested, listing-tested, tested-listing}
 use Rattle.rules.proofs.SoundClock.{ClockTested, clock-tested, tested-clock}
 use Rattle.rules.proofs.SoundSays.{Tested, sound-tested, tested-sound}
-use Rattle.kernel.specs.Types.{Kernel}
-use Rattle.kernel.specs.Stands.{kernelOf, plain, asRows, withoutTables as noTables, shown}
-use Rattle.kernel.proofs.Shown.{no-tables}
+use Rattle.kernel.specs.Types.{Core}
+use Rattle.kernel.specs.Stands.{coreOf, plain, asRows, withoutTables as noTables, shownWith, shownCore}
+use Rattle.calls.specs.Door.{freshUses}
+use Rattle.kernel.proofs.Shown.{fresh-fine, no-tables}
+use Rattle.slots.specs.declared.Place.the-variants.{Spent}
 
 -- ── small laws
 ready-once : (n : ℕ) (p : Place) → isReady p ≡ true → standsFine n p ≡ true → n ≡ 1
@@ -187,6 +189,7 @@ module _ (os : Objects) (hs : Holdings) (H : HoldingsAre os hs) where
   waits-is t Ready = refl
   waits-is t (Delayed w) = refl
   waits-is t Suspended = refl
+  waits-is t Spent = refl
   waits-is t (Waiting o w) = go (ltb (o .0) 16) refl
     where
       go : (b : Bool) → ltb (o .0) 16 ≡ b → (b && mayWaitOn (hs .open) (hs .taken) (hs .holder) t (o .0)) ≡ mayWait t (kindAt (kindsOf os) o)
@@ -196,13 +199,13 @@ module _ (os : Objects) (hs : Holdings) (H : HoldingsAre os hs) where
       go false q = sym (ap (mayWait t) (past-objects (kindsOf os) o (omega (arith, H .many, ltb-false (o .0) 16 q))))
 
 -- ── the whole test
-module _ (k : Kernel) (stands : List ℕ) (hs : Holdings) (fine : Bool) (F : Fine (k .tasks) (k .tick) stands (hs .held) fine) (H : HoldingsAre (k .objects) hs)
+module _ (k : Core) (stands : List ℕ) (hs : Holdings) (fine : Bool) (F : Fine (k .tasks) (k .tick) stands (hs .held) fine) (H : HoldingsAre (k .objects) hs)
     (tallies : stands ≡ talliesOf (listed (k .order))) (places : length (k .order .places) ≡ 16) (ranges : counted (k .tick) (k .hold) (k .pended) ≡ true) where
   abbrev ts : Tasks
   ts = k .tasks
 
   abbrev s : State
-  s = asRows k
+  s = asRows k freshUses
 
   stands-at : (n : ℕ) → n < 16 → getD stands n 0 ≡ count n (listed (k .order))
   stands-at n l = ap (λ (c : List ℕ). getD c n 0) tallies ∙ tallies-count (listed (k .order)) n l
@@ -307,6 +310,7 @@ module _ (k : Kernel) (stands : List ℕ) (hs : Holdings) (fine : Bool) (F : Fin
             pends = and-right (tidy (k .order)) pends orders;
           };
           runs = sym (runs-is ts (F .many) (listed (k .order)) (λ n l. rw (← row n l) (once n l)) (k .running) (k .hold)) ∙ and-left runs _ last;
+          uses = fresh-fine;
         }
 
   -- and back
@@ -377,17 +381,17 @@ module _ (k : Kernel) (stands : List ℕ) (hs : Holdings) (fine : Bool) (F : Fin
             (rw (← kind n l) (and-intro (ringInRange (slotKind (s .objects) n)) (holderSlot (slotKind (s .objects) n)) (all-below 16 _ (T .rings) n l)
             (all-below 16 _ (and-left slotted unheld halves) n l)))
 
-  pub quick-is : quick ≡ sound (shown k)
-  unfolding shown
+  pub quick-is : quick ≡ sound (shownCore k)
+  unfolding shownWith
   quick-is = same-test quick _ (λ q. rw (is-plain q) (to-plain q)) (λ e. go (plain k) refl e)
     where
-      go : (b : Bool) → plain k ≡ b → sound (if b then asRows k else noTables k) ≡ true → quick ≡ true
+      go : (b : Bool) → plain k ≡ b → sound (if b then asRows k freshUses else noTables k freshUses) ≡ true → quick ≡ true
       go true p e = from-plain e p
-      go false p e = absurd (no-tables k e)
+      go false p e = absurd (no-tables k freshUses e)
 
   -- what passes stands for the state that it shows
-  pub stands-for : quick ≡ true → k ≡ kernelOf (shown k)
-  unfolding shown kernelOf
+  pub stands-for : quick ≡ true → k ≡ coreOf (shownCore k)
+  unfolding shownWith coreOf
   stands-for q =
       let f = and-left fine _ (tables q) in
       let g = and-right waits _ (and-right fine _ (tables q)) in

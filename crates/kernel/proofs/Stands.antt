@@ -1,22 +1,22 @@
 -- A kernel value that stands for a state has the state's order, caller and numbers.
 use mathlib.Core.Path.{_≡_, ap}
 use Rattle.rules.specs.State.{State}
-use Rattle.kernel.specs.Types.{Kernel}
-use Rattle.kernel.specs.Stands.{kernelOf}
+use Rattle.kernel.specs.Types.{Core}
+use Rattle.kernel.specs.Stands.{coreOf}
 
-module _ (k : Kernel) (s : State) (h : k ≡ kernelOf s) where
+module _ (k : Core) (s : State) (h : k ≡ coreOf s) where
   pub same-running : k .running ≡ s .running
-  unfolding kernelOf
-  same-running = ap (λ (n : Kernel). n .running) h
+  unfolding coreOf
+  same-running = ap (λ (n : Core). n .running) h
 
   pub same-tick : k .tick ≡ s .tick
-  unfolding kernelOf
-  same-tick = ap (λ (n : Kernel). n .tick) h
+  unfolding coreOf
+  same-tick = ap (λ (n : Core). n .tick) h
 
   pub same-hold : k .hold ≡ s .hold
-  unfolding kernelOf
-  same-hold = ap (λ (n : Kernel). n .hold) h
+  unfolding coreOf
+  same-hold = ap (λ (n : Core). n .hold) h
 
   pub same-pended : k .pended ≡ s .pended
-  unfolding kernelOf
-  same-pended = ap (λ (n : Kernel). n .pended) h
+  unfolding coreOf
+  same-pended = ap (λ (n : Core). n .pended) h

@@ -12,25 +12,28 @@ use Rattle.calls.specs.declared.Answer.{Answer}
 use Rattle.calls.specs.declared.Answer.the-variants.{Refused}
 use Rattle.calls.specs.declared.Call.{Call}
 use Rattle.calls.specs.Behind.{asked}
-use Rattle.calls.specs.Door.{number}
+use Rattle.calls.specs.Door.{freshUses}
 use Rattle.calls.specs.Said.{says, said, done, made, waiting}
 use Rattle.slots.specs.Places.{isBlocked}
 use Rattle.slots.specs.Values.{taskAt}
 use Rattle.rules.specs.State.{State}
+use Rattle.rules.specs.Tables.{withUses}
 use Rattle.rules.specs.Lines.{chosen}
 use Rattle.rules.specs.Sound.{sound}
 use Rattle.rows.specs.Asking.{makes}
 use Rattle.rules.specs.Refusals.{newSlot}
-use Rattle.rules.specs.Refusals.{laterRow, refusal}
+use Rattle.rules.specs.Refusals.{heldOrWaited, inUse, laterRow, refusal}
 use Rattle.rules.specs.Effects.{effect}
-use Rattle.rules.specs.Steps.{stored, answered, accepted, step}
+use Rattle.rules.specs.Steps.{newNumber, stored, answered, usesAfter, accepted, step}
 use Rattle.rules.proofs.KeepChosen.{chosen-tasks}
 use Rattle.rules.proofs.RowPasses.{sound-steady}
-use Rattle.kernel.specs.Types.{Kernel, Step}
-use Rattle.kernel.specs.Stands.{kernelOf, shown, standing}
+use Rattle.kernel.specs.Types.{Core, Kernel, Uses, Step}
+use Rattle.kernel.specs.Stands.{coreOf, kernelOf, shownCore, shown, standing}
 use Rattle.kernel.specs.Does.{Reads, Does, answerOf, Firm}
 use Rattle.kernel.specs.Promises.{SoundSteps, Steps}
+use Rattle.rules.specs.Sentences.{Steady}
 use Rattle.kernel.proofs.Stands.{same-running}
+use Rattle.kernel.proofs.Shown.{shown-with, shown-uses}
 
 pub stands-on : (k : Kernel) (e : State) → sound (shown k) ≡ true → standing k e ≡ kernelOf e
 stands-on k e h = rw h
@@ -38,13 +41,33 @@ stands-on k e h = rw h
 pub stays : (k : Kernel) (e : State) → sound (shown k) ≡ false → standing k e ≡ k
 stays k e h = rw h
 
+steady-with : {s : State} (us : Uses) → Steady s → Steady (withUses s us)
+steady-with us S = record { task-slots = S .task-slots; object-slots = S .object-slots; runs = S .runs; fit = S .fit }
+
 module _ (k : Kernel) (fine : sound (shown k) ≡ true) (h : k ≡ kernelOf (shown k)) where
-  pub firm : Firm k
-  firm = record { stands = h; steady = sound-steady (shown k) fine; runs = rw (same-running k (shown k) h) (sound-steady (shown k) fine .runs) }
+  pub core-stands : k .core ≡ coreOf (shown k)
+  core-stands = ap (λ (x : Kernel). x .core) h
+
+  behind : shownCore (k .core) ≡ withUses (shown k) freshUses
+  behind = ap shownCore core-stands ∙ shown-with (shown k) freshUses
+
+  pub firm : Firm (k .core)
+  unfolding coreOf
+  firm =
+      record {
+        stands = core-stands ∙ sym (ap coreOf behind);
+        steady = subst Steady (sym behind) (steady-with freshUses (sound-steady (shown k) fine));
+        runs = rw (same-running (k .core) (shown k) core-stands) (sound-steady (shown k) fine .runs);
+      }
+
+  -- no row looks at the uses
+  pub same-row : (a : Asked) (item store : ℕ) → laterRow (shownCore (k .core)) a item store ≡ laterRow (shown k) a item store
+  unfolding laterRow inUse heldOrWaited
+  same-row a item store = ap (λ (x : State). laterRow x a item store) behind
 
   -- behind the door
-  module _ (c : Call) (a : Asked) (door : a ≡ asked c) (item s : List ℕ) (r : Step) (after : List ℕ) where
-    pub of-call : SoundSteps k a item s r after → SoundSteps k (asked c) item s r after
+  module _ (c : Call) (a : Asked) (door : a ≡ asked (k .uses) c) (item s : List ℕ) (r : Step) (after : List ℕ) where
+    pub of-call : SoundSteps k a item s r after → SoundSteps k (asked (k .uses) c) item s r after
     of-call = subst (λ (x : Asked). SoundSteps k x item s r after) door
 
   pub refused : (a : Asked) (item s : List ℕ) (m : ℕ) → m ≡ laterRow (shown k) a (length item) (length s) → (m ≡ 0 → ⊥) → SoundSteps k a item s (record { kernel = k; answer = Refused m }) s
@@ -52,33 +75,41 @@ module _ (k : Kernel) (fine : sound (shown k) ≡ true) (h : k ≡ kernelOf (sho
       rw (← e, ne-eqb m 0 d) record { kernel = h ∙ sym (stands-on k (shown k) fine); answer = refl; store = refl }
 
   -- what the call answers, as the definition has it
-  answer-is : (a : Asked) (n : ℕ) (u : TaskSlot) (e : State) → (makes a ≡ true → n ≡ newSlot (shown k) a) → u ≡ shown k .running → answerOf a n u e ≡ answered (shown k) a (chosen e)
+  answer-is : (a : Asked) (n : ℕ) (u : TaskSlot) (e : State) → (makes a ≡ true → n ≡ newSlot (shown k) a) → u ≡ shown k .running
+      → answerOf a (newNumber (k .uses) a n) u e ≡ answered (shown k) a (chosen e)
   unfolding answered
   answer-is a n u e f r = go (makes a) f
     where
       go : (b : Bool) → (b ≡ true → n ≡ newSlot (shown k) a)
-          → (if b then says made (number n) else if isBlocked (taskAt (e .tasks) u .place) then says waiting 0 else says done 0)
-          ≡ (if b then says made (number (newSlot (shown k) a)) else if isBlocked (taskAt (chosen e .tasks) (shown k .running) .place) then says waiting 0 else says done 0)
-      go true g = ap (λ (m : ℕ). says made (number m)) (g refl)
+          → (if b then says made (newNumber (k .uses) a n) else if isBlocked (taskAt (e .tasks) u .place) then says waiting 0 else says done 0)
+          ≡ (if b then says made (newNumber (shown k .uses) a (newSlot (shown k) a)) else if isBlocked (taskAt (chosen e .tasks) (shown k .running) .place) then says waiting 0 else says done 0)
+      go true g = rw (shown-uses k, g refl)
       go false g = rw (chosen-tasks e, r)
 
-  pub done-so : (a : Asked) (item s after : List ℕ) (n : ℕ) (u : TaskSlot) (next last : Kernel) (answer : Answer)
+  pub done-so : (a : Asked) (item s after : List ℕ) (n : ℕ) (u : TaskSlot) (next last : Core) (us : Uses) (answer : Answer)
       → laterRow (shown k) a (length item) (length s) ≡ 0
-      → (makes a ≡ true → Reads k (λ e. newSlot e a) n) → u ≡ k .running
-      → Does k (λ e. effect e a) next → Reads k (λ e. stored e a item s) after → Reads next (answerOf a n u) (said answer) → Does next chosen last
-      → SoundSteps k a item s (record { kernel = last; answer = answer }) after
-  unfolding accepted
-  done-so a item s after n u next last answer e f r d t q w =
+      → (makes a ≡ true → Reads (k .core) (λ e. newSlot e a) n) → u ≡ k .core .running → us ≡ usesAfter (k .uses) a
+      → Does (k .core) (λ e. effect e a) next → Reads (k .core) (λ e. stored e a item s) after → Reads next (answerOf a (newNumber (k .uses) a n) u) (said answer) → Does next chosen last
+      → SoundSteps k a item s (record { kernel = record { core = last; uses = us }; answer = answer }) after
+  unfolding accepted coreOf
+  done-so a item s after n u next last us answer e f r v d t q w =
       rw e record {
-        kernel = w (effect (shown k) a) (d (shown k) h) ∙ sym (stands-on k (chosen (effect (shown k) a)) fine);
-        answer = q (effect (shown k) a) (d (shown k) h) ∙ answer-is a n u (effect (shown k) a) (λ m. f m (shown k) h) (r ∙ same-running k (shown k) h);
-        store = t (shown k) h;
+        kernel = both ∙ sym (stands-on k (withUses (chosen (effect (shown k) a)) (usesAfter (shown k .uses) a)) fine);
+        answer = q (effect (shown k) a) (d (shown k) core-stands) ∙ answer-is a n u (effect (shown k) a) (λ m. f m (shown k) core-stands) (r ∙ same-running (k .core) (shown k) core-stands);
+        store = t (shown k) core-stands;
       }
+    where
+      parts : {c c′ : Core} {x x′ : Uses} → c ≡ c′ → x ≡ x′ → _≡_ {A = Kernel} (record { core = c; uses = x }) (record { core = c′; uses = x′ })
+      parts p o = λ i. record { core = p i; uses = o i }
+
+      both : _≡_ {A = Kernel} (record { core = last; uses = us }) (kernelOf (withUses (chosen (effect (shown k) a)) (usesAfter (shown k .uses) a)))
+      both = parts (w (effect (shown k) a) (d (shown k) core-stands)) (v ∙ ap (λ (x : Uses). usesAfter x a) (sym (shown-uses k)))
 
 -- the step of any kernel value, by whether it is sound
-pub sound-steps : (k : Kernel) (c : Call) (item s : List ℕ) (r : Step) (after : List ℕ) → sound (shown k) ≡ true → SoundSteps k (asked c) item s r after → Steps k c item s r after
+pub sound-steps : (k : Kernel) (c : Call) (item s : List ℕ) (r : Step) (after : List ℕ) → sound (shown k) ≡ true → SoundSteps k (asked (k .uses) c) item s r after → Steps k c item s r after
 unfolding step refusal
-sound-steps k c item s r after e d = rw e d
+sound-steps k c item s r after e d =
+    rw e (subst (λ (us : Uses). SoundSteps k (asked us c) item s r after) (sym (shown-uses k)) d)
 
 pub unsound-steps : (k : Kernel) (c : Call) (item s : List ℕ) → sound (shown k) ≡ false → Steps k c item s (record { kernel = k; answer = Refused 1 }) s
 unfolding step refusal

@@ -30,8 +30,8 @@ use Rattle.rules.specs.Sound.{noHigher}
 use Rattle.rules.specs.Waits.{arrives}
 use Rattle.rules.specs.Ticks.{wokenIfDue, wakes, turned}
 use Rattle.rules.proofs.LineLeads.{finds}
-use Rattle.kernel.specs.Types.{Kernel}
-use Rattle.kernel.specs.Stands.{kernelOf}
+use Rattle.kernel.specs.Types.{Core}
+use Rattle.kernel.specs.Stands.{coreOf}
 use Rattle.kernel.proofs.Stands.{same-running}
 
 -- who stands first
@@ -64,13 +64,13 @@ none-any p (t ∷ l) = go (p t) (none-any p l)
     go true e = refl
     go false e = e
 
-module _ (k : Kernel) (s : State) (y : Task) (b : Bool) (h : k ≡ kernelOf s) (q : y ≡ taskAt (s .tasks) (k .running)) (e : b ≡ higherIn (k .tasks) (y .effective) (listed (k .order))) where
+module _ (k : Core) (s : State) (y : Task) (b : Bool) (h : k ≡ coreOf s) (q : y ≡ taskAt (s .tasks) (k .running)) (e : b ≡ higherIn (k .tasks) (y .effective) (listed (k .order))) where
   no-higher-of : noHigher (s .tasks) (level (s .tasks) (s .running)) (listed (s .order)) ≡ not b
-  unfolding noHigher kernelOf
+  unfolding noHigher coreOf
   no-higher-of =
       none-any (λ t. inHigher (level (s .tasks) (s .running)) (taskAt (s .tasks) t)) (listed (s .order))
       ∙ ap not (sym (e
-      ∙ ap (λ (n : Kernel). higherIn (n .tasks) (y .effective) (listed (n .order))) h
+      ∙ ap (λ (n : Core). higherIn (n .tasks) (y .effective) (listed (n .order))) h
       ∙ ap (λ (x : Task). higherIn (tasksOf (s .tasks)) (x .effective) (listed (s .order))) (q ∙ ap (taskAt (s .tasks)) (same-running k s h))
       ∙ higher-of (s .tasks) (level (s .tasks) (s .running)) (listed (s .order))))
 
@@ -123,9 +123,9 @@ wakes-columns s l =
     tails z t false = refl
 
 pub wakes-done : (s : State) (l : List TaskSlot) (w : Woken) → w ≡ wakesIn (s .tick) (woken (tasksOf (s .tasks)) (s .order)) l
-    → _≡_ {A = Kernel} (record { tasks = w .tasks; objects = objectsOf (s .objects); order = w .order; running = s .running; tick = s .tick; hold = s .hold; pended = s .pended })
-    (kernelOf (wakes s l))
-unfolding kernelOf wakes arrives toTail
+    → _≡_ {A = Core} (record { tasks = w .tasks; objects = objectsOf (s .objects); order = w .order; running = s .running; tick = s .tick; hold = s .hold; pended = s .pended })
+    (coreOf (wakes s l))
+unfolding coreOf wakes arrives toTail
 wakes-done s l w e = λ i. record {
   tasks = (e ∙ wakes-columns s l) i .tasks;
   objects = objectsOf (sym (all-same (λ z. z .objects) (λ z t. woke (λ y. y .objects) z t refl) s l) i);

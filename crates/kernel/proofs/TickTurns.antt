@@ -8,37 +8,37 @@ use Rattle.rules.specs.Tables.{withTick}
 use Rattle.rules.specs.Waits.{later}
 use Rattle.rules.specs.Ticks.{oneTick, untilDue, ticks}
 use Rattle.rules.proofs.TickJumps.{jump-all, jump-tick}
-use Rattle.kernel.specs.Types.{Kernel}
-use Rattle.kernel.specs.Stands.{kernelOf}
+use Rattle.kernel.specs.Types.{Core}
+use Rattle.kernel.specs.Stands.{coreOf}
 use Rattle.kernel.specs.Does.{Does}
 use Rattle.kernel.proofs.Stands.{same-tick}
 
 -- k stands for a state from which the ticks that are left lead where all n lead from s
-record Left (s : State) (n : ℕ) (k : Kernel) (left : ℕ) : Type 0 where
+record Left (s : State) (n : ℕ) (k : Core) (left : ℕ) : Type 0 where
   state : State
-  stands : k ≡ kernelOf state
+  stands : k ≡ coreOf state
   goes : ticks left state ≡ ticks n s
 
-pub record Ticking (k₀ : Kernel) (n : ℕ) (k : Kernel) (left : ℕ) : Type 0 where
-  on : (s : State) → k₀ ≡ kernelOf s → Left s n k left
+pub record Ticking (k₀ : Core) (n : ℕ) (k : Core) (left : ℕ) : Type 0 where
+  on : (s : State) → k₀ ≡ coreOf s → Left s n k left
 
-pub ticking-begins : (k : Kernel) (n : ℕ) → Ticking k n k n
+pub ticking-begins : (k : Core) (n : ℕ) → Ticking k n k n
 ticking-begins k n = record { on = λ s h. record { state = s; stands = h; goes = refl } }
 
-module _ {k₀ : Kernel} {n : ℕ} {k : Kernel} {left : ℕ} (T : Ticking k₀ n k left) (d : ℕ) (small : k .tick ≤ 4294967295) (until : (e : State) → k ≡ kernelOf e → d ≡ untilDue (e .tick) (e .tasks)) where
-  counts : (e : State) → k ≡ kernelOf e → e .tick ≤ 4294967295
+module _ {k₀ : Core} {n : ℕ} {k : Core} {left : ℕ} (T : Ticking k₀ n k left) (d : ℕ) (small : k .tick ≤ 4294967295) (until : (e : State) → k ≡ coreOf e → d ≡ untilDue (e .tick) (e .tasks)) where
+  counts : (e : State) → k ≡ coreOf e → e .tick ≤ 4294967295
   counts e h = omega (arith, same-tick k e h)
 
   -- nobody is due any more: the count alone goes on
-  pub jumps-all : {r : Kernel} {t : ℕ} → left ≤ d → t ≡ later (k .tick) left → Does k (λ e. withTick e t) r → Does k₀ (ticks n) r
+  pub jumps-all : {r : Core} {t : ℕ} → left ≤ d → t ≡ later (k .tick) left → Does k (λ e. withTick e t) r → Does k₀ (ticks n) r
   jumps-all l q f s h =
       let i = T .on s h in
       let e = i .state in
       f e (i .stands)
-      ∙ ap kernelOf (ap (withTick e) (q ∙ ap (λ (m : ℕ). later m left) (same-tick k e (i .stands))) ∙ jump-all e d left (counts e (i .stands)) (until e (i .stands)) l ∙ i .goes)
+      ∙ ap coreOf (ap (withTick e) (q ∙ ap (λ (m : ℕ). later m left) (same-tick k e (i .stands))) ∙ jump-all e d left (counts e (i .stands)) (until e (i .stands)) l ∙ i .goes)
 
   -- somebody is: the tick after the jump is a plain one
-  pub jumps-on : {j r : Kernel} {t m : ℕ} → left ≡ d + 1 + m → t ≡ later (k .tick) d → Does k (λ e. withTick e t) j → Does j oneTick r → Ticking k₀ n r m
+  pub jumps-on : {j r : Core} {t m : ℕ} → left ≡ d + 1 + m → t ≡ later (k .tick) d → Does k (λ e. withTick e t) j → Does j oneTick r → Ticking k₀ n r m
   jumps-on {m = m} l q f g = record {
     on = λ s h.
         let i = T .on s h in
@@ -46,13 +46,13 @@ module _ {k₀ : Kernel} {n : ℕ} {k : Kernel} {left : ℕ} (T : Ticking k₀ n
         let next = oneTick (withTick e (later (e .tick) d)) in
         record {
           state = next;
-          stands = g (withTick e (later (e .tick) d)) (f e (i .stands) ∙ ap (λ (c : ℕ). kernelOf (withTick e c)) (q ∙ ap (λ (c : ℕ). later c d) (same-tick k e (i .stands))));
+          stands = g (withTick e (later (e .tick) d)) (f e (i .stands) ∙ ap (λ (c : ℕ). coreOf (withTick e c)) (q ∙ ap (λ (c : ℕ). later c d) (same-tick k e (i .stands))));
           goes = jump-tick e next d left m (counts e (i .stands)) (until e (i .stands)) l refl ∙ i .goes;
         };
   }
 
-pub none-left : {k₀ : Kernel} {n : ℕ} {k : Kernel} {left : ℕ} → Ticking k₀ n k left → left ≡ 0 → Does k₀ (ticks n) k
+pub none-left : {k₀ : Core} {n : ℕ} {k : Core} {left : ℕ} → Ticking k₀ n k left → left ≡ 0 → Does k₀ (ticks n) k
 unfolding ticks upTo
 none-left T z s h =
     let i = T .on s h in
-    i .stands ∙ ap kernelOf (ap (λ (m : ℕ). ticks m (i .state)) (sym z) ∙ i .goes)
+    i .stands ∙ ap coreOf (ap (λ (m : ℕ). ticks m (i .state)) (sym z) ∙ i .goes)

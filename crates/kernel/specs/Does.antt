@@ -4,33 +4,32 @@ use mathlib.Core.Path.{_≡_}
 use Rattle.lists.specs.Choice.{if_then_else_}
 use Rattle.numbers.specs.declared.TaskSlot.{TaskSlot}
 use Rattle.calls.specs.declared.Asked.{Asked}
-use Rattle.calls.specs.Door.{number}
 use Rattle.calls.specs.Said.{Saying, says, done, made, waiting}
 use Rattle.slots.specs.Places.{isBlocked}
 use Rattle.slots.specs.Values.{taskAt}
 use Rattle.rules.specs.State.{State}
 use Rattle.rows.specs.Asking.{makes}
 use Rattle.rules.specs.Sentences.{Steady}
-use Rattle.kernel.specs.Types.{Kernel}
-use Rattle.kernel.specs.Stands.{kernelOf, shown}
+use Rattle.kernel.specs.Types.{Core}
+use Rattle.kernel.specs.Stands.{coreOf, shownCore}
 
 -- it reads
-abbrev pub Reads : {A : Type 0} → Kernel → (State → A) → A → Type 0
-Reads k f r = (s : State) → k ≡ kernelOf s → r ≡ f s
+abbrev pub Reads : {A : Type 0} → Core → (State → A) → A → Type 0
+Reads k f r = (s : State) → k ≡ coreOf s → r ≡ f s
 
 -- it makes the next kernel
-abbrev pub Does : Kernel → (State → State) → Kernel → Type 0
-Does k f r = (s : State) → k ≡ kernelOf s → r ≡ kernelOf (f s)
+abbrev pub Does : Core → (State → State) → Core → Type 0
+Does k f r = (s : State) → k ≡ coreOf s → r ≡ coreOf (f s)
 
--- what the call a answers its caller u, from the state e on: the number of the slot n that it took, or waiting, exactly if u is now delayed or waits on an object
+-- what the call a answers its caller u, from the state e on: the number n of the slot that it took, or waiting, exactly if u is now delayed or waits on an object
 abbrev pub answerOf : Asked → ℕ → TaskSlot → State → Saying
 answerOf a n u e =
-    if makes a then says made (number n)
+    if makes a then says made n
     else if isBlocked (taskAt (e .tasks) u .place) then says waiting 0
     else says done 0
 
 -- the value stands for a state, and that state is steady
-pub record Firm (k : Kernel) : Type 0 where
-  pub stands : k ≡ kernelOf (shown k)
-  pub steady : Steady (shown k)
+pub record Firm (k : Core) : Type 0 where
+  pub stands : k ≡ coreOf (shownCore k)
+  pub steady : Steady (shownCore k)
   pub runs : k .running .0 < 16

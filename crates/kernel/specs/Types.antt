@@ -1,5 +1,7 @@
 -- The code's own records and variants, under one name.
 pub use Rattle.cuts.specs.declared.Cut.{Cut}
+pub use Rattle.calls.specs.declared.Uses.{Uses}
+pub use Rattle.kernel.specs.declared.Core.{Core}
 pub use Rattle.kernel.specs.declared.Kernel.{Kernel}
 pub use Rattle.kernel.specs.declared.Step.{Step}
 pub use Rattle.kernel.specs.declared.Outlet.{Outlet}

@@ -11,11 +11,11 @@ ghost use Rattle.rows.specs.Applies.{sizeDiffers};
 ghost use Rattle.rules.specs.Refusals.{laterRow};
 ghost use Rattle.rules.specs.Ticks.{ticked, held, released};
 ghost use Rattle.rules.specs.Queues.{sentTo, receivedFrom, storeSentTo, storeReceivedFrom};
-ghost use Rattle.rules.specs.Effects.{created, deleted, suspended, resumed, delayed, queueMade, mutexMade, taken, handedOn, given, effect};
+ghost use Rattle.rules.specs.Effects.{created, deleted, suspended, resumed, delayed, queueMade, mutexMade, removed, taken, handedOn, given, effect};
 ghost use Rattle.rules.specs.Steps.{stored};
-ghost use Rattle.kernel.specs.Stands.{shown};
+ghost use Rattle.kernel.specs.Stands.{shownCore};
 ghost use Rattle.kernel.specs.Does.{Reads, Does, Firm};
-use crate::Kernel;
+use crate::Core;
 use calls::Asked;
 use numbers::ObjSlot;
 use numbers::TaskSlot;
@@ -26,8 +26,8 @@ use slots::Place;
 use slots::Ring;
 use slots::Task;
 
-impl Kernel {
-    fn create(self, n: u8, p: u8) -> Kernel
+impl Core {
+    fn create(self, n: u8, p: u8) -> Core
         requires { ⌜ Reads self (λ s. freeSlot (s .tasks)) n ⌝ }
         ensures { λ r. ⌜ Does self (λ s. created s p) r ⌝ }
     {
@@ -35,13 +35,32 @@ impl Kernel {
         self.with_task(t, Task::ready_at(p)).to_tail(t)
     }
 
-    fn delete(self, t: TaskSlot) -> Kernel
-        ensures { λ r. ⌜ Does self (λ s. deleted s t) r ⌝ }
+    fn delete(self, t: TaskSlot, last: bool) -> Core
+        ensures { λ r. ⌜ Does self (λ s. deleted s t last) r ⌝ }
     {
+        if last {
+            let spent = Task {
+                place: Place::Spent,
+                own: 0,
+                effective: 0,
+                outcome: 0,
+            };
+            return self.with_task(t, spent).leaves(t);
+        }
         self.with_task(t, Task::free()).leaves(t)
     }
 
-    fn suspend(self, t: TaskSlot) -> Kernel
+    fn remove(self, o: ObjSlot, last: bool) -> Core
+        ensures { λ r. ⌜ Does self (λ s. removed s o last) r ⌝ }
+    {
+        if last {
+            self.with_object(o, Kind::Spent)
+        } else {
+            self.with_object(o, Kind::Unused)
+        }
+    }
+
+    fn suspend(self, t: TaskSlot) -> Core
         ensures { λ r. ⌜ Does self (λ s. suspended s t) r ⌝ }
     {
         let x = self.task(t);
@@ -53,14 +72,14 @@ impl Kernel {
         }
     }
 
-    fn resume(self, t: TaskSlot) -> Kernel
+    fn resume(self, t: TaskSlot) -> Core
         ensures { λ r. ⌜ Does self (λ s. resumed s t) r ⌝ }
     {
         let x = self.task(t);
         self.arrives(t, Place::Ready, x.outcome)
     }
 
-    fn delay(self, n: u32) -> Kernel
+    fn delay(self, n: u32) -> Core
         ensures { λ r. ⌜ Does self (λ s. delayed s n) r ⌝ }
     {
         if n == 0 {
@@ -74,14 +93,14 @@ impl Kernel {
         }
     }
 
-    fn hold_deeper(self) -> Kernel
+    fn hold_deeper(self) -> Core
         requires { ⌜ eqb (self .hold) 255 ≡ false ⌝ }
         ensures { λ r. ⌜ Does self held r ⌝ }
     {
         self.with_hold(self.hold + 1, self.pended)
     }
 
-    fn release(self) -> Kernel
+    fn release(self) -> Core
         requires { ⌜ eqb (self .hold) 0 ≡ false ⌝ }
         ensures { λ r. ⌜ Does self released r ⌝ }
     {
@@ -92,7 +111,7 @@ impl Kernel {
         }
     }
 
-    fn make_queue(self, n: u8, capacity: u8, size: u8) -> Kernel
+    fn make_queue(self, n: u8, capacity: u8, size: u8) -> Core
         requires { ⌜ Reads self (λ s. freeObject (s .objects)) n ⌝ }
         ensures { λ r. ⌜ Does self (λ s. queueMade s capacity size) r ⌝ }
     {
@@ -105,42 +124,45 @@ impl Kernel {
         self.with_object(ObjSlot::of(n), Kind::Queue(q))
     }
 
-    fn make_mutex(self, n: u8) -> Kernel
+    fn make_mutex(self, n: u8) -> Core
         requires { ⌜ Reads self (λ s. freeObject (s .objects)) n ⌝ }
         ensures { λ r. ⌜ Does self mutexMade r ⌝ }
     {
         self.with_object(ObjSlot::of(n), Kind::Mutex(Holder::Nobody))
     }
 
-    fn send(self, o: ObjSlot, w: u32, item: &[u8], store: &mut [u8]) -> Kernel
-        requires { ⌜ Firm self × (sizeDiffers (length (now item)) (kindAt (shown self .objects) o) ≡ false) × (length (now store) ≡ 9216) ⌝ }
+    fn send(self, o: ObjSlot, w: u32, item: &[u8], store: &mut [u8]) -> Core
+        requires { ⌜ Firm self × (sizeDiffers (length (now item)) (kindAt (shownCore self .objects) o) ≡ false) × (length (now store) ≡ 9216) ⌝ }
         ensures { λ r. ⌜ Does self (λ s. sentTo s o (kindAt (s .objects) o) w) r
             × Reads self (λ s. storeSentTo s o (kindAt (s .objects) o) (now (item .entry)) (now (store .entry))) (now (store .exit)) ⌝ }
     {
         match self.kind(o) {
             Kind::Unused => self,
+            Kind::Spent => self,
             Kind::Queue(q) => self.send_to(o, q, w, item, store),
             Kind::Mutex(_) => self,
         }
     }
 
-    fn receive(self, o: ObjSlot, w: u32, store: &mut [u8]) -> Kernel
+    fn receive(self, o: ObjSlot, w: u32, store: &mut [u8]) -> Core
         requires { ⌜ Firm self × (length (now store) ≡ 9216) ⌝ }
         ensures { λ r. ⌜ Does self (λ s. receivedFrom s o (kindAt (s .objects) o) w) r × Reads self (λ s. storeReceivedFrom s o (kindAt (s .objects) o) (now (store .entry))) (now (store .exit)) ⌝ }
     {
         match self.kind(o) {
             Kind::Unused => self,
+            Kind::Spent => self,
             Kind::Queue(q) => self.receive_from(o, q, w, store),
             Kind::Mutex(_) => self,
         }
     }
 
-    fn take(self, o: ObjSlot, w: u32) -> Kernel
+    fn take(self, o: ObjSlot, w: u32) -> Core
         ensures { λ r. ⌜ Does self (λ s. taken s o w) r ⌝ }
     {
         let u = self.running;
         match self.kind(o) {
             Kind::Unused => self,
+            Kind::Spent => self,
             Kind::Queue(_) => self,
             Kind::Mutex(h) => match h {
                 Holder::Nobody => self.with_object(o, Kind::Mutex(Holder::By(u))),
@@ -150,7 +172,7 @@ impl Kernel {
     }
 
     // The mutex goes to the first waiter, or is free.
-    fn handed_on(self, o: ObjSlot) -> Kernel
+    fn handed_on(self, o: ObjSlot) -> Core
         ensures { λ r. ⌜ Does self (λ s. handedOn s o) r ⌝ }
     {
         match self.first_waiter(o) {
@@ -160,14 +182,14 @@ impl Kernel {
         }
     }
 
-    fn give(self, o: ObjSlot) -> Kernel
+    fn give(self, o: ObjSlot) -> Core
         ensures { λ r. ⌜ Does self (λ s. given s o) r ⌝ }
     {
         let u = self.running;
         self.handed_on(o).own_again(u)
     }
 
-    fn tick_on(self) -> Kernel
+    fn tick_on(self) -> Core
         requires { ⌜ (ltb 0 (self .hold) && eqb (self .pended) 65535) ≡ false ⌝ }
         ensures { λ r. ⌜ Does self ticked r ⌝ }
     {
@@ -179,14 +201,14 @@ impl Kernel {
     }
 
     // The call is one that no row of the table turns away; `n` is the slot that a create or make takes.
-    pub(crate) fn served(self, a: Asked, n: u8, item: &[u8], store: &mut [u8]) -> Kernel
-        requires { ⌜ Firm self × (laterRow (shown self) a (length (now item)) (length (now store)) ≡ 0) × (makes a ≡ true → Reads self (λ s. newSlot s a) n) ⌝ }
+    pub(crate) fn served(self, a: Asked, n: u8, item: &[u8], store: &mut [u8]) -> Core
+        requires { ⌜ Firm self × (laterRow (shownCore self) a (length (now item)) (length (now store)) ≡ 0) × (makes a ≡ true → Reads self (λ s. newSlot s a) n) ⌝ }
         ensures { λ r. ⌜ Does self (λ s. effect s a) r × Reads self (λ s. stored s a (now (item .entry)) (now (store .entry))) (now (store .exit)) ⌝ }
     {
         let number = a.number;
         match number {
             1 => self.create(n, a.priority as u8),
-            2 => self.delete(a.task),
+            2 => self.delete(a.task, a.last),
             3 => self.suspend(a.task),
             4 => self.resume(a.task),
             5 => self.new_priority(a.task, a.priority as u8),
@@ -196,7 +218,7 @@ impl Kernel {
             9 => self.release(),
             10 => self.make_queue(n, a.capacity as u8, a.size as u8),
             11 => self.make_mutex(n),
-            12 => self.with_object(a.object, Kind::Unused),
+            12 => self.remove(a.object, a.last),
             13 => self.send(a.object, a.wait, item, store),
             14 => self.receive(a.object, a.wait, store),
             15 => self.take(a.object, a.wait),

@@ -1,4 +1,5 @@
 // The kernel: a value that goes in with a call, and comes back with the next state, the running task and an answer.
+mod doors;
 mod effects;
 mod lines;
 mod loans;
@@ -14,13 +15,15 @@ mod ticks;
 mod waits;
 
 use calls::Answer;
+use calls::Uses;
 use cuts::Cut;
 use numbers::TaskSlot;
 use objects::Objects;
 use order::Order;
 use tasks::Tasks;
 
-pub struct Kernel {
+// What the step works on: slots alone.
+pub struct Core {
     pub tasks: Tasks,
     pub objects: Objects,
     pub order: Order,
@@ -28,6 +31,12 @@ pub struct Kernel {
     pub tick: u32,
     pub hold: u8,
     pub pended: u16,
+}
+
+// Beside it the uses, which say what number each slot has.
+pub struct Kernel {
+    pub core: Core,
+    pub uses: Uses,
 }
 
 // What comes of a call: the next kernel, with the task that then runs, and the answer.

@@ -1,11 +1,11 @@
 // How a priority comes about: given, lent, paid back.
 ghost use Rattle.rules.specs.Loans.{moved, prioritized, newPriority, lent, ownAgain};
 ghost use Rattle.kernel.specs.Does.{Does};
-use crate::Kernel;
+use crate::Core;
 use numbers::TaskSlot;
 
-impl Kernel {
-    fn moved(self, t: TaskSlot) -> Kernel
+impl Core {
+    fn moved(self, t: TaskSlot) -> Core
         ensures { λ r. ⌜ Does self (λ s. moved s t) r ⌝ }
     {
         let u = self.running;
@@ -17,7 +17,7 @@ impl Kernel {
     }
 
     // Own and effective priority changed; a ready task whose effective priority changes moves.
-    fn prioritized(self, t: TaskSlot, own: u8, effective: u8) -> Kernel
+    fn prioritized(self, t: TaskSlot, own: u8, effective: u8) -> Core
         ensures { λ r. ⌜ Does self (λ s. prioritized s t own effective) r ⌝ }
     {
         let x = self.task(t);
@@ -33,7 +33,7 @@ impl Kernel {
         }
     }
 
-    pub(crate) fn new_priority(self, t: TaskSlot, p: u8) -> Kernel
+    pub(crate) fn new_priority(self, t: TaskSlot, p: u8) -> Core
         ensures { λ r. ⌜ Does self (λ s. newPriority s t p) r ⌝ }
     {
         if self.holds(t) {
@@ -45,7 +45,7 @@ impl Kernel {
     }
 
     // The caller lends its effective priority to the holder.
-    pub(crate) fn lent(self, h: TaskSlot) -> Kernel
+    pub(crate) fn lent(self, h: TaskSlot) -> Core
         ensures { λ r. ⌜ Does self (λ s. lent s h) r ⌝ }
     {
         let x = self.task(h);
@@ -54,7 +54,7 @@ impl Kernel {
     }
 
     // A giver that still holds a mutex keeps what was lent.
-    pub(crate) fn own_again(self, t: TaskSlot) -> Kernel
+    pub(crate) fn own_again(self, t: TaskSlot) -> Core
         ensures { λ r. ⌜ Does self (λ s. ownAgain s t) r ⌝ }
     {
         if self.holds(t) {

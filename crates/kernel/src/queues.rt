@@ -11,7 +11,7 @@ ghost use Rattle.rules.specs.Queues.{outlet, sent, storeSent, refilledBy, store
 ghost use Rattle.rules.specs.Sentences.{RingFits};
 ghost use Rattle.kernel.specs.Stands.{outletOf};
 ghost use Rattle.kernel.specs.Does.{Reads, Does, Firm};
-use crate::Kernel;
+use crate::Core;
 use crate::Outlet;
 use crate::parts;
 use crate::rings;
@@ -21,7 +21,7 @@ use slots::Kind;
 use slots::Place;
 use slots::Ring;
 
-impl Kernel {
+impl Core {
     fn outlet(self, o: ObjSlot, q: Ring) -> Outlet
         ensures { λ r. ⌜ Reads self (λ s. outlet s o q) (outletOf r) ⌝ }
     {
@@ -36,14 +36,7 @@ impl Kernel {
         }
     }
 
-    pub(crate) fn send_to(
-        self,
-        o: ObjSlot,
-        q: Ring,
-        w: u32,
-        item: &[u8],
-        store: &mut [u8],
-    ) -> Kernel
+    pub(crate) fn send_to(self, o: ObjSlot, q: Ring, w: u32, item: &[u8], store: &mut [u8]) -> Core
         requires { ⌜ (o .0 < 16) × RingFits q × Firm self × (length (now item) ≡ q .size) × (length (now store) ≡ 9216) ⌝ }
         ensures { λ r. ⌜ Does self (λ s. sent s o q w) r × Reads self (λ s. storeSent s o q (now (item .entry)) (now (store .entry))) (now (store .exit)) ⌝ }
     {
@@ -66,7 +59,7 @@ impl Kernel {
     }
 
     // If a sender waits, the first waiter's item goes from its slip into the queue, and it is made ready.
-    fn refilled(self, o: ObjSlot, q: Ring, f: Found, store: &mut [u8]) -> Kernel
+    fn refilled(self, o: ObjSlot, q: Ring, f: Found, store: &mut [u8]) -> Core
         requires { ⌜ RingFits q × (o .0 < 16) × ((t : TaskSlot) → whom f ≡ t ∷ [] → t .0 < 16) × (length (now store) ≡ 9216) ⌝ }
         ensures { λ r. ⌜ Does self (λ s. refilledBy s o q (whom f)) r × (now (store .exit) ≡ storeRefilledBy o q (whom f) (now (store .entry))) ⌝ }
     {
@@ -89,7 +82,7 @@ impl Kernel {
         self.first_waiter(o)
     }
 
-    pub(crate) fn receive_from(self, o: ObjSlot, q: Ring, w: u32, store: &mut [u8]) -> Kernel
+    pub(crate) fn receive_from(self, o: ObjSlot, q: Ring, w: u32, store: &mut [u8]) -> Core
         requires { ⌜ (o .0 < 16) × RingFits q × Firm self × (length (now store) ≡ 9216) ⌝ }
         ensures { λ r. ⌜ Does self (λ s. received s o q w) r × Reads self (λ s. storeReceived s o q (now (store .entry))) (now (store .exit)) ⌝ }
     {

@@ -3,12 +3,12 @@ ghost use Rattle.lists.specs.Choice.{if_then_else_};
 ghost use Rattle.rows.specs.Asking.{makes};
 ghost use Rattle.rules.specs.Refusals.{newSlot, heldOrWaited, inUse, seen};
 ghost use Rattle.kernel.specs.Does.{Reads};
-use crate::Kernel;
+use crate::Core;
 use calls::Asked;
 use numbers::ObjSlot;
 use rows::Seen;
 
-impl Kernel {
+impl Core {
     // The slot that a create or make takes; 16 where none is free, 0 for any other call.
     fn new_slot(self, a: Asked) -> u8
         ensures { λ r. ⌜ Reads self (λ s. if makes a then newSlot s a else 0) r ⌝ }

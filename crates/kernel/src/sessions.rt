@@ -14,7 +14,6 @@ use crate::Served;
 use crate::Session;
 use crate::Step;
 use calls::Answer;
-use calls::TaskNo;
 use cuts::Cut;
 use cuts::gather;
 use cuts::keep;
@@ -118,7 +117,7 @@ impl Session {
             let step = kernel.line_step(fine, line, store);
             kernel = step.kernel;
             let answer = step.answer;
-            written = put_answer(out, written, answer, TaskNo::of_slot(kernel.running));
+            written = put_answer(out, written, answer, kernel.runs());
             len = 0;
             at = stop.next + 1;
         }
@@ -137,12 +136,7 @@ impl Session {
             };
         }
         let no = no_line(self.kernel.sound(), store.len());
-        let written = put_answer(
-            out,
-            0,
-            Answer::Refused(no),
-            TaskNo::of_slot(self.kernel.running),
-        );
+        let written = put_answer(out, 0, Answer::Refused(no), self.kernel.runs());
         self.cut.len = 0;
         Served {
             session: self,

@@ -3,10 +3,11 @@ ghost use mathlib.Core.Path.{_≡_};
 ghost use mathlib.Core.Bool.{true};
 ghost use lib.ListN.{length};
 ghost use Rattle.rules.specs.Sound.{counted, sound};
-ghost use Rattle.kernel.specs.Stands.{kernelOf, shown};
+ghost use Rattle.kernel.specs.Stands.{coreOf, kernelOf, shownCore, shown};
+use crate::Core;
 use crate::Kernel;
 
-impl Kernel {
+impl Core {
     // What the types say already: the order's places, and the ranges of tick, hold and pended.
     fn shaped(self) -> bool
         ensures { λ r. ⌜ (r ≡ true) × (length (self .order .places) ≡ 16) × (counted (self .tick) (self .hold) (self .pended) ≡ true) ⌝ }
@@ -14,8 +15,8 @@ impl Kernel {
         true
     }
 
-    pub fn sound(self) -> bool
-        ensures { λ r. ⌜ (r ≡ sound (shown self)) × (r ≡ true → self ≡ kernelOf (shown self)) ⌝ }
+    pub(crate) fn fine(self) -> bool
+        ensures { λ r. ⌜ (r ≡ sound (shownCore self)) × (r ≡ true → self ≡ coreOf (shownCore self)) ⌝ }
     {
         let o = self.order;
         let walk = o.tallied();
@@ -33,5 +34,13 @@ impl Kernel {
         let pends = lists::either(0 < self.hold, self.pended == 0);
         let rest = lists::both(runs, lists::both(tidy, pends));
         lists::both(self.shaped(), lists::both(tables, rest))
+    }
+}
+
+impl Kernel {
+    pub fn sound(self) -> bool
+        ensures { λ r. ⌜ (r ≡ sound (shown self)) × (r ≡ true → self ≡ kernelOf (shown self)) ⌝ }
+    {
+        lists::both(self.core.fine(), self.uses.fine())
     }
 }

@@ -4,23 +4,27 @@ ghost use mathlib.Core.Bool.{true};
 ghost use Rattle.calls.specs.Behind.{asked};
 ghost use Rattle.calls.specs.Said.{said};
 ghost use Rattle.rules.specs.Sound.{sound};
+ghost use Rattle.rules.specs.Steps.{newNumber};
 ghost use Rattle.kernel.specs.Stands.{kernelOf, shown};
 ghost use Rattle.kernel.specs.Does.{Reads, answerOf};
 ghost use Rattle.kernel.specs.Promises.{SoundSteps, Steps};
+use crate::Core;
 use crate::Kernel;
 use crate::Step;
+use crate::doors;
 use calls::Answer;
 use calls::Asked;
 use calls::Call;
+use calls::Uses;
 use numbers::TaskSlot;
 
-impl Kernel {
+impl Core {
     // A create or make answers with the number of its slot `n`; any other call waiting, exactly if the caller is now delayed or waits on an object.
-    fn answered(self, a: Asked, caller: TaskSlot, n: u8) -> Answer
-        ensures { λ r. ⌜ Reads self (answerOf a n caller) (said r) ⌝ }
+    pub(crate) fn answered(self, a: Asked, caller: TaskSlot, uses: Uses, n: u8) -> Answer
+        ensures { λ r. ⌜ Reads self (answerOf a (newNumber uses a n) caller) (said r) ⌝ }
     {
         if rows::makes(a) {
-            return Answer::Made(calls::number(n));
+            return Answer::Made(doors::new_number(uses, a, n));
         }
         let x = self.task(caller);
         let p = x.place;
@@ -30,14 +34,16 @@ impl Kernel {
             Answer::Done
         }
     }
+}
 
+impl Kernel {
     // The step of a kernel that is known to be sound: what a session of many calls uses.
-    pub(crate) fn step_sound(self, call: Call, item: &[u8], store: &mut [u8]) -> Step
+    pub(crate) fn step_sound(mut self, call: Call, item: &[u8], store: &mut [u8]) -> Step
         requires { ⌜ (sound (shown self) ≡ true) × (self ≡ kernelOf (shown self)) ⌝ }
-        ensures { λ r. ⌜ SoundSteps self (asked call) (now (item .entry)) (now (store .entry)) r (now (store .exit)) ⌝ }
+        ensures { λ r. ⌜ SoundSteps self (asked (self .uses) call) (now (item .entry)) (now (store .entry)) r (now (store .exit)) ⌝ }
     {
-        let a = call.asked();
-        let s = self.seen(a);
+        let a = call.asked(self.uses);
+        let s = self.core.seen(a);
         let no = s.row(a, item.len(), store.len());
         if no != 0 {
             return Step {
@@ -45,11 +51,13 @@ impl Kernel {
                 answer: Answer::Refused(no),
             };
         }
-        let u = self.running;
-        let next = self.served(a, s.new, item, store);
-        let answer = next.answered(a, u, s.new);
+        let u = self.core.running;
+        let next = self.core.served(a, s.new, item, store);
+        let answer = next.answered(a, u, self.uses, s.new);
+        self.core = next.chosen();
+        self.uses = doors::uses_after(self.uses, a);
         Step {
-            kernel: next.chosen(),
+            kernel: self,
             answer,
         }
     }

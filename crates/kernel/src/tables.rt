@@ -3,9 +3,9 @@ ghost use mathlib.Core.Path.{_≡_};
 ghost use Rattle.slots.specs.Values.{taskAt, placed, ranked};
 ghost use Rattle.slots.specs.Kinds.{kindAt};
 ghost use Rattle.rules.specs.Tables.{fresh, holds, withTask, withObject, withTick, withHold};
-ghost use Rattle.kernel.specs.Stands.{kernelOf};
+ghost use Rattle.kernel.specs.Stands.{coreOf};
 ghost use Rattle.kernel.specs.Does.{Reads, Does};
-use crate::Kernel;
+use crate::Core;
 use numbers::ObjSlot;
 use numbers::TaskSlot;
 use objects::Objects;
@@ -15,13 +15,13 @@ use slots::Place;
 use slots::Task;
 use tasks::Tasks;
 
-impl Kernel {
+impl Core {
     // Idle alone, tick 0, hold 0, no objects.
-    pub fn fresh() -> Kernel
-        ensures { λ r. ⌜ r ≡ kernelOf fresh ⌝ }
+    pub(crate) fn fresh() -> Core
+        ensures { λ r. ⌜ r ≡ coreOf fresh ⌝ }
     {
         let idle = TaskSlot::of(0);
-        Kernel {
+        Core {
             tasks: Tasks::fresh(),
             objects: Objects::fresh(),
             order: Order::empty().appended(idle),
@@ -44,42 +44,42 @@ impl Kernel {
         self.objects.get(o)
     }
 
-    pub(crate) fn with_task(mut self, t: TaskSlot, x: Task) -> Kernel
+    pub(crate) fn with_task(mut self, t: TaskSlot, x: Task) -> Core
         ensures { λ r. ⌜ Does self (λ s. withTask s t x) r ⌝ }
     {
         self.tasks = self.tasks.set(t, x);
         self
     }
 
-    pub(crate) fn placed(mut self, t: TaskSlot, p: Place, n: u8) -> Kernel
+    pub(crate) fn placed(mut self, t: TaskSlot, p: Place, n: u8) -> Core
         ensures { λ r. ⌜ Does self (λ s. withTask s t (placed (taskAt (s .tasks) t) p n)) r ⌝ }
     {
         self.tasks = self.tasks.placed(t, p, n);
         self
     }
 
-    pub(crate) fn ranked(mut self, t: TaskSlot, own: u8, effective: u8) -> Kernel
+    pub(crate) fn ranked(mut self, t: TaskSlot, own: u8, effective: u8) -> Core
         ensures { λ r. ⌜ Does self (λ s. withTask s t (ranked (taskAt (s .tasks) t) own effective)) r ⌝ }
     {
         self.tasks = self.tasks.ranked(t, own, effective);
         self
     }
 
-    pub(crate) fn with_object(mut self, o: ObjSlot, kind: Kind) -> Kernel
+    pub(crate) fn with_object(mut self, o: ObjSlot, kind: Kind) -> Core
         ensures { λ r. ⌜ Does self (λ s. withObject s o kind) r ⌝ }
     {
         self.objects = self.objects.set(o, kind);
         self
     }
 
-    pub(crate) fn with_tick(mut self, n: u32) -> Kernel
+    pub(crate) fn with_tick(mut self, n: u32) -> Core
         ensures { λ r. ⌜ Does self (λ s. withTick s n) r ⌝ }
     {
         self.tick = n;
         self
     }
 
-    pub(crate) fn with_hold(mut self, h: u8, p: u16) -> Kernel
+    pub(crate) fn with_hold(mut self, h: u8, p: u16) -> Core
         ensures { λ r. ⌜ Does self (λ s. withHold s h p) r ⌝ }
     {
         self.hold = h;

@@ -3,11 +3,11 @@ ghost use Prim.Native.Nat.{_≤_};
 ghost use Rattle.numbers.specs.Numbers.{byNumber};
 ghost use Rattle.rules.specs.Ticks.{wakes, untilDue, oneTick, turned, ticks};
 ghost use Rattle.kernel.specs.Does.{Reads, Does};
-use crate::Kernel;
+use crate::Core;
 
-impl Kernel {
+impl Core {
     // The due are made ready, in order of task number.
-    fn wakes(self) -> Kernel
+    fn wakes(self) -> Core
         ensures { λ r. ⌜ Does self (λ s. wakes s (byNumber 16)) r ⌝ }
     {
         let woken = self.tasks.wakes(self.order, self.tick);
@@ -15,7 +15,7 @@ impl Kernel {
         let order = woken.order;
         let objects = self.objects;
         let running = self.running;
-        Kernel {
+        Core {
             tasks,
             objects,
             order,
@@ -26,7 +26,7 @@ impl Kernel {
         }
     }
 
-    pub(crate) fn one_tick(self) -> Kernel
+    pub(crate) fn one_tick(self) -> Core
         ensures { λ r. ⌜ Does self oneTick r ⌝ }
     {
         let next = std::num::wrapping_add_u32(self.tick, 1);
@@ -42,7 +42,7 @@ impl Kernel {
 
     // The next `n` ticks, counts and wakes, without the turn of the line: a jump to the next one on which somebody is due, that tick, and so on. Each turn but the
     // last wakes somebody, so there are at most 16.
-    pub(crate) fn ticks(self, n: u16) -> Kernel
+    pub(crate) fn ticks(self, n: u16) -> Core
         ensures { λ r. ⌜ Does self (ticks n) r ⌝ }
     {
         let mut k = self;
@@ -60,7 +60,7 @@ impl Kernel {
     }
 
     // If no higher line is occupied, the running task goes to the tail of its line.
-    pub(crate) fn turned(self) -> Kernel
+    pub(crate) fn turned(self) -> Core
         ensures { λ r. ⌜ Does self turned r ⌝ }
     {
         let u = self.running;

@@ -2,7 +2,7 @@
 ghost use mathlib.Core.Path.{_≡_};
 ghost use Rattle.rules.specs.Waits.{wakeOf, arrives, waitFor};
 ghost use Rattle.kernel.specs.Does.{Does};
-use crate::Kernel;
+use crate::Core;
 use numbers::ObjSlot;
 use numbers::TaskSlot;
 use slots::Place;
@@ -19,15 +19,15 @@ fn wake_of(now: u32, w: u32) -> Wake
     }
 }
 
-impl Kernel {
+impl Core {
     // Made ready, or begins a delay or a wait: at the tail of its line, last in the list.
-    pub(crate) fn arrives(self, t: TaskSlot, p: Place, n: u8) -> Kernel
+    pub(crate) fn arrives(self, t: TaskSlot, p: Place, n: u8) -> Core
         ensures { λ r. ⌜ Does self (λ s. arrives s t p n) r ⌝ }
     {
         self.placed(t, p, n).to_tail(t)
     }
 
-    pub(crate) fn wait_for(self, o: ObjSlot, w: u32) -> Kernel
+    pub(crate) fn wait_for(self, o: ObjSlot, w: u32) -> Core
         ensures { λ r. ⌜ Does self (λ s. waitFor s o w) r ⌝ }
     {
         self.arrives(self.running, Place::Waiting(o, wake_of(self.tick, w)), 0)

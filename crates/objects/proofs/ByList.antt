@@ -5,7 +5,7 @@ use Rattle.lists.specs.Lists.{any, index}
 use Rattle.numbers.specs.declared.TaskSlot.{TaskSlot}
 use Rattle.numbers.specs.declared.ObjSlot.{ObjSlot}
 use Rattle.slots.specs.declared.Object.{Object}
-use Rattle.slots.specs.Kinds.{kindAt, isUnused, heldBy}
+use Rattle.slots.specs.Kinds.{kindAt, takesObject, heldBy}
 use Rattle.objects.specs.Columns.{objectsOf, kindIn, heldIn, unusedIn}
 use Rattle.objects.proofs.Columns.{kind-of, rows-of}
 
@@ -18,6 +18,6 @@ pub holds-of : (xs : List Object) (t : TaskSlot) → heldIn (objectsOf xs) t ≡
 unfolding heldIn
 holds-of xs t = rw (rows-of xs)
 
-pub free-of : (xs : List Object) → unusedIn (objectsOf xs) ≡ index (λ (x : Object). isUnused (x .kind)) xs
+pub free-of : (xs : List Object) → unusedIn (objectsOf xs) ≡ index (λ (x : Object). takesObject (x .kind)) xs
 unfolding unusedIn
 free-of xs = rw (rows-of xs)

@@ -36,8 +36,9 @@ module _ (c z f k h : ℕ) where
   row-is zero = low (noRing c z f k) true
   row-is (suc zero) = low true (ringFine (ring c z f k))
   row-is (suc (suc zero)) = low (noRing c z f k) true
-  row-is (suc (suc (suc zero))) = refl
-  row-is (suc (suc (suc (suc n)))) = rw (lt-leb (suc (suc (suc (suc n)))) 3 (omega arith))
+  row-is (suc (suc (suc zero))) = low (noRing c z f k) true
+  row-is (suc (suc (suc (suc zero)))) = refl
+  row-is (suc (suc (suc (suc (suc n))))) = rw (lt-leb (suc (suc (suc (suc (suc n))))) 4 (omega arith))
 
 fine-is : (os : Objects) (n : ℕ) → rowFine (cellsAt os n) ≡ fineAt os n
 unfolding kindIn
@@ -47,17 +48,17 @@ pub fines-are : (os : Objects) → allBelow 16 (λ n. rowFine (cellsAt os n)) �
 fines-are os = all-same 16 (λ n. rowFine (cellsAt os n)) (fineAt os) (λ n l. fine-is os n)
 
 -- who holds
-holder-is : (os : Objects) (n : ℕ) → holderOf (kindIn os n) .0 ≡ (if leb 3 (getD (os .state) n 0) then getD (os .holder) n 0 else 16)
+holder-is : (os : Objects) (n : ℕ) → holderOf (kindIn os n) .0 ≡ (if leb 4 (getD (os .state) n 0) then getD (os .holder) n 0 else 16)
 unfolding kindIn kindOf
 holder-is os n =
     by-state
     (λ s. holderOf (kindOf (six s (getD (os .capacity) n 0) (getD (os .size) n 0) (getD (os .first) n 0) (getD (os .count) n 0) (getD (os .holder) n 0))) .0
-    ≡ (if leb 3 s then getD (os .holder) n 0 else 16))
-    refl refl refl (λ s l. rw (held-kind os n s l, le-leb 3 s l)) (getD (os .state) n 0)
+    ≡ (if leb 4 s then getD (os .holder) n 0 else 16))
+    refl refl refl refl (λ s l. rw (held-kind os n s l, le-leb 4 s l)) (getD (os .state) n 0)
 
 -- the marks of the rows, in numbers
 abbrev pub marking : List ℕ → List ℕ → List Bool → ℕ → List Bool
-marking states holders c i = set c (if leb 3 (getD states i 0) then getD holders i 0 else 16) true
+marking states holders c i = set c (if leb 4 (getD states i 0) then getD holders i 0 else 16) true
 
 pub record Marked (states holders : List ℕ) (c₀ c : List Bool) (i : ℕ) : Type 0 where
   pub upto : Upto (marking states holders) c₀ c i
@@ -74,7 +75,7 @@ marks-are os f = by-rows mark (marking (os .state) (os .holder)) (rowsOf os) unu
     same c i h = ap (λ (m : ℕ). set c m true) (sym (holder-is os i) ∙ sym (ap (λ x. holderOf x .0) (row-at os i (rw (← rows-many os) h))))
 
 -- where nobody holds, nothing is marked
-none-marked : (states holders : List ℕ) (n : ℕ) → ((i : ℕ) → i < n → leb 3 (getD states i 0) ≡ false) → upTo (marking states holders) n (replicate 16 false) ≡ replicate 16 false
+none-marked : (states holders : List ℕ) (n : ℕ) → ((i : ℕ) → i < n → leb 4 (getD states i 0) ≡ false) → upTo (marking states holders) n (replicate 16 false) ≡ replicate 16 false
 unfolding upTo
 none-marked states holders zero f = refl
 none-marked states holders (suc n) f = ap (λ (c : List Bool). marking states holders c n) (none-marked states holders n (λ i l. f i (omega arith))) ∙ rw (f n (omega arith))
@@ -98,9 +99,9 @@ pub wait-is : (os : Objects) (t : TaskSlot) (n : ℕ) → (openAt os n || (taken
 unfolding kindIn kindOf
 wait-is os t n =
     by-state
-    (λ s. ((eqb s 1 && (eqb (getD (os .count) n 0) 0 || eqb (getD (os .count) n 0) (getD (os .capacity) n 0))) || (leb 3 s && not (eqb (getD (os .holder) n 0) (t .0))))
+    (λ s. ((eqb s 1 && (eqb (getD (os .count) n 0) 0 || eqb (getD (os .count) n 0) (getD (os .capacity) n 0))) || (leb 4 s && not (eqb (getD (os .holder) n 0) (t .0))))
     ≡ mayWait t (kindOf (six s (getD (os .capacity) n 0) (getD (os .size) n 0) (getD (os .first) n 0) (getD (os .count) n 0) (getD (os .holder) n 0))))
-    refl (or-false _) refl (λ s l. rw (held-kind os n s l, le-leb 3 s l, ne-eqb s 1 (λ e. omega arith))) (getD (os .state) n 0)
+    refl (or-false _) refl refl (λ s l. rw (held-kind os n s l, le-leb 4 s l, ne-eqb s 1 (λ e. omega arith))) (getD (os .state) n 0)
 
 pub waits-is : (os : Objects) (t : TaskSlot) {opens takes : List Bool} (n : ℕ) → Each (openAt os) opens → Each (takenAt os) takes → n < 16
     → mayWaitOn opens takes (os .holder) t n ≡ mayWait t (kindIn os n)

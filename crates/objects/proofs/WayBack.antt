@@ -28,8 +28,8 @@ bare-back s c z f k h e =
     (rw (eqb-true k 0 (and-right (eqb f 0) _ r₂), eqb-true h 0 (and-right (noRing c z f k) _ e)))
 
 held-back : (c z f k h : ℕ) → (noRing c z f k && true) ≡ true
-    → _≡_ {A = Cells} (record { state = 3; capacity = 0; size = 0; first = 0; count = 0; holder = h })
-    (record { state = 3; capacity = c; size = z; first = f; count = k; holder = h })
+    → _≡_ {A = Cells} (record { state = 4; capacity = 0; size = 0; first = 0; count = 0; holder = h })
+    (record { state = 4; capacity = c; size = z; first = f; count = k; holder = h })
 held-back c z f k h e =
     let r = and-left (noRing c z f k) true e in
     let r₁ = and-right (eqb c 0) _ r in
@@ -41,8 +41,9 @@ unfolding kindOf
 cells-back zero c z f k h e = bare-back 0 c z f k h e
 cells-back (suc zero) c z f k h e = rw (eqb-true h 0 e)
 cells-back (suc (suc zero)) c z f k h e = bare-back 2 c z f k h e
-cells-back (suc (suc (suc zero))) c z f k h e = held-back c z f k h e
-cells-back (suc (suc (suc (suc n)))) c z f k h e = absurd (omega (arith, leb-true (suc (suc (suc (suc n)))) 3 (and-left (leb (suc (suc (suc (suc n)))) 3) _ e)))
+cells-back (suc (suc (suc zero))) c z f k h e = bare-back 3 c z f k h e
+cells-back (suc (suc (suc (suc zero)))) c z f k h e = held-back c z f k h e
+cells-back (suc (suc (suc (suc (suc n))))) c z f k h e = absurd (omega (arith, leb-true (suc (suc (suc (suc (suc n))))) 4 (and-left (leb (suc (suc (suc (suc (suc n))))) 4) _ e)))
 
 module _ (os : Objects) (full : Full os) where
   -- a column is what the rows say of it

@@ -10,10 +10,10 @@ use Rattle.numbers.specs.Numbers.{task}
 use Rattle.numbers.specs.declared.TaskSlot.{TaskSlot}
 use Rattle.slots.specs.declared.Holder.the-variants.{Nobody, By}
 use Rattle.slots.specs.declared.Kind.{Kind}
-use Rattle.slots.specs.declared.Kind.the-variants.{Unused, Queue, Mutex}
+use Rattle.slots.specs.declared.Kind.the-variants.{Unused, Spent as SpentObject, Queue, Mutex}
 use Rattle.slots.specs.declared.Ring.{Ring}
 use Rattle.slots.specs.declared.Object.{Object}
-use Rattle.slots.specs.Kinds.{isUnused, heldBy}
+use Rattle.slots.specs.Kinds.{takesObject, heldBy}
 use Rattle.objects.specs.declared.Cells.{Cells}
 use Rattle.objects.specs.declared.Objects.{Objects}
 
@@ -29,9 +29,10 @@ bare s h = six s 0 0 0 0 h
 -- an object in numbers: "a number that a state does not use is 0"
 abbrev pub cellsOf : Kind → Cells
 cellsOf Unused = bare 0 0
+cellsOf SpentObject = bare 3 0
 cellsOf (Queue q) = six 1 (q .capacity) (q .size) (q .first) (q .count) 0
 cellsOf (Mutex Nobody) = bare 2 0
-cellsOf (Mutex (By t)) = bare 3 (t .0)
+cellsOf (Mutex (By t)) = bare 4 (t .0)
 
 -- and back
 unfoldable pub kindOf : Cells → Kind
@@ -39,6 +40,7 @@ kindOf c =
     if eqb (c .state) 0 then Unused
     else if eqb (c .state) 1 then Queue (ring (c .capacity) (c .size) (c .first) (c .count))
     else if eqb (c .state) 2 then Mutex Nobody
+    else if eqb (c .state) 3 then SpentObject
     else Mutex (By (task (c .holder)))
 
 -- the columns that stand for a list of objects
@@ -91,9 +93,9 @@ rowsOf os = values (rowAt os) (length (os .state))
 unfoldable pub heldIn : Objects → TaskSlot → Bool
 heldIn os t = any (λ (x : Object). heldBy t (x .kind)) (rowsOf os)
 
--- the lowest unused row; their number where there is none
+-- the lowest unused row, spent ones left out; their number where there is none
 unfoldable pub unusedIn : Objects → ℕ
-unusedIn os = index (λ (x : Object). isUnused (x .kind)) (rowsOf os)
+unusedIn os = index (λ (x : Object). takesObject (x .kind)) (rowsOf os)
 
 -- "a number that a state does not use is 0"
 abbrev pub noRing : ℕ → ℕ → ℕ → ℕ → Bool
@@ -101,9 +103,9 @@ noRing c z f k = eqb c 0 && (eqb z 0 && (eqb f 0 && eqb k 0))
 
 abbrev pub known : Cells → Bool
 known c =
-    leb (c .state) 3
+    leb (c .state) 4
     && ((eqb (c .state) 1 || noRing (c .capacity) (c .size) (c .first) (c .count))
-    && (eqb (c .state) 3 || eqb (c .holder) 0))
+    && (eqb (c .state) 4 || eqb (c .holder) 0))
 
 unfoldable pub canonical : Objects → Bool
 canonical os = allBelow 16 (λ i. known (cellsAt os i))

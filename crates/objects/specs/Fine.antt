@@ -31,7 +31,7 @@ abbrev pub openAt : Objects → ℕ → Bool
 openAt os n = eqb (getD (os .state) n 0) 1 && (eqb (getD (os .count) n 0) 0 || eqb (getD (os .count) n 0) (getD (os .capacity) n 0))
 
 abbrev pub takenAt : Objects → ℕ → Bool
-takenAt os n = leb 3 (getD (os .state) n 0)
+takenAt os n = leb 4 (getD (os .state) n 0)
 
 -- how many are held
 unfoldable pub holdingIn : Objects → ℕ

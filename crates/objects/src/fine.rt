@@ -25,16 +25,16 @@ fn row_fine(s: u8, c: u8, z: u8, f: u8, k: u8, h: u8) -> bool
     let few = lists::both(f == 0, k == 0);
     let none = lists::both(c == 0, lists::both(z == 0, few));
     let rings = lists::either(s == 1, none);
-    let known = lists::both(s <= 3, lists::both(rings, lists::either(s == 3, h == 0)));
+    let known = lists::both(s <= 4, lists::both(rings, lists::either(s == 4, h == 0)));
     let ranges = lists::either(s != 1, ring_fine(c, z, f, k));
     lists::both(known, lists::both(ranges, h < 16))
 }
 
 // Who holds it; 16 where nobody does.
 fn by_whom(s: u8, h: u8) -> usize
-    ensures { λ r. ⌜ r ≡ if leb 3 s then h else 16 ⌝ }
+    ensures { λ r. ⌜ r ≡ if leb 4 s then h else 16 ⌝ }
 {
-    if 3 <= s { h as usize } else { 16 }
+    if 4 <= s { h as usize } else { 16 }
 }
 
 impl Objects {
@@ -72,7 +72,7 @@ impl Objects {
         let mut n = 0u8;
         let mut i = 0usize;
         while i < 16 {
-            n += lists::one_if(3 <= state[i]);
+            n += lists::one_if(4 <= state[i]);
             i += 1;
         }
         n
@@ -122,7 +122,7 @@ impl Objects {
         let mut out = [false; 16];
         let mut i = 0usize;
         while i < 16 {
-            out[i] = 3 <= state[i];
+            out[i] = 4 <= state[i];
             i += 1;
         }
         out

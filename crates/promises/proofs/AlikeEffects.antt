@@ -24,7 +24,7 @@ use Rattle.slots.specs.declared.Kind.the-variants.{Unused, Queue, Mutex}
 use Rattle.slots.specs.declared.Who.{Who}
 use Rattle.slots.specs.declared.Who.the-variants.{AllReady, WaitersOf}
 use Rattle.slots.specs.Places.{isReady, isListed, wakesAt, outcomeDue}
-use Rattle.slots.specs.Values.{freeTask, readyAt, placed, ranked, brokenOff, taskAt}
+use Rattle.slots.specs.Values.{freeTask, spentTask, readyAt, placed, ranked, brokenOff, taskAt}
 use Rattle.rules.specs.State.{State}
 use Rattle.slots.specs.Kinds.{kindAt}
 use Rattle.rules.specs.Tables.{holds, freeSlot, freeObject, withTask, withObject, withOrder, withHold}
@@ -41,6 +41,7 @@ use Rattle.rules.proofs.TableWithin.{first-within, first-single, by-outlet}
 use Rattle.promises.specs.Alike.{Alike}
 use Rattle.promises.proofs.AlikeFirsts.{same-leader, same-higher}
 use Rattle.promises.proofs.AlikeTwins.{Twins, twice, to-tail, to-head, out, moving, changed, unseen, beside}
+use Rattle.slots.specs.declared.Kind.the-variants.{Spent as SpentObject}
 
 -- a task that passes a test which free slots fail has one of the 16 numbers
 pub slot-low : (q : Place → Bool) → q Free ≡ false → (ts : List Task) (t : TaskSlot) → length ts ≤ 16 → q (taskAt ts t .place) ≡ true → t .0 < 16
@@ -115,9 +116,9 @@ pub created-too : {k j : State} (p : ℕ) → freeSlot (k .tasks) < 16 → Twins
 unfolding created toTail
 created-too {k} p h w = twice (λ z. created z p) w (λ o v. changed k o v (to-tail (task (freeSlot (k .tasks))) h) (readyAt p))
 
-pub deleted-too : {k j : State} (t : TaskSlot) → Twins k j → Twins (deleted k t) (deleted j t)
+pub deleted-too : {k j : State} (t : TaskSlot) (last : Bool) → Twins k j → Twins (deleted k t last) (deleted j t last)
 unfolding deleted leaves
-deleted-too {k} t w = twice (λ z. deleted z t) w (λ o v. changed k o v (out t) freeTask)
+deleted-too {k} t last w = twice (λ z. deleted z t last) w (λ o v. changed k o v (out t) (if last then spentTask else freeTask))
 
 pub suspended-too : {k j : State} (t : TaskSlot) → Twins k j → Twins (suspended k t) (suspended j t)
 unfolding suspended leaves
@@ -164,9 +165,9 @@ pub mutex-made-too : {k j : State} → Twins k j → Twins (mutexMade k) (mutexM
 unfolding mutexMade
 mutex-made-too {k} w = twice (λ z. mutexMade z) w (λ m v. object-too (object (freeObject (k .objects))) (Mutex Nobody) v)
 
-pub removed-too : {k j : State} (o : ObjSlot) → Twins k j → Twins (removed k o) (removed j o)
+pub removed-too : {k j : State} (o : ObjSlot) (last : Bool) → Twins k j → Twins (removed k o last) (removed j o last)
 unfolding removed
-removed-too o w = object-too o Unused w
+removed-too o last w = object-too o (if last then SpentObject else Unused) w
 
 -- ── ticks
 count-too : {k j : State} (h p : ℕ) → Twins k j → Twins (withHold k h p) (withHold j h p)
@@ -260,11 +261,13 @@ received-too {k} o q n w = twice (λ z. received z o q n) w (λ m v. rw (← fir
 
 pub sent-to-too : {k j : State} (o : ObjSlot) (x : Kind) (n : ℕ) → Twins k j → Twins (sentTo k o x n) (sentTo j o x n)
 sent-to-too o Unused n w = w
+sent-to-too o SpentObject n w = w
 sent-to-too o (Queue q) n w = sent-too o q n w
 sent-to-too o (Mutex h) n w = w
 
 pub received-from-too : {k j : State} (o : ObjSlot) (x : Kind) (n : ℕ) → Twins k j → Twins (receivedFrom k o x n) (receivedFrom j o x n)
 received-from-too o Unused n w = w
+received-from-too o SpentObject n w = w
 received-from-too o (Queue q) n w = received-too o q n w
 received-from-too o (Mutex h) n w = w
 
@@ -274,6 +277,7 @@ taken-too {k} o n w = twice (λ z. taken z o n) w (λ m v. go m v (kindAt (k .ob
   where
     go : (m : Order) → Twins k (withOrder k m) → (x : Kind) → Twins (takenFrom k o x n) (takenFrom (withOrder k m) o x n)
     go m v Unused = v
+    go m v SpentObject = v
     go m v (Queue q) = v
     go m v (Mutex Nobody) = object-too o (Mutex (By (k .running))) v
     go m v (Mutex (By h)) = wait-too o n (lent-too h v)

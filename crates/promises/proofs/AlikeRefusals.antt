@@ -15,7 +15,7 @@ use Rattle.calls.specs.declared.Asked.{Asked}
 use Rattle.calls.specs.Behind.{nothing, onTask}
 use Rattle.order.specs.declared.Order.{Order}
 use Rattle.slots.specs.declared.Task.{Task}
-use Rattle.slots.specs.Places.{isFree, isSuspended}
+use Rattle.slots.specs.Places.{takesTask, isSuspended}
 use Rattle.rules.specs.State.{State}
 use Rattle.slots.specs.Values.{taskAt}
 use Rattle.rules.specs.Tables.{freeSlot, withOrder}
@@ -66,8 +66,8 @@ create-low k p item store h e = go (eqb (freeSlot (k .tasks)) 16) refl (clear (t
   where
     go : (b : Bool) → eqb (freeSlot (k .tasks)) 16 ≡ b → b ≡ false → freeSlot (k .tasks) < 16
     go true f g = absurd (false≢true (sym g))
-    go false f g = omega (arith, eqb-false (freeSlot (k .tasks)) 16 f, index-within (λ (x : Task). isFree (x .place)) (k .tasks))
+    go false f g = omega (arith, eqb-false (freeSlot (k .tasks)) 16 f, index-within (λ (x : Task). takesTask (x .place)) (k .tasks))
 
-pub resume-low : (k : State) (t : TaskSlot) (item store : ℕ) → length (k .tasks) ≤ 16 → laterRow k (onTask 4 t 0) item store ≡ 0 → t .0 < 16
+pub resume-low : (k : State) (t : TaskSlot) (last : Bool) (item store : ℕ) → length (k .tasks) ≤ 16 → laterRow k (onTask 4 t last 0) item store ≡ 0 → t .0 < 16
 unfolding laterRow table notSuspended every
-resume-low k t item store h e = slot-low isSuspended refl (k .tasks) t h (on (isSuspended (taskAt (k .tasks) t .place)) (clear (table (seen k (onTask 4 t 0)) (onTask 4 t 0) item store) refl e 10))
+resume-low k t last item store h e = slot-low isSuspended refl (k .tasks) t h (on (isSuspended (taskAt (k .tasks) t .place)) (clear (table (seen k (onTask 4 t last 0)) (onTask 4 t last 0) item store) refl e 10))

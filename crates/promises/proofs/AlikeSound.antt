@@ -34,6 +34,7 @@ sound-other k o a d s =
         runs = record { ready = s .running .runs .ready; heads = rw (← a .lines (taskAt (k .tasks) (k .running) .effective)) (s .running .runs .heads) };
         no-higher = λ h p l. rw (← a .lines p) (s .running .no-higher h p l);
       };
+      uses = s .uses;
     }
 
 alike-back : {k j : State} → Alike k j → Alike j k
@@ -45,6 +46,7 @@ alike-back a =
       tick = sym (a .tick);
       hold = sym (a .hold);
       pended = sym (a .pended);
+      uses = sym (a .uses);
       lines = λ p. sym (a .lines p);
       lists = λ o. sym (a .lists o);
     }

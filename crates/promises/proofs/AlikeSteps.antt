@@ -1,6 +1,6 @@
 -- What the order tells beyond the lines and the lists is never used: every call gives alike kernels the same answer, the same store and alike kernels.
 use Prim.Native.Nat.{ℕ}
-use mathlib.Core.Path.{_≡_, refl, sym, ap, _∙_}
+use mathlib.Core.Path.{_≡_, refl, sym, ap, subst, _∙_}
 use mathlib.Core.Bool.{Bool, true, false}
 use mathlib.Core.List.{List, [], _∷_}
 use native.Mathlib.Omega.{arith}
@@ -12,8 +12,9 @@ use Rattle.numbers.specs.declared.TaskSlot.{TaskSlot}
 use Rattle.numbers.specs.declared.ObjSlot.{ObjSlot}
 use Rattle.calls.specs.declared.Call.{Call}
 use Rattle.calls.specs.declared.Call.the-variants.{Create, Delete, Suspend, Resume, SetPriority, Delay, Yield, Hold, Release, MakeQueue, MakeMutex, Remove, Send, Receive, Take, Give, Tick}
+use Rattle.calls.specs.declared.Uses.{Uses}
 use Rattle.calls.specs.declared.Asked.{Asked}
-use Rattle.calls.specs.Door.{taskSlot, objSlot}
+use Rattle.calls.specs.Door.{lastIn, taskSlot, objSlot}
 use Rattle.calls.specs.Behind.{asked}
 use Rattle.order.specs.declared.Order.{Order}
 use Rattle.slots.specs.declared.Kind.{Kind}
@@ -21,14 +22,14 @@ use Rattle.slots.specs.declared.Kind.the-variants.{Unused, Queue, Mutex}
 use Rattle.slots.specs.declared.Who.the-variants.{AllReady, WaitersOf}
 use Rattle.rules.specs.State.{State}
 use Rattle.slots.specs.Kinds.{kindAt}
-use Rattle.rules.specs.Tables.{withOrder, withRunning}
+use Rattle.rules.specs.Tables.{withOrder, withRunning, withUses}
 use Rattle.rules.specs.Lines.{first, runsIf, chosen}
 use Rattle.rules.specs.Sound.{sound}
 use Rattle.items.specs.Bytes.{putAt}
 use Rattle.rules.specs.Queues.{placeBy, storeSent, storeReceived, sentTo, receivedFrom, storeSentTo, storeReceivedFrom}
 use Rattle.rules.specs.Refusals.{laterRow, refusal}
 use Rattle.rules.specs.Effects.{effect}
-use Rattle.rules.specs.Steps.{stored, answered, accepted, turnedAway, step}
+use Rattle.rules.specs.Steps.{stored, answered, usesAfter, accepted, turnedAway, steppedBy, step}
 use Rattle.rules.proofs.TableWithin.{by-outlet}
 use Rattle.promises.specs.Alike.{Alike, AlikeSteps, Ordered}
 use Rattle.promises.proofs.AlikeTwins.{Twins, two-orders, shared, twice}
@@ -37,26 +38,27 @@ use Rattle.promises.proofs.AlikeEffects.{delayed-too, queue-made-too, m
 use Rattle.promises.proofs.AlikeEffects.{received-from-too, taken-too, given-too}
 use Rattle.promises.proofs.AlikeSound.{alike-sound, twins}
 use Rattle.promises.proofs.AlikeRefusals.{alike-refusal, create-low, resume-low}
+use Rattle.slots.specs.declared.Kind.the-variants.{Spent as SpentObject}
 
 -- ── alike effects, stores and answers of an accepted call
-effect-too : (k j : State) (c : Call) (item store : ℕ) → laterRow k (asked c) item store ≡ 0 → Twins k j → Twins (effect k (asked c)) (effect j (asked c))
+effect-too : (k j : State) (c : Call) (item store : ℕ) → laterRow k (asked (k .uses) c) item store ≡ 0 → Twins k j → Twins (effect k (asked (k .uses) c)) (effect j (asked (k .uses) c))
 unfolding effect asked
 effect-too k j (Create p) item store e w = created-too p (create-low k p item store (w .slots) e) w
-effect-too k j (Delete t) item store e w = deleted-too (taskSlot t) w
-effect-too k j (Suspend t) item store e w = suspended-too (taskSlot t) w
-effect-too k j (Resume t) item store e w = resumed-too (taskSlot t) (resume-low k (taskSlot t) item store (w .slots) e) w
-effect-too k j (SetPriority t p) item store e w = new-priority-too (taskSlot t) p w
+effect-too k j (Delete t) item store e w = deleted-too (taskSlot (k .uses) t) (lastIn (k .uses .tasks) (taskSlot (k .uses) t .0)) w
+effect-too k j (Suspend t) item store e w = suspended-too (taskSlot (k .uses) t) w
+effect-too k j (Resume t) item store e w = resumed-too (taskSlot (k .uses) t) (resume-low k (taskSlot (k .uses) t) (lastIn (k .uses .tasks) (taskSlot (k .uses) t .0)) item store (w .slots) e) w
+effect-too k j (SetPriority t p) item store e w = new-priority-too (taskSlot (k .uses) t) p w
 effect-too k j (Delay n) item store e w = delayed-too n w
 effect-too k j Yield item store e w = yielded-too w
 effect-too k j Hold item store e w = held-too w
 effect-too k j Release item store e w = released-too w
 effect-too k j (MakeQueue c z) item store e w = queue-made-too c z w
 effect-too k j MakeMutex item store e w = mutex-made-too w
-effect-too k j (Remove o) item store e w = removed-too (objSlot o) w
-effect-too k j (Send o n) item store e w = twice (λ z. sentTo z (objSlot o) (kindAt (z .objects) (objSlot o)) n) w (λ m v. sent-to-too (objSlot o) (kindAt (k .objects) (objSlot o)) n v)
-effect-too k j (Receive o n) item store e w = twice (λ z. receivedFrom z (objSlot o) (kindAt (z .objects) (objSlot o)) n) w (λ m v. received-from-too (objSlot o) (kindAt (k .objects) (objSlot o)) n v)
-effect-too k j (Take o n) item store e w = taken-too (objSlot o) n w
-effect-too k j (Give o) item store e w = given-too (objSlot o) w
+effect-too k j (Remove o) item store e w = removed-too (objSlot (k .uses) o) (lastIn (k .uses .objects) (objSlot (k .uses) o .0)) w
+effect-too k j (Send o n) item store e w = twice (λ z. sentTo z (objSlot (k .uses) o) (kindAt (z .objects) (objSlot (k .uses) o)) n) w (λ m v. sent-to-too (objSlot (k .uses) o) (kindAt (k .objects) (objSlot (k .uses) o)) n v)
+effect-too k j (Receive o n) item store e w = twice (λ z. receivedFrom z (objSlot (k .uses) o) (kindAt (z .objects) (objSlot (k .uses) o)) n) w (λ m v. received-from-too (objSlot (k .uses) o) (kindAt (k .objects) (objSlot (k .uses) o)) n v)
+effect-too k j (Take o n) item store e w = taken-too (objSlot (k .uses) o) n w
+effect-too k j (Give o) item store e w = given-too (objSlot (k .uses) o) w
 effect-too k j Tick item store e w = ticked-too w
 
 chosen-too : (k j : State) → Twins k j → Alike (chosen k) (chosen j)
@@ -68,15 +70,31 @@ chosen-too k j w = shared (λ z. Alike (chosen k) (chosen z)) k j w (λ o v. rw 
     go o a true (t ∷ f) = two-orders (withRunning k t) o (a .lines) (a .lists)
     go o a false f = a
 
+uses-too : {k j : State} {us vs : Uses} → Alike k j → us ≡ vs → Alike (withUses k us) (withUses j vs)
+uses-too a e =
+    record {
+      tasks = a .tasks;
+      objects = a .objects;
+      running = a .running;
+      tick = a .tick;
+      hold = a .hold;
+      pended = a .pended;
+      uses = e;
+      lines = a .lines;
+      lists = a .lists;
+    }
+
 sent-store-too : (k : State) (m : Order) → Alike k (withOrder k m) → (o : ObjSlot) (x : Kind) (item s : List ℕ) → storeSentTo k o x item s ≡ storeSentTo (withOrder k m) o x item s
 unfolding storeSent
 sent-store-too k m a o Unused item s = refl
+sent-store-too k m a o SpentObject item s = refl
 sent-store-too k m a o (Queue q) item s = rw (← outlet-same k m a o q) (ap (λ n. putAt n item s) (by-outlet k o q (λ x. placeBy k o q x ≡ placeBy (withOrder k m) o q x) (λ t e. refl) refl refl))
 sent-store-too k m a o (Mutex h) item s = refl
 
 received-store-too : (k : State) (m : Order) → Alike k (withOrder k m) → (o : ObjSlot) (x : Kind) (s : List ℕ) → storeReceivedFrom k o x s ≡ storeReceivedFrom (withOrder k m) o x s
 unfolding storeReceived
 received-store-too k m a o Unused s = refl
+received-store-too k m a o SpentObject s = refl
 received-store-too k m a o (Queue q) s = rw (← first-same k m a (WaitersOf o))
 received-store-too k m a o (Mutex h) s = refl
 
@@ -89,13 +107,13 @@ stored-too k j a item s w =
 
 answered-too : {k j next after : State} (a : Asked) → Alike k j → Alike next after → answered k a next ≡ answered j a after
 unfolding answered
-answered-too a b c = rw (b .tasks, b .objects, b .running, c .tasks)
+answered-too a b c = rw (b .tasks, b .objects, b .running, b .uses, c .tasks)
 
-accepted-too : (k j : State) (c : Call) (item s : List ℕ) → laterRow k (asked c) (length item) (length s) ≡ 0 → Twins k j → AlikeSteps (accepted k (asked c) item s) (accepted j (asked c) item s)
+accepted-too : (k j : State) (c : Call) (item s : List ℕ) → laterRow k (asked (k .uses) c) (length item) (length s) ≡ 0 → Twins k j → AlikeSteps (accepted k (asked (k .uses) c) item s) (accepted j (asked (k .uses) c) item s)
 unfolding accepted
 accepted-too k j c item s e w =
-    let next = chosen-too (effect k (asked c)) (effect j (asked c)) (effect-too k j c (length item) (length s) e w) in
-    record { answer = answered-too (asked c) (w .alike) next; store = stored-too k j (asked c) item s w; kernel = next }
+    let next = chosen-too (effect k (asked (k .uses) c)) (effect j (asked (k .uses) c)) (effect-too k j c (length item) (length s) e w) in
+    record { answer = answered-too (asked (k .uses) c) (w .alike) next; store = stored-too k j (asked (k .uses) c) item s w; kernel = uses-too next (ap (λ us. usesAfter us (asked (k .uses) c)) (w .alike .uses)) }
 
 -- ── every call
 not-refused : (k : State) (a : Asked) (item store : ℕ) → refusal k a item store ≡ 0 → (sound k ≡ true) × (laterRow k a item store ≡ 0)
@@ -109,13 +127,14 @@ not-refused k a item store h = go (sound k) refl h
 pub alike-step : (k j : State) (c : Call) (item s : List ℕ) → sound k ≡ sound j → Alike k j → AlikeSteps (step k c item s) (step j c item s)
 unfolding step
 alike-step k j c item s e a =
-    rw (← alike-refusal k j (asked c) (length item) (length s) e a)
-    (go (refusal k (asked c) (length item) (length s)) refl (eqb (refusal k (asked c) (length item) (length s)) 0) refl)
+    subst (λ us. AlikeSteps (step k c item s) (steppedBy (refusal j (asked us c) (length item) (length s)) j (asked us c) item s)) (a .uses)
+    (rw (← alike-refusal k j (asked (k .uses) c) (length item) (length s) e a)
+    (go (refusal k (asked (k .uses) c) (length item) (length s)) refl (eqb (refusal k (asked (k .uses) c) (length item) (length s)) 0) refl))
   where
-    go : (n : ℕ) → refusal k (asked c) (length item) (length s) ≡ n → (b : Bool) → eqb n 0 ≡ b
-        → AlikeSteps (if b then accepted k (asked c) item s else turnedAway k n s) (if b then accepted j (asked c) item s else turnedAway j n s)
+    go : (n : ℕ) → refusal k (asked (k .uses) c) (length item) (length s) ≡ n → (b : Bool) → eqb n 0 ≡ b
+        → AlikeSteps (if b then accepted k (asked (k .uses) c) item s else turnedAway k n s) (if b then accepted j (asked (k .uses) c) item s else turnedAway j n s)
     go n r true h =
-        let free = not-refused k (asked c) (length item) (length s) (r ∙ eqb-true n 0 h) in
+        let free = not-refused k (asked (k .uses) c) (length item) (length s) (r ∙ eqb-true n 0 h) in
         accepted-too k j c item s (free .1) (twins k j (free .0) (sym e ∙ free .0) a)
     go n r false h = record { answer = refl; store = refl; kernel = a }
 

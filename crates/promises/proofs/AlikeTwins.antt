@@ -35,11 +35,11 @@ pub record Twins (k j : State) : Type 0 where
 
 -- ── alike kernels are one kernel with two orders
 pub one-kernel : {k j : State} → Alike k j → withOrder k (j .order) ≡ j
-one-kernel {k} {j} a = λ i. record { tasks = a .tasks i; objects = a .objects i; order = j .order; running = a .running i; tick = a .tick i; hold = a .hold i; pended = a .pended i }
+one-kernel {k} {j} a = λ i. record { tasks = a .tasks i; objects = a .objects i; order = j .order; running = a .running i; tick = a .tick i; hold = a .hold i; pended = a .pended i; uses = a .uses i }
 
 pub two-orders : (k : State) (o : Order) → ((p : ℕ) → line (k .tasks) p (listed (k .order)) ≡ line (k .tasks) p (listed o))
     → ((b : ObjSlot) → those (k .tasks) (WaitersOf b) (listed (k .order)) ≡ those (k .tasks) (WaitersOf b) (listed o)) → Alike k (withOrder k o)
-two-orders k o lines lists = record { tasks = refl; objects = refl; running = refl; tick = refl; hold = refl; pended = refl; lines = lines; lists = lists }
+two-orders k o lines lists = record { tasks = refl; objects = refl; running = refl; tick = refl; hold = refl; pended = refl; uses = refl; lines = lines; lists = lists }
 
 -- to show a thing of the other, show it of the one with the other's order
 pub shared : (P : State → Type 0) (k j : State) → Twins k j → ((o : Order) → Twins k (withOrder k o) → P (withOrder k o)) → P j
@@ -95,10 +95,10 @@ set-test q ts t x e u = go (eqb (u .0) (t .0)) refl (ltb (t .0) (length ts)) ref
 
 -- ── one kernel, two orders
 abbrev pub remade : State → List Task → Order → State
-remade k us o = record { tasks = us; objects = k .objects; order = o; running = k .running; tick = k .tick; hold = k .hold; pended = k .pended }
+remade k us o = record { tasks = us; objects = k .objects; order = o; running = k .running; tick = k .tick; hold = k .hold; pended = k .pended; uses = k .uses }
 
 abbrev pub withCounts : State → List Object → Order → ℕ → ℕ → ℕ → State
-withCounts k os o tick hold pended = record { tasks = k .tasks; objects = os; order = o; running = k .running; tick = tick; hold = hold; pended = pended }
+withCounts k os o tick hold pended = record { tasks = k .tasks; objects = os; order = o; running = k .running; tick = tick; hold = hold; pended = pended; uses = k .uses }
 
 module _ (k : State) (o : Order) (w : Twins k (withOrder k o)) where
   abbrev l : List TaskSlot

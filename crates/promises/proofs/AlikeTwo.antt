@@ -7,6 +7,7 @@ use lib.ListN.{getD}
 use borrow.Author.Tests.{ne-eqb}
 use Rattle.lists.specs.Lists.{every, allBelow, any, kept}
 use Rattle.numbers.specs.Numbers.{idle}
+use Rattle.calls.specs.Door.{freshUses, usesFine}
 use Rattle.order.specs.declared.Order.{Order}
 use Rattle.order.specs.Order.{listed, ordered}
 use Rattle.order.specs.Tidy.{count, tidy}
@@ -19,12 +20,12 @@ use Rattle.promises.specs.Alike.{Alike, idleFirst, idleLast}
 
 pub two-sound : (sound idleFirst ≡ true) × (sound idleLast ≡ true)
 unfolding idleFirst idleLast sound every allBelow any kept ordered count tidy
-    taskAt kindAt holds line noHigher runsFine tablesFine levelsFine listingFine clockFine
+    taskAt kindAt holds line noHigher runsFine tablesFine levelsFine listingFine clockFine usesFine freshUses
 two-sound = (refl, refl)
 
 pub two-alike : Alike idleFirst idleLast
 unfolding idleFirst idleLast line those kept taskAt ordered
-two-alike = record { tasks = refl; objects = refl; running = refl; tick = refl; hold = refl; pended = refl; lines = lines; lists = λ o. refl }
+two-alike = record { tasks = refl; objects = refl; running = refl; tick = refl; hold = refl; pended = refl; uses = refl; lines = lines; lists = λ o. refl }
   where
     lines : (p : ℕ) → line (idleFirst .tasks) p (listed (idleFirst .order)) ≡ line (idleLast .tasks) p (listed (idleLast .order))
     lines zero = refl

@@ -1,18 +1,19 @@
--- The idle programs and the easy mistakes are caught: one claim over the whole list, computed; so none of them is the step.
+-- The idle programs, the easy mistakes and the mistakes of numbers are caught: one claim over the whole list, computed; so none of them is the step.
 use Prim.Native.Nat.{ℕ, zero, suc}
 use mathlib.Core.Path.{_≡_, refl, ap, sym, _∙_}
 use mathlib.Core.Bool.{true, not, false≢true}
 use mathlib.Core.List.{List, [], _∷_, map, List·Memᴰ, List·Memᴰ·head, List·Memᴰ·tail, List·Memᴰ·cases-cons, List·Memᴰ·not-nil}
 use mathlib.Core.Logic.{⊎-elim}
 use Rattle.lists.specs.Lists.{every, allBelow, foldl, upTo, index, any, kept}
+use Rattle.calls.specs.Door.{freshUses, usesFine}
 use Rattle.calls.specs.Behind.{asked}
 use Rattle.order.specs.Order.{ordered, without}
 use Rattle.order.specs.Tidy.{count, tidy}
 use Rattle.items.specs.Bytes.{putAt}
 use Rattle.promises.specs.Types.{Call, State}
 use Rattle.promises.specs.Cases.{View}
-use Rattle.promises.specs.Wrong.{Stepping, stepOf, stepBy, Numbers, turnsAllAway, alwaysDone, changesNothing, madeUp, Wrong, showsBy, ofWord, sameNumber, sameList, sameView}
-use Rattle.promises.specs.Wrong.{Verdict, found, verdict, idlePrograms, easyMistakes, wrongs}
+use Rattle.promises.specs.Wrong.{Stepping, raised, stepOf, stepBy, Numbers, turnsAllAway, alwaysDone, changesNothing, madeUp, Wrong, showsBy, ofWord, sameNumber, sameList, sameView}
+use Rattle.promises.specs.Wrong.{Verdict, found, verdict, idlePrograms, easyMistakes, numberMistakes, wrongs}
 use Rattle.rules.specs.Effects.{created, deleted, suspended, resumed, yielded, delayed, queueMade, mutexMade, removed, taken, handedOn, given, effect}
 use Rattle.rules.specs.Parts.{itemAt}
 use Rattle.rules.specs.Queues.{outlet, sent, storeSent, received, storeReceived}
@@ -23,7 +24,7 @@ use Rattle.rules.specs.Refusals.{heldOrWaited, inUse}
 use Rattle.rows.specs.Applies.{noTick, table}
 use Rattle.rules.specs.Refusals.{laterRow, refusal}
 use Rattle.rules.specs.Sound.{tablesFine, levelsFine, listingFine, clockFine, noHigher, runsFine, sound}
-use Rattle.rules.specs.Steps.{stored, answered, accepted, step}
+use Rattle.rules.specs.Steps.{stored, answered, usesAfter, accepted, step}
 use Rattle.rules.specs.Trace.{trace}
 use Rattle.slots.specs.Values.{taskAt}
 use Rattle.slots.specs.Kinds.{kindAt}
@@ -33,16 +34,16 @@ use Rattle.rules.specs.Ticks.{wokenIfDue, wakes, oneTick, turned, ticked, ticks
 use Rattle.rules.specs.Waits.{arrives, waitFor}
 
 -- what is changed is changed in the step itself: with the kernel's own parts the frame is the step
-pub frame : (k : State) (c : Call) (i s : List ℕ) → stepOf refusal effect chosen stored k c i s ≡ step k c i s
+pub frame : (k : State) (c : Call) (i s : List ℕ) → stepOf asked refusal effect chosen stored raised k c i s ≡ step k c i s
 unfolding stepOf step accepted
 frame k c i s = refl
 
 pub caught : (number : Numbers) (n : ℕ) → map found (wrongs number n) ≡ map verdict (wrongs number n)
-unfolding wrongs idlePrograms easyMistakes stepOf turnsAllAway alwaysDone changesNothing trace showsBy sameNumber sameList sameView every allBelow
+unfolding wrongs idlePrograms easyMistakes numberMistakes stepOf turnsAllAway alwaysDone changesNothing trace showsBy sameNumber sameList sameView every allBelow
     foldl upTo index any kept asked ordered without count tidy putAt created deleted suspended resumed yielded delayed queueMade mutexMade
     removed taken handedOn given effect itemAt outlet sent storeSent received storeReceived line those highest leader first chosen toTail toHead
     leaves moved movedIf prioritized newPriority lent ownAgain outOfRange namesNone wrongSize notForIdle notWithHold noneFree heldOrWaited inUse
-    notHis hisAlready notSuspended mustWait noDepth noTick table laterRow refusal noHigher runsFine tablesFine levelsFine listingFine clockFine sound stored answered accepted step fresh
+    notHis hisAlready notSuspended mustWait noDepth noTick table laterRow refusal noHigher runsFine tablesFine levelsFine listingFine clockFine usesFine sound stored answered usesAfter accepted step fresh freshUses
     taskAt kindAt holds freeSlot freeObject wokenIfDue wakes byNumber oneTick turned ticked ticks released held arrives waitFor
 caught number n = refl
 

@@ -31,7 +31,7 @@ use Rattle.rules.specs.Trace.{momentOf, trace, stateAfter, CallMade, stepMade}
 use Rattle.rules.proofs.TableWithin.{by-outlet}
 use Rattle.rules.proofs.KeepBlocks.{prioritized-same}
 use Rattle.promises.specs.Types.{TaskSlot, ObjSlot, Call, Create, Delete, Suspend, Resume, SetPriority, Delay, Yield, Hold, Release, MakeQueue, MakeMutex, Remove, Send}
-use Rattle.promises.specs.Types.{Receive, Take, Give, Tick, Ready, Delayed, AllReady, WaitersOf, Nobody, By, Kind, Unused, Queue, Mutex, State}
+use Rattle.promises.specs.Types.{Receive, Take, Give, Tick, Ready, Delayed, AllReady, WaitersOf, Nobody, By, Kind, Unused, SpentObject, Queue, Mutex, State}
 use Rattle.promises.specs.History.{reached}
 use Rattle.promises.specs.Depth.{deeper, isAccepted, depthAt, depth}
 
@@ -94,12 +94,14 @@ module _ (k : State) where
   sent-hold : (o : ObjSlot) (x : Kind) (w : ℕ) → sentTo k o x w .hold ≡ k .hold
   unfolding sent arrives waitFor toTail
   sent-hold o Unused w = refl
+  sent-hold o SpentObject w = refl
   sent-hold o (Queue q) w = by-outlet k o q (λ x. sentBy k o q w x .hold ≡ k .hold) (λ t e. refl) refl refl
   sent-hold o (Mutex h) w = refl
 
   received-hold : (o : ObjSlot) (x : Kind) (w : ℕ) → receivedFrom k o x w .hold ≡ k .hold
   unfolding received arrives waitFor toTail
   received-hold o Unused w = refl
+  received-hold o SpentObject w = refl
   received-hold o (Queue q) w = go (eqb (q .count) 0) (first k (WaitersOf o))
     where
       go : (b : Bool) (l : List TaskSlot) → (if b then waitFor k o w else refilledBy k o (oneLess q) l) .hold ≡ k .hold
@@ -111,6 +113,7 @@ module _ (k : State) where
   taken-hold : (o : ObjSlot) (x : Kind) (w : ℕ) → takenFrom k o x w .hold ≡ k .hold
   unfolding lent waitFor arrives toTail
   taken-hold o Unused w = refl
+  taken-hold o SpentObject w = refl
   taken-hold o (Queue q) w = refl
   taken-hold o (Mutex Nobody) w = refl
   taken-hold o (Mutex (By h)) w = prioritized-same k h _ _ .hold
@@ -135,13 +138,13 @@ module _ (k : State) where
       go true e = ticks-hold (k .pended) (withHold k 0 0) ∙ omega (arith, eqb-true (k .hold) 1 e)
       go false e = refl
 
-  effect-hold : (c : Call) → effect k (asked c) .hold ≡ deeper (asked c) (k .hold)
+  effect-hold : (c : Call) → effect k (asked (k .uses) c) .hold ≡ deeper (asked (k .uses) c) (k .hold)
   unfolding effect asked created deleted resumed yielded queueMade mutexMade removed taken newPriority held arrives leaves toTail
   effect-hold (Create p) = refl
   effect-hold (Delete t) = refl
-  effect-hold (Suspend t) = suspended-hold (taskSlot t)
+  effect-hold (Suspend t) = suspended-hold (taskSlot (k .uses) t)
   effect-hold (Resume t) = refl
-  effect-hold (SetPriority t p) = prioritized-same k (taskSlot t) _ _ .hold
+  effect-hold (SetPriority t p) = prioritized-same k (taskSlot (k .uses) t) _ _ .hold
   effect-hold (Delay n) = delayed-hold n
   effect-hold Yield = refl
   effect-hold Hold = refl
@@ -149,10 +152,10 @@ module _ (k : State) where
   effect-hold (MakeQueue c z) = refl
   effect-hold MakeMutex = refl
   effect-hold (Remove o) = refl
-  effect-hold (Send o w) = sent-hold (objSlot o) (kindAt (k .objects) (objSlot o)) w
-  effect-hold (Receive o w) = received-hold (objSlot o) (kindAt (k .objects) (objSlot o)) w
-  effect-hold (Take o w) = taken-hold (objSlot o) (kindAt (k .objects) (objSlot o)) w
-  effect-hold (Give o) = given-hold (objSlot o)
+  effect-hold (Send o w) = sent-hold (objSlot (k .uses) o) (kindAt (k .objects) (objSlot (k .uses) o)) w
+  effect-hold (Receive o w) = received-hold (objSlot (k .uses) o) (kindAt (k .objects) (objSlot (k .uses) o)) w
+  effect-hold (Take o w) = taken-hold (objSlot (k .uses) o) (kindAt (k .objects) (objSlot (k .uses) o)) w
+  effect-hold (Give o) = given-hold (objSlot (k .uses) o)
   effect-hold Tick = ticked-hold
 
   chosen-hold : chosen k .hold ≡ k .hold
@@ -170,11 +173,11 @@ unfolding step accepted
 step-depth k s m = go (isAccepted k m)
   where
     no : ℕ
-    no = refusal k (asked (m .call)) (length (m .item)) (length (m .store))
+    no = refusal k (asked (k .uses) (m .call)) (length (m .item)) (length (m .store))
 
-    go : (b : Bool) → (if b then accepted k (asked (m .call)) (m .item) (m .store) else turnedAway k no (m .store)) .kernel .hold
-        ≡ (if b then deeper (asked (m .call)) (k .hold) else k .hold)
-    go true = chosen-hold (effect k (asked (m .call))) ∙ effect-hold k (m .call)
+    go : (b : Bool) → (if b then accepted k (asked (k .uses) (m .call)) (m .item) (m .store) else turnedAway k no (m .store)) .kernel .hold
+        ≡ (if b then deeper (asked (k .uses) (m .call)) (k .hold) else k .hold)
+    go true = chosen-hold (effect k (asked (k .uses) (m .call))) ∙ effect-hold k (m .call)
     go false = refl
 
 run-depth : (k : State) (n : ℕ) (s : List ℕ) (ms : List CallMade) → k .hold ≡ n

@@ -27,7 +27,7 @@ use Rattle.promises.proofs.LineForLine.{first-line}
 -- ---- one answer line for each line
 
 told-ended : (d : Stepped) → Ended (told d)
-told-ended d = reply-ended (d .answer) (taskNo (d .kernel .running))
+told-ended d = reply-ended (d .answer) (taskNo (d .kernel .uses) (d .kernel .running))
 
 -- the first line written is the first line's answer
 pub next-answer : (k : State) (s l : List ℕ) (ls : List (List ℕ))

@@ -1,7 +1,7 @@
 -- Five faults that the published models or FreeRTOS itself have, and that cannot happen here: after any calls from the fresh kernel.
 use Prim.Native.Nat.{ℕ, _<_, _≤_}
-use mathlib.Core.Path.{_≡_, ap, _∙_}
-use mathlib.Core.Bool.{true}
+use mathlib.Core.Path.{_≡_, refl, ap, _∙_}
+use mathlib.Core.Bool.{true, false}
 use mathlib.Core.List.{List}
 use lib.ListN.{length}
 use native.Mathlib.Omega.{arith}
@@ -11,7 +11,7 @@ use Rattle.calls.specs.declared.TaskNo.{TaskNo}
 use Rattle.calls.specs.Door.{taskSlot}
 use Rattle.calls.specs.Behind.{asked}
 use Rattle.slots.specs.Values.{ranked, taskAt}
-use Rattle.slots.specs.Kinds.{kindAt}
+use Rattle.slots.specs.Kinds.{isUnused, kindAt}
 use Rattle.rules.specs.Tables.{fresh}
 use Rattle.rules.specs.Lines.{level}
 use Rattle.rules.specs.Sentences.{Holds, Exists, MayWait, receiver, sender, taker, Sound}
@@ -25,7 +25,7 @@ use Rattle.rules.proofs.SoundSays.{sound-says}
 use Rattle.rules.proofs.KeepSlot.{at-same}
 use Rattle.rules.proofs.KeepBlocks.{prioritized-tasks}
 use Rattle.rules.proofs.Keeps.{there-low}
-use Rattle.promises.specs.Types.{TaskSlot, ObjSlot, SetPriority, Wake, Ready, Waiting, Kind, Unused, State}
+use Rattle.promises.specs.Types.{TaskSlot, ObjSlot, SetPriority, Wake, Ready, Waiting, Kind, State}
 use Rattle.promises.specs.History.{reached}
 use Rattle.promises.specs.Depth.{isAccepted, depth}
 use Rattle.promises.proofs.Histories.{reached-sound}
@@ -50,18 +50,18 @@ module _ (ms : List CallMade) where
   pub hold-counts : (k .hold ≡ depth ms) × (depth ms ≤ 255)
   hold-counts = (depth-by-calls ms, omega (arith, depth-by-calls ms, S .clock .counts .hold-range))
 
-  -- an object in use removed: whoever waits, waits on an object that is there
-  pub waited-stays : (t : TaskSlot) (o : ObjSlot) (w : Wake) → taskAt (k .tasks) t .place ≡ Waiting o w → kindAt (k .objects) o ≡ Unused → ⊥
+  -- an object in use removed: whoever waits, waits on an object that is there, in a slot neither free nor spent
+  pub waited-stays : (t : TaskSlot) (o : ObjSlot) (w : Wake) → taskAt (k .tasks) t .place ≡ Waiting o w → isUnused (kindAt (k .objects) o) ≡ false
   waited-stays t o w e = not-unused (S .tables .tasks t .waits o w e)
     where
-      not-unused : {u : TaskSlot} {x : Kind} → MayWait u x → x ≡ Unused → ⊥
-      not-unused (receiver h) q = let z : _≡_ {A = ℕ} 0 1 = cc in omega arith
-      not-unused (sender h) q = let z : _≡_ {A = ℕ} 0 1 = cc in omega arith
-      not-unused (taker h) q = let z : _≡_ {A = ℕ} 0 1 = cc in omega arith
+      not-unused : {u : TaskSlot} {x : Kind} → MayWait u x → isUnused x ≡ false
+      not-unused (receiver h) = refl
+      not-unused (sender h) = refl
+      not-unused (taker h) = refl
 
   -- a raised priority of a boosted holder lost: a holder whose accepted change says p owns p after it, and runs at the larger of p and what it had
-  pub raise-stays : (t : TaskNo) (o : ObjSlot) (p : ℕ) (item s : List ℕ) → Holds (k .objects) (taskSlot t) o → isAccepted k record { call = SetPriority t p; item = item; store = s } ≡ true
-      → taskAt (step k (SetPriority t p) item s .kernel .tasks) (taskSlot t) ≡ ranked (taskAt (k .tasks) (taskSlot t)) p (larger (level (k .tasks) (taskSlot t)) p)
+  pub raise-stays : (t : TaskNo) (o : ObjSlot) (p : ℕ) (item s : List ℕ) → Holds (k .objects) (taskSlot (k .uses) t) o → isAccepted k record { call = SetPriority t p; item = item; store = s } ≡ true
+      → taskAt (step k (SetPriority t p) item s .kernel .tasks) (taskSlot (k .uses) t) ≡ ranked (taskAt (k .tasks) (taskSlot (k .uses) t)) p (larger (level (k .tasks) (taskSlot (k .uses) t)) p)
   unfolding step accepted effect asked newPriority
   raise-stays t o p item s h e =
       rw (e, some-holds (k .objects) u o h)
@@ -69,7 +69,7 @@ module _ (ms : List CallMade) where
       ∙ at-same (k .tasks) u (ranked (taskAt (k .tasks) u) p both) low)
     where
       u : TaskSlot
-      u = taskSlot t
+      u = taskSlot (k .uses) t
 
       both : ℕ
       both = larger (level (k .tasks) u) p

@@ -24,6 +24,7 @@ use Rattle.rules.specs.Trace.{CallMade, stepMade}
 use Rattle.rules.proofs.Traces.{trace-keeps}
 use Rattle.rules.proofs.KeepEvery.{fresh-sound, step-kept}
 use Rattle.promises.specs.History.{after, reached, states, Placed, overlisted}
+use Rattle.slots.specs.declared.Place.the-variants.{Spent}
 
 -- soundness all the way
 pub after-sound : (k : State) (ms : List CallMade) → sound k ≡ true → sound (after k ms) ≡ true
@@ -38,6 +39,7 @@ one-of-four Ready e = refl
 one-of-four (Delayed w) e = refl
 one-of-four (Waiting o w) e = refl
 one-of-four Suspended e = refl
+one-of-four Spent e = absurd (false≢true (sym e))
 
 none-listed : (n : ℕ) → count n [] ≡ 1 → ⊥
 unfolding count

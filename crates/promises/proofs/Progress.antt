@@ -28,7 +28,7 @@ fed-answers r b = go (eqb b 10) refl
     go : (t : Bool) → eqb b 10 ≡ t → length (fed r b .answers) ≤ length (r .answers) + (if t then 256 else 0)
     go true e =
         let d = lineStep (r .kernel) (r .store) (withByte (r .cut) b) in
-        rw e (omega (arith, length-append (r .answers) (told d), reply-within (d .answer) (taskNo (d .kernel .running))))
+        rw e (omega (arith, length-append (r .answers) (told d), reply-within (d .answer) (taskNo (d .kernel .uses) (d .kernel .running))))
     go false e = rw e (omega arith)
 
 -- the answers fit into the bytes lent

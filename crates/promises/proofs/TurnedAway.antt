@@ -21,7 +21,7 @@ use Rattle.rows.proofs.InTurn.{allNumbered}
 use Rattle.rows.specs.Applies.{Row, firstRow, table}
 use Rattle.rules.specs.Refusals.{seen, laterRow, refusal}
 use Rattle.rules.specs.Effects.{effect}
-use Rattle.rules.specs.Steps.{Stepped, answered, accepted, turnedAway, step}
+use Rattle.rules.specs.Steps.{Stepped, newNumber, answered, accepted, turnedAway, step}
 use Rattle.promises.specs.Types.{Asked, Call, State}
 use Rattle.promises.specs.TurnedAway.{wholeTable, First, thisRow, below, None, end, notThisRow, Refusal, Accepted, Exactly, Decided}
 
@@ -79,7 +79,7 @@ pub not-refused : (k : State) (a : Asked) (next : State) (n : ℕ) → answered 
 unfolding answered
 not-refused k a next n = go (makes a) (isBlocked (taskAt (next .tasks) (k .running) .place))
   where
-    go : (b c : Bool) → (if b then says made (newSlot k a) else if c then says waiting 0 else says done 0) ≡ says refused n → ⊥
+    go : (b c : Bool) → (if b then says made (newNumber (k .uses) a (newSlot k a)) else if c then says waiting 0 else says done 0) ≡ says refused n → ⊥
     go true c e = let w : made ≡ refused = ap (λ (x : Saying). x .word) e in let z : _≡_ {A = ℕ} 0 1 = cc in omega arith
     go false true e = let w : waiting ≡ refused = ap (λ (x : Saying). x .word) e in let z : _≡_ {A = ℕ} 0 1 = cc in omega arith
     go false false e = let w : done ≡ refused = ap (λ (x : Saying). x .word) e in let z : _≡_ {A = ℕ} 0 1 = cc in omega arith
@@ -87,35 +87,35 @@ not-refused k a next n = go (makes a) (isBlocked (taskAt (next .tasks) (k .runni
 -- ── the step
 module _ (k : State) (c : Call) (item s : List ℕ) where
   abbrev no : ℕ
-  no = refusal k (asked c) (length item) (length s)
+  no = refusal k (asked (k .uses) c) (length item) (length s)
 
-  table-no : firstRow (wholeTable k (asked c) (length item) (length s)) ≡ no
-  table-no = rows-refusal k (asked c) (length item) (length s)
+  table-no : firstRow (wholeTable k (asked (k .uses) c) (length item) (length s)) ≡ no
+  table-no = rows-refusal k (asked (k .uses) c) (length item) (length s)
 
   is-refused : eqb no 0 ≡ false → step k c item s ≡ turnedAway k no s
   unfolding step
   is-refused e = rw e
 
-  is-accepted : eqb no 0 ≡ true → step k c item s ≡ accepted k (asked c) item s
+  is-accepted : eqb no 0 ≡ true → step k c item s ≡ accepted k (asked (k .uses) c) item s
   unfolding step
   is-accepted e = rw e
 
-  away : (n : ℕ) → First n (wholeTable k (asked c) (length item) (length s)) → (n ≡ 0 → ⊥) → Refusal k s n (step k c item s)
+  away : (n : ℕ) → First n (wholeTable k (asked (k .uses) c) (length item) (length s)) → (n ≡ 0 → ⊥) → Refusal k s n (step k c item s)
   away n f z =
       let e : no ≡ n = sym table-no ∙ first-is f in
       subst (λ (d : Stepped). Refusal k s n d) (sym (is-refused (ne-eqb no 0 (λ q. z (sym e ∙ q))))) (record { number = ap (says refused) e; kernel = refl; store = refl })
 
   -- the number of a row that applies first is not 0
-  first-some : (n : ℕ) → First n (wholeTable k (asked c) (length item) (length s)) → n ≡ 0 → ⊥
-  first-some n f z = none-first (is-none _ (rows-numbered k (asked c) (length item) (length s)) (first-is f ∙ z)) f
+  first-some : (n : ℕ) → First n (wholeTable k (asked (k .uses) c) (length item) (length s)) → n ≡ 0 → ⊥
+  first-some n f z = none-first (is-none _ (rows-numbered k (asked (k .uses) c) (length item) (length s)) (first-is f ∙ z)) f
     where
       none-first : {rs : List Row} → None rs → First n rs → ⊥
       none-first (notThisRow a g) (thisRow e b) = false≢true (sym a ∙ b)
       none-first (notThisRow a g) (below b f) = none-first g f
 
-  accepted-so : Accepted k c item s (accepted k (asked c) item s)
+  accepted-so : Accepted k c item s (accepted k (asked (k .uses) c) item s)
   unfolding accepted
-  accepted-so = record { kernel = refl; answer = refl; store = refl; no-refusal = not-refused k (asked c) (chosen (effect k (asked c))) }
+  accepted-so = record { kernel = refl; answer = refl; store = refl; no-refusal = not-refused k (asked (k .uses) c) (chosen (effect k (asked (k .uses) c))) }
 
   pub turned-away-exactly : Exactly k c item s (step k c item s)
   turned-away-exactly =
@@ -125,7 +125,7 @@ module _ (k : State) (c : Call) (item s : List ℕ) where
         else = λ f. subst (λ (d : Stepped). Accepted k c item s d) (sym (is-accepted (eq-eqb no 0 (sym table-no ∙ none-is f)))) accepted-so;
       }
     where
-      only : (n : ℕ) → step k c item s .answer ≡ says refused n → (b : Bool) → eqb no 0 ≡ b → First n (wholeTable k (asked c) (length item) (length s))
+      only : (n : ℕ) → step k c item s .answer ≡ says refused n → (b : Bool) → eqb no 0 ≡ b → First n (wholeTable k (asked (k .uses) c) (length item) (length s))
       only n e true q = absurd (accepted-so .no-refusal n (ap (λ (d : Stepped). d .answer) (sym (is-accepted q)) ∙ e))
       only n e false q =
           let m : no ≡ n = ap (λ (x : Saying). x .number) (ap (λ (d : Stepped). d .answer) (sym (is-refused q)) ∙ e) in

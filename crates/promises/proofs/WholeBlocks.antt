@@ -28,7 +28,7 @@ grows r b = go (eqb b 10) refl
     go : (t : Bool) → eqb b 10 ≡ t → length (fed r b .answers) ≤ length (r .answers) + 64
     go true e =
         let d = lineStep (r .kernel) (r .store) (withByte (r .cut) b) in
-        rw e (omega (arith, length-append (r .answers) (told d), reply-within (d .answer) (taskNo (d .kernel .running))))
+        rw e (omega (arith, length-append (r .answers) (told d), reply-within (d .answer) (taskNo (d .kernel .uses) (d .kernel .running))))
     go false e = rw e (omega arith)
 
 -- with 64 bytes lent for each byte of a block, and 256 more, it is taken whole

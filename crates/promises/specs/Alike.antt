@@ -6,6 +6,7 @@ use lib.ListN.{replicate}
 use Rattle.numbers.specs.declared.TaskSlot.{TaskSlot}
 use Rattle.numbers.specs.declared.ObjSlot.{ObjSlot}
 use Rattle.numbers.specs.Numbers.{task, idle}
+use Rattle.calls.specs.Door.{freshUses}
 use Rattle.order.specs.Order.{listed, ordered}
 use Rattle.slots.specs.declared.Who.the-variants.{WaitersOf}
 use Rattle.slots.specs.Values.{freeTask, readyAt}
@@ -28,6 +29,8 @@ pub record Alike (k j : State) : Type 0 where
   pub hold : k .hold ≡ j .hold
   -- the same pended ticks
   pub pended : k .pended ≡ j .pended
+  -- the same uses, so the same numbers
+  pub uses : k .uses ≡ j .uses
   -- the same line for each priority
   pub lines : (p : ℕ) → line (k .tasks) p (listed (k .order)) ≡ line (j .tasks) p (listed (j .order))
   -- the same waiters of each object, in the same order of arrival
@@ -45,7 +48,7 @@ Ordered k = Listing (k .tasks) (k .order)
 
 -- idle, and a task of priority 3 that runs, in either order
 abbrev pub twoIn : List TaskSlot → State
-twoIn l = record { tasks = readyAt 0 ∷ readyAt 3 ∷ replicate 14 freeTask; objects = replicate 16 unused; order = ordered l; running = task 1; tick = 0; hold = 0; pended = 0 }
+twoIn l = record { tasks = readyAt 0 ∷ readyAt 3 ∷ replicate 14 freeTask; objects = replicate 16 unused; order = ordered l; running = task 1; tick = 0; hold = 0; pended = 0; uses = freshUses }
 
 unfoldable pub idleFirst : State
 idleFirst = twoIn (idle ∷ task 1 ∷ [])

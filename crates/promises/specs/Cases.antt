@@ -22,7 +22,7 @@ abbrev pub view : Word → ℕ → ℕ → List ℕ → View
 view w n r l = record { answer = says w n; running = r; looked = l }
 
 abbrev pub viewOf : (Stepped → List ℕ) → Stepped → View
-viewOf look d = record { answer = d .answer; running = taskNo (d .kernel .running) .0; looked = look d }
+viewOf look d = record { answer = d .answer; running = taskNo (d .kernel .uses) (d .kernel .running) .0; looked = look d }
 
 pub record Case : Type 0 where
   pub start : State

@@ -19,11 +19,11 @@ deeper a n = if is 8 a then n + 1 else if is 9 a then n - 1 else n
 
 -- the call is accepted in k
 abbrev pub isAccepted : State → CallMade → Bool
-isAccepted k m = eqb (refusal k (asked (m .call)) (length (m .item)) (length (m .store))) 0
+isAccepted k m = eqb (refusal k (asked (k .uses) (m .call)) (length (m .item)) (length (m .store))) 0
 
 -- the depth after a moment, where it was n: a refused call changes nothing
 abbrev pub depthAt : ℕ → Moment CallMade → ℕ
-depthAt n m = if isAccepted (m .before) (m .made) then deeper (asked (m .made .call)) n else n
+depthAt n m = if isAccepted (m .before) (m .made) then deeper (asked (m .before .uses) (m .made .call)) n else n
 
 -- the depth after some calls from the fresh kernel, which begins with none
 abbrev pub depth : List CallMade → ℕ

@@ -8,6 +8,7 @@ use Rattle.lists.specs.Choice.{if_then_else_}
 use Rattle.numbers.specs.declared.TaskSlot.{TaskSlot}
 use Rattle.numbers.specs.declared.ObjSlot.{ObjSlot}
 use Rattle.numbers.specs.Numbers.{task, idle}
+use Rattle.calls.specs.Door.{freshUses}
 use Rattle.order.specs.Order.{listed, ordered}
 use Rattle.order.specs.Tidy.{count}
 use Rattle.slots.specs.declared.Place.{Place}
@@ -59,4 +60,5 @@ overlisted =
       tick = 0;
       hold = 0;
       pended = 0;
+      uses = freshUses;
     }

@@ -49,4 +49,4 @@ newlines (b ∷ l) = if eqb b 10 then suc (newlines l) else newlines l
 
 -- m lines, each answered "no" with the refusal number n; "the kernel and all lent bytes stay"
 abbrev pub allRefused : State → List ℕ → ℕ → ℕ → Answered
-allRefused k s n m = record { kernel = k; store = s; answers = flatten (replicate m (reply (says refused n) (taskNo (k .running)))) }
+allRefused k s n m = record { kernel = k; store = s; answers = flatten (replicate m (reply (says refused n) (taskNo (k .uses) (k .running)))) }

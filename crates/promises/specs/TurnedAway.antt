@@ -7,12 +7,13 @@ use mathlib.Core.List.{List, [], _∷_}
 use lib.ListN.{length}
 use Rattle.calls.specs.Behind.{asked}
 use Rattle.calls.specs.Said.{says, refused}
+use Rattle.rules.specs.Tables.{withUses}
 use Rattle.rules.specs.Lines.{chosen}
 use Rattle.rules.specs.Sound.{sound}
 use Rattle.rows.specs.Applies.{Row, row, table}
 use Rattle.rules.specs.Refusals.{seen}
 use Rattle.rules.specs.Effects.{effect}
-use Rattle.rules.specs.Steps.{Stepped, answered, stored}
+use Rattle.rules.specs.Steps.{Stepped, answered, stored, usesAfter}
 use Rattle.promises.specs.Types.{Asked, Call, State}
 
 -- the table of refusals, whole: 1 "the kernel value is not sound" stands first. (3 is the line reader's.)
@@ -37,16 +38,16 @@ pub record Refusal (k : State) (s : List ℕ) (n : ℕ) (d : Stepped) : Type 0 w
 
 -- the step d is what the call tables say, and no refusal
 pub record Accepted (k : State) (c : Call) (item s : List ℕ) (d : Stepped) : Type 0 where
-  pub kernel : d .kernel ≡ chosen (effect k (asked c))
-  pub answer : d .answer ≡ answered k (asked c) (chosen (effect k (asked c)))
-  pub store : d .store ≡ stored k (asked c) item s
+  pub kernel : d .kernel ≡ withUses (chosen (effect k (asked (k .uses) c))) (usesAfter (k .uses) (asked (k .uses) c))
+  pub answer : d .answer ≡ answered k (asked (k .uses) c) (chosen (effect k (asked (k .uses) c)))
+  pub store : d .store ≡ stored k (asked (k .uses) c) item s
   pub no-refusal : (n : ℕ) → d .answer ≡ says refused n → ⊥
 
 -- refused n exactly if row n is the first that applies, and then nothing has changed; else accepted
 pub record Exactly (k : State) (c : Call) (item s : List ℕ) (d : Stepped) : Type 0 where
-  pub given : (n : ℕ) → First n (wholeTable k (asked c) (length item) (length s)) → Refusal k s n d
-  pub only : (n : ℕ) → d .answer ≡ says refused n → First n (wholeTable k (asked c) (length item) (length s))
-  pub else : None (wholeTable k (asked c) (length item) (length s)) → Accepted k c item s d
+  pub given : (n : ℕ) → First n (wholeTable k (asked (k .uses) c) (length item) (length s)) → Refusal k s n d
+  pub only : (n : ℕ) → d .answer ≡ says refused n → First n (wholeTable k (asked (k .uses) c) (length item) (length s))
+  pub else : None (wholeTable k (asked (k .uses) c) (length item) (length s)) → Accepted k c item s d
 
 -- one of the two holds: some row is the first that applies, or none applies
 pub record Some (rs : List Row) : Type 0 where

@@ -1,24 +1,29 @@
--- The idle programs and the easy mistakes of document 01: each is the step with one mistake made, with a few calls that tell the two apart.
-use Prim.Native.Nat.{ℕ, zero, suc, _+_}
+-- The idle programs, the easy mistakes of document 01 and the mistakes of numbers: each is the step with one mistake made, with a few calls that tell the two apart.
+use Prim.Native.Nat.{ℕ, zero, suc, _+_, _%_}
 use mathlib.Core.Bool.{Bool, true, false, not, _&&_, _||_}
-use mathlib.Core.List.{List, [], _∷_, _++_}
+use mathlib.Core.List.{List, [], _∷_, _++_, map}
 use lib.Dec.{eqb, ltb, leb}
-use lib.ListN.{length, getD, replicate}
+use lib.ListN.{length, getD, set, replicate}
 use Rattle.lists.specs.Choice.{if_then_else_}
 use Rattle.lists.specs.Lists.{index, upTo, kept}
 use Rattle.numbers.specs.Numbers.{task, object, sameTask}
+use Rattle.calls.specs.declared.Uses.{Uses}
+use Rattle.calls.specs.declared.TaskNo.{TaskNo}
+use Rattle.calls.specs.declared.ObjNo.{ObjNo}
 use Rattle.calls.specs.Named.{taskOf, objectOf}
-use Rattle.calls.specs.Behind.{asked}
+use Rattle.calls.specs.Door.{freshUses, taskNo, objNo, withoutTask}
+use Rattle.calls.specs.Table.{Argument, aTask, anObject, aQueue, aMutex, aPriority, someTicks, aCapacity, aSize, aWait, anItem, called}
+use Rattle.calls.specs.Behind.{nothing, putAll, asked}
 use Rattle.calls.specs.Said.{Word, done, made, waiting, refused, says}
 use Rattle.order.specs.Order.{listed}
 use Rattle.items.specs.Bytes.{putAt}
 use Rattle.slots.specs.Places.{isReady, isWaiting, isSuspended, waitsOn, ofWake, wakesAt, outcomeDue}
 use Rattle.slots.specs.Values.{brokenOff, taskAt}
 use Rattle.slots.specs.Kinds.{holderOf, kindAt}
-use Rattle.promises.specs.Types.{TaskSlot, ObjSlot, Asked, Call, Create, Delete, Suspend, Delay, Hold, Release, MakeQueue, MakeMutex, Send, Receive, Take, Give, Tick, Place, Ready}
+use Rattle.promises.specs.Types.{TaskSlot, ObjSlot, Asked, Call, Create, Delete, Suspend, Delay, Hold, Release, MakeQueue, MakeMutex, Remove, Send, Receive, Take, Give, Tick, Place, Ready}
 use Rattle.promises.specs.Types.{Task, State}
 use Rattle.promises.specs.Cases.{View, view, viewOf}
-use Rattle.rules.specs.Tables.{fresh, withTask, withTick, withHold}
+use Rattle.rules.specs.Tables.{fresh, freeSlot, withTask, withTick, withHold, withUses}
 use Rattle.rules.specs.Lines.{level, leader, chosen, toTail}
 use Rattle.rules.specs.Waits.{later, arrives}
 use Rattle.rules.specs.Loans.{prioritized}
@@ -27,22 +32,27 @@ use Rattle.rules.specs.Parts.{slipOf}
 use Rattle.rows.specs.Asking.{is}
 use Rattle.rows.specs.Applies.{isEmpty}
 use Rattle.rules.specs.Refusals.{laterRow, refusal}
-use Rattle.rules.specs.Effects.{suspended, handedOn, effect}
-use Rattle.rules.specs.Steps.{Stepped, answered, stored, turnedAway, step}
+use Rattle.rules.specs.Effects.{deleted, suspended, handedOn, effect}
+use Rattle.rules.specs.Steps.{Stepped, answered, stored, usesAfter, turnedAway, step}
 use Rattle.rules.specs.Trace.{trace, atLast, lending}
 
 abbrev pub Stepping : Type 0
 Stepping = State → Call → List ℕ → List ℕ → Stepped
 
--- the step with another refusal, effect, choose and store; with the kernel's own it is the step
-unfoldable pub stepOf : (State → Asked → ℕ → ℕ → ℕ) → (State → Asked → State) → (State → State) → (State → Asked → List ℕ → List ℕ → List ℕ) → Stepping
-stepOf refuses does choose stores k c item s =
-    let n = refuses k (asked c) (length item) (length s) in
-    let next = choose (does k (asked c)) in
-    if eqb n 0 then record { kernel = next; answer = answered k (asked c) next; store = stores k (asked c) item s } else turnedAway k n s
+-- the uses after an accepted call
+abbrev pub raised : State → Asked → Uses
+raised k a = usesAfter (k .uses) a
+
+-- the step with another door, refusal, effect, choose, store and uses afterwards; with the kernel's own it is the step
+unfoldable pub stepOf : (Uses → Call → Asked) → (State → Asked → ℕ → ℕ → ℕ) → (State → Asked → State) → (State → State) → (State → Asked → List ℕ → List ℕ → List ℕ) → (State → Asked → Uses) → Stepping
+stepOf door refuses does choose stores raises k c item s =
+    let a = door (k .uses) c in
+    let n = refuses k a (length item) (length s) in
+    let next = choose (does k a) in
+    if eqb n 0 then record { kernel = withUses next (raises k a); answer = answered k a next; store = stores k a item s } else turnedAway k n s
 
 abbrev pub stepBy : (State → Asked → State) → (State → State) → Stepping
-stepBy does choose = stepOf refusal does choose stored
+stepBy does choose = stepOf asked refusal does choose stored raised
 
 -- the effect with the row of call n changed
 abbrev pub changed : ℕ → (State → Asked → State) → State → Asked → State
@@ -135,14 +145,65 @@ slipOr k a item s [] = stored k a item s
 slipOr k a item s (t ∷ l) = putAt (slipOf t) item s
 
 abbrev pub staysListed : Stepping
-staysListed = stepOf laterRow (λ k a. wokenOr k a (foundBy k a)) chosen (λ k a item s. slipOr k a item s (foundBy k a))
+staysListed = stepOf asked laterRow (λ k a. wokenOr k a (foundBy k a)) chosen (λ k a item s. slipOr k a item s (foundBy k a)) raised
 
 -- "Deleting a holder and leaving the next task in that slot as holder."; a kernel whose holder is gone is not sound, so neither does this one ask that
 abbrev pub tenLifted : State → Asked → ℕ → ℕ → ℕ
 tenLifted k a item store = let n = laterRow k a item store in if is 2 a && eqb n 10 then 0 else n
 
 abbrev pub deletesHolders : Stepping
-deletesHolders = stepOf tenLifted effect chosen stored
+deletesHolders = stepOf asked tenLifted effect chosen stored raised
+
+-- "where a slot's use .. goes up by one at each delete or remove": a step with other uses afterwards
+abbrev pub raisedBy : (State → Asked → Uses) → Stepping
+raisedBy raises = stepOf asked refusal effect chosen stored raises
+
+-- not raised at a delete
+abbrev pub notAtDelete : State → Asked → Uses
+notAtDelete k a = if is 2 a then k .uses else raised k a
+
+-- raised at create instead
+abbrev pub atCreate : State → Asked → Uses
+atCreate k a = if is 1 a then withoutTask (k .uses) (task (freeSlot (k .tasks))) else notAtDelete k a
+
+-- "A number whose use part differs from the slot's names nothing.": a door that first makes other numbers of those in a call
+abbrev pub renamed : (TaskNo → TaskNo) → (ObjNo → ObjNo) → Argument → Argument
+renamed f g (aTask t) = aTask (f t)
+renamed f g (anObject o) = anObject (g o)
+renamed f g (aQueue o) = aQueue (g o)
+renamed f g (aMutex o) = aMutex (g o)
+renamed f g (aPriority p) = aPriority p
+renamed f g (someTicks n) = someTicks n
+renamed f g (aCapacity c) = aCapacity c
+renamed f g (aSize n) = aSize n
+renamed f g (aWait w) = aWait w
+renamed f g anItem = anItem
+
+abbrev pub doorBy : (Uses → TaskNo → TaskNo) → (Uses → ObjNo → ObjNo) → Uses → Call → Asked
+doorBy f g us c = putAll us (nothing (called c .number) 0 0 1 0) (map (renamed (f us) (g us)) (called c .arguments))
+
+-- the number that the slot n % 16 has now, whatever use n has: so n % 16 alone is looked at
+abbrev pub taskNow : Uses → TaskNo → TaskNo
+taskNow us t = taskNo us (task (t .0 % 16))
+
+abbrev pub objectNow : Uses → ObjNo → ObjNo
+objectNow us o = objNo us (object (o .0 % 16))
+
+-- an old number still opens its slot
+abbrev pub oldOpens : Stepping
+oldOpens = stepOf (doorBy taskNow objectNow) refusal effect chosen stored raised
+
+-- the use is compared for tasks only
+abbrev pub tasksOnly : Stepping
+tasksOnly = stepOf (doorBy (λ us t. t) objectNow) refusal effect chosen stored raised
+
+-- "A slot given up at use 65,535 then has use 65,536 and is not used again": one that is free and not spent
+abbrev pub usedAgain : State → Asked → State
+usedAgain = changed 2 (λ k a. deleted k (a .task) false)
+
+-- the fresh kernel with task slot 1 at its last use
+abbrev pub atLastUse : State
+atLastUse = withUses fresh (record { tasks = set (freshUses .tasks) 1 65535; objects = freshUses .objects })
 
 -- a wrong step; a start, and calls from there; what is looked at; and what the right step and the wrong one show after the last call
 pub record Wrong : Type 0 where
@@ -263,13 +324,34 @@ easyMistakes =
     (λ r. getD (r .store) (slipOf (task 1)) 0 ∷ getD (r .store) 0 0 ∷ [])
     (view done 0 0 (0 ∷ 7 ∷ []))
     (view done 0 1 (7 ∷ 0 ∷ []))
-    -- the new task's number, and the holder of mutex 0
+    -- the new task's number, 17 (1 + 16 × 1) where slot 1 is used again, and the slot of who holds mutex 0
     ∷ fails deletesHolders
     (Create 3 ∷ MakeMutex ∷ Take (objectOf 0) 0 ∷ Delete (taskOf 1) ∷ Create 3 ∷ [])
     (λ r. holderOf (kindAt (r .kernel .objects) (object 0)) .0 ∷ [])
     (view made 2 1 (1 ∷ []))
-    (view made 1 1 (1 ∷ []))
+    (view made 17 17 (1 ∷ []))
+    ∷ []
+
+unfoldable pub numberMistakes : List Wrong
+numberMistakes =
+    -- the number of the second task in slot 1
+    fails (raisedBy notAtDelete) (Create 3 ∷ Delete (taskOf 1) ∷ Create 3 ∷ []) saysNothing (view made 17 17 []) (view made 1 1 [])
+    -- the number that create gave names nothing
+    ∷ fails (raisedBy atCreate) (Create 3 ∷ Suspend (taskOf 1) ∷ []) saysNothing (view done 0 0 []) (view refused 5 17 [])
+    -- 1 was the first task's in slot 1, and 17 is in it
+    ∷ fails oldOpens (Create 3 ∷ Delete (taskOf 1) ∷ Create 3 ∷ Suspend (taskOf 1) ∷ []) saysNothing (view refused 5 17 []) (view done 0 0 [])
+    -- 0 was the first object's in slot 0, and 16 is in it
+    ∷ fails tasksOnly (MakeMutex ∷ Remove (objectOf 0) ∷ MakeMutex ∷ Remove (objectOf 0) ∷ []) saysNothing (view refused 5 0 []) (view done 0 0 [])
+    -- 1,048,561 is 1 + 16 × 65,535, given twice
+    ∷ record {
+      step = stepBy usedAgain chosen;
+      start = atLastUse;
+      calls = Create 3 ∷ Delete (taskOf 1048561) ∷ Create 3 ∷ [];
+      look = saysNothing;
+      right = view made 2 2 [];
+      wrong = view made 1048561 1048561 [];
+    }
     ∷ []
 
 unfoldable pub wrongs : Numbers → ℕ → List Wrong
-wrongs number n = idlePrograms number n ++ easyMistakes
+wrongs number n = idlePrograms number n ++ (easyMistakes ++ numberMistakes)

@@ -7,7 +7,7 @@ use Rattle.lists.specs.Choice.{if_then_else_}
 use Rattle.numbers.specs.Numbers.{sameTask, isIdle}
 use Rattle.slots.specs.Places.{isFree, isSuspended}
 use Rattle.slots.specs.Kinds.{isUnused, isQueue, isMutex, heldBy, isHeld}
-use Rattle.rows.specs.Types.{Names, Nothing, ATask, AnObject, AQueue, AMutex, Asked, Kind, Unused, Queue, Mutex, Seen}
+use Rattle.rows.specs.Types.{Names, Nothing, ATask, AnObject, AQueue, AMutex, Asked, Kind, Unused, SpentObject, Queue, Mutex, Seen}
 use Rattle.rows.specs.Asking.{is, stops, waits}
 
 -- 4: "priority, capacity, size or product out of range; delay of 4,294,967,295"
@@ -34,6 +34,7 @@ namesNone s a = namesNoneAs s (a .names)
 -- 6: "the item's length is not the queue's item size"
 abbrev pub sizeDiffers : ℕ → Kind → Bool
 sizeDiffers n Unused = false
+sizeDiffers n SpentObject = false
 sizeDiffers n (Queue q) = not (eqb n (q .size))
 sizeDiffers n (Mutex h) = false
 
@@ -71,11 +72,13 @@ notSuspended s a = is 4 a && not (isSuspended (s .place))
 -- 14: "wait 0 where the caller would have to wait": a send finds the queue full, a receive finds it empty, a take finds the mutex held
 abbrev pub isFull : Kind → Bool
 isFull Unused = false
+isFull SpentObject = false
 isFull (Queue q) = eqb (q .count) (q .capacity)
 isFull (Mutex h) = false
 
 abbrev pub isEmpty : Kind → Bool
 isEmpty Unused = false
+isEmpty SpentObject = false
 isEmpty (Queue q) = eqb (q .count) 0
 isEmpty (Mutex h) = false
 

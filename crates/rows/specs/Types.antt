@@ -3,5 +3,5 @@ pub use Rattle.calls.specs.declared.Names.{Names}
 pub use Rattle.calls.specs.declared.Names.the-variants.{Nothing, Task as ATask, Object as AnObject, Queue as AQueue, Mutex as AMutex}
 pub use Rattle.calls.specs.declared.Asked.{Asked}
 pub use Rattle.slots.specs.declared.Kind.{Kind}
-pub use Rattle.slots.specs.declared.Kind.the-variants.{Unused, Queue, Mutex}
+pub use Rattle.slots.specs.declared.Kind.the-variants.{Unused, Spent as SpentObject, Queue, Mutex}
 pub use Rattle.rows.specs.declared.Seen.{Seen}

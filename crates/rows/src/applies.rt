@@ -36,6 +36,7 @@ fn size_differs(x: Kind, n: usize) -> bool
 {
     match x {
         Kind::Unused => false,
+        Kind::Spent => false,
         Kind::Queue(q) => n != q.size as usize,
         Kind::Mutex(_) => false,
     }
@@ -46,6 +47,7 @@ fn is_full(x: Kind) -> bool
 {
     match x {
         Kind::Unused => false,
+        Kind::Spent => false,
         Kind::Queue(q) => q.count == q.capacity,
         Kind::Mutex(_) => false,
     }
@@ -56,6 +58,7 @@ fn is_empty(x: Kind) -> bool
 {
     match x {
         Kind::Unused => false,
+        Kind::Spent => false,
         Kind::Queue(q) => q.count == 0,
         Kind::Mutex(_) => false,
     }

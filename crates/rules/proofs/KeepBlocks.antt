@@ -1,7 +1,7 @@
 -- The building blocks of the calls keep a kernel nearly sound: made ready, begins to wait, a priority changed.
 use Prim.Native.Nat.{ℕ, _<_, _≤_}
 use mathlib.Core.Path.{_≡_, refl, sym, ap, _∙_}
-use mathlib.Core.Bool.{Bool, true, false, _&&_}
+use mathlib.Core.Bool.{Bool, true, false, _&&_, false≢true}
 use mathlib.Core.List.{_∷_}
 use native.Mathlib.Omega.{arith}
 use lib.Dec.{eqb}
@@ -12,7 +12,7 @@ use Rattle.lists.proofs.Bools.{or-right}
 use Rattle.numbers.specs.Numbers.{idle, sameTask}
 use Rattle.order.specs.Order.{listed, without}
 use Rattle.order.proofs.Passing.{one-number}
-use Rattle.slots.specs.Places.{isReady, isBlocked, isListed}
+use Rattle.slots.specs.Places.{isFree, isReady, isBlocked, isListed}
 use Rattle.slots.specs.Values.{placed, ranked, inLine, taskAt}
 use Rattle.rules.specs.Types.{TaskSlot, ObjSlot, Wake, Place, Free, Ready, Waiting, Task, State}
 use Rattle.slots.specs.Kinds.{kindAt}
@@ -21,7 +21,7 @@ use Rattle.rules.specs.Lines.{level, toTail, toHead}
 use Rattle.rules.specs.Sentences.{Holds, Exists, MayWait, AsIdle, TaskFits}
 use Rattle.rules.specs.Waits.{arrives}
 use Rattle.rules.specs.Loans.{moved, movedIf, prioritized}
-use Rattle.rules.proofs.TableSlots.{is-ready}
+use Rattle.rules.proofs.TableSlots.{is-ready, passes-there}
 use Rattle.rules.proofs.KeepNearly.{Owing, Clear, TaskFine, Nearly, unblocked-fits, RunsIn}
 use Rattle.rules.proofs.KeepSlot.{at-same, at-other, tail-nearly, tail-listed, head-nearly, head-listed, stay-nearly}
 use Rattle.rules.proofs.KeepHeads.{runs-tail, runs-stay, runs-head}
@@ -45,7 +45,7 @@ pub to-wait : {w : Owing} {k : State} {t : TaskSlot} {p : Place} → isBlocked p
     → ((o : ObjSlot) (v : Wake) → p ≡ Waiting o v → MayWait t (kindAt (k .objects) o)) → w .due t p ≡ true → Arrival w k t p 0
 to-wait {p = p} b busy W D =
     record {
-      fits = record { waits = W; outcome-range = omega arith; delay-outcome = λ v e. refl; wait-outcome = λ o v e. refl; free = λ e. absurd (true-not-false (sym b ∙ ap isBlocked e)) };
+      fits = record { waits = W; outcome-range = omega arith; delay-outcome = λ v e. refl; wait-outcome = λ o v e. refl; free = λ e. absurd (true-not-false (sym b ∙ ap isBlocked e)); spent = λ e. absurd (true-not-false (sym b ∙ ap isBlocked e)) };
       due = D;
       stands = or-right (isReady p) _ b;
       idle-ready = λ z. absurd (busy z);
@@ -58,8 +58,8 @@ module _ {w : Owing} (k : State) (N : Nearly w k) (t : TaskSlot) (low : t .0 < 1
   there-fine : TaskFine w (k .objects) t there
   there-fine = record { fits = A .fits; levels = N .levels t; due = A .due }
 
-  not-free : (o : ObjSlot) → Holds (k .objects) t o → p ≡ Free → ⊥
-  not-free o h e = true-not-false (sym (A .stands) ∙ ap isListed e)
+  not-free : (o : ObjSlot) → Holds (k .objects) t o → isFree p ≡ false
+  not-free o h = passes-there isListed p refl refl (A .stands)
 
   -- idle has its priorities
   idle-still : t .0 ≡ 0 → AsIdle there
@@ -84,7 +84,7 @@ module _ {w : Owing} (k : State) (N : Nearly w k) (t : TaskSlot) (low : t .0 < 1
   ranked-fine =
       let F = N .tables .tasks t in
       record {
-        fits = record { waits = F .waits; outcome-range = F .outcome-range; delay-outcome = F .delay-outcome; wait-outcome = F .wait-outcome; free = λ e. absurd (X e) };
+        fits = record { waits = F .waits; outcome-range = F .outcome-range; delay-outcome = F .delay-outcome; wait-outcome = F .wait-outcome; free = λ e. absurd (false≢true (sym X ∙ ap isFree e)); spent = λ e. absurd (false≢true (sym X ∙ ap isFree e)) };
         levels = record { at-least = least; equal = P; range = high };
         due = N .due t;
       }
@@ -94,7 +94,7 @@ module _ {w : Owing} (k : State) (N : Nearly w k) (t : TaskSlot) (low : t .0 < 1
       record { ready = ap (λ v. taskAt (k .tasks) v .place) (one-number t idle z) ∙ N .tables .as-idle .ready; own = Z z .0; effective = Z z .1 }
 
   stay : Nearly w (withTask k t new)
-  stay = stay-nearly k N t new low ranked-fine (λ o h e. X e) idle-new refl
+  stay = stay-nearly k N t new low ranked-fine (λ o h. X) idle-new refl
 
   moves : isReady (taskAt (k .tasks) t .place) ≡ true → Nearly w (moved (withTask k t new) t)
   unfolding moved
@@ -104,8 +104,8 @@ module _ {w : Owing} (k : State) (N : Nearly w k) (t : TaskSlot) (low : t .0 < 1
       ready-listed = rw e
 
       go : (b : Bool) → Nearly w (if b then toHead (withTask k t new) t else toTail (withTask k t new) t)
-      go true = head-nearly k N t new low ranked-fine (λ o h q. X q) idle-new ready-listed
-      go false = tail-nearly k N t new low ranked-fine (λ o h q. X q) idle-new ready-listed
+      go true = head-nearly k N t new low ranked-fine (λ o h. X) idle-new ready-listed
+      go false = tail-nearly k N t new low ranked-fine (λ o h. X) idle-new ready-listed
 
   pub prioritized-nearly : Nearly w (prioritized k t own eff)
   unfolding prioritized movedIf
@@ -168,9 +168,9 @@ module _ {w : Owing} (k : State) (N : Nearly w k) (t : TaskSlot) (low : t .0 < 1
         go true q =
             let u : t ≡ k .running = one-number t (k .running) (eqb-true (t .0) (k .running .0) q) in
             runs-head k new (toHead (withTask k t new) t) (ap (λ (v : TaskSlot). set (k .tasks) (v .0) new) u) refl (omega (arith, N .tables .task-slots, ap (λ (v : TaskSlot). v .0) u)) (is-ready _ e)
-            (head-listed k N t new low ranked-fine (λ o h z. X z) idle-new ready-listed ∙ ap (λ (v : TaskSlot). v ∷ without v (listed (k .order))) u)
+            (head-listed k N t new low ranked-fine (λ o h. X) idle-new ready-listed ∙ ap (λ (v : TaskSlot). v ∷ without v (listed (k .order))) u)
         go false q =
-            runs-tail k R t new (toTail (withTask k t new) t) refl refl (λ z. eqb-false (t .0) (k .running .0) q (sym z)) (tail-listed k N t new low ranked-fine (λ o h z. X z) idle-new ready-listed)
+            runs-tail k R t new (toTail (withTask k t new) t) refl refl (λ z. eqb-false (t .0) (k .running .0) q (sym z)) (tail-listed k N t new low ranked-fine (λ o h. X) idle-new ready-listed)
 
     pub prioritized-runs : RunsIn (prioritized k t own eff)
     unfolding prioritized movedIf

@@ -15,10 +15,10 @@ use Rattle.order.specs.Tidy.{count}
 use Rattle.order.proofs.CountPassing.{count-kept}
 use Rattle.slots.specs.Places.{isReady}
 use Rattle.slots.specs.Values.{inLine, taskAt}
-use Rattle.rules.specs.Types.{TaskSlot, Task, AllReady, State}
-use Rattle.rules.specs.Tables.{withRunning}
+use Rattle.rules.specs.Types.{TaskSlot, Uses, Task, AllReady, State}
+use Rattle.rules.specs.Tables.{withRunning, withUses}
 use Rattle.rules.specs.Lines.{line, those, level, highest, first, runsIf, chosen}
-use Rattle.rules.specs.Sentences.{Running, Sound}
+use Rattle.rules.specs.Sentences.{Running, Used, Sound}
 use Rattle.rules.proofs.LineLeads.{leader-none, first-heads-highest}
 use Rattle.rules.proofs.TableWithin.{first-meant, kept-head, first-single}
 use Rattle.rules.proofs.TableSlots.{is-ready}
@@ -26,14 +26,15 @@ use Rattle.rules.proofs.SoundClock.{wake-says, says-wake}
 use Rattle.rules.proofs.KeepNearly.{Owing, settled, level-as, Nearly, RunsIn}
 
 -- ── from nearly sound to sound, and back
-pub nearly-sound : (k : State) → Nearly (settled (k .tick)) k → Running (k .tasks) (listed (k .order)) (k .running) (k .hold) → Sound k
-nearly-sound k N R =
+pub nearly-sound : (k : State) → Nearly (settled (k .tick)) k → Running (k .tasks) (listed (k .order)) (k .running) (k .hold) → {us : Uses} → Used us → Sound (withUses k us)
+nearly-sound k N R U =
     record {
       tables = N .tables;
       levels = λ t. level-as (N .levels t) (λ n. N .levels t .equal (refl, n));
       listing = N .listing;
       clock = record { wakes = λ t. wake-says (k .tick) (taskAt (k .tasks) t .place) (N .due t); counts = N .counts };
       running = R;
+      uses = U;
     }
 
 pub sound-nearly : (k : State) → Sound k → Nearly (settled (k .tick)) k
@@ -87,11 +88,11 @@ some-ready k N = leader-none (k .tasks) (those (k .tasks) AllReady (listed (k .o
     go [] e = absurd (none-counts e)
     go (t ∷ l) e = refl
 
-module _ (k : State) (N : Nearly (settled (k .tick)) k) where
+module _ (k : State) (N : Nearly (settled (k .tick)) k) {us : Uses} (U : Used us) where
   abbrev high : ℕ
   high = highest (k .tasks) (those (k .tasks) AllReady (listed (k .order)))
 
-  runs-first : (t : TaskSlot) → first k AllReady ≡ t ∷ [] → Sound (withRunning k t)
+  runs-first : (t : TaskSlot) → first k AllReady ≡ t ∷ [] → Sound (withUses (withRunning k t) us)
   unfolding line
   runs-first t e =
       nearly-sound (withRunning k t) (record { tables = N .tables; levels = N .levels; listing = N .listing; due = N .due; counts = N .counts })
@@ -99,6 +100,7 @@ module _ (k : State) (N : Nearly (settled (k .tick)) k) where
         runs = record { ready = is-ready _ (first-meant k AllReady t e); heads = rw top heads };
         no-higher = λ h p m. above-highest (k .tasks) p (listed (k .order)) (rw top at m);
       })
+      U
     where
       heads : head (line (k .tasks) high (listed (k .order))) ≡ t ∷ []
       heads = sym (first-heads-highest k) ∙ e
@@ -106,19 +108,19 @@ module _ (k : State) (N : Nearly (settled (k .tick)) k) where
       top : level (k .tasks) t ≡ high
       top = eqb-true (level (k .tasks) t) high (and-right (isReady (taskAt (k .tasks) t .place)) _ (kept-head (λ u. inLine high (taskAt (k .tasks) u)) (listed (k .order)) t heads))
 
-  pub chosen-sound : (0 < k .hold → RunsIn k) → Sound (chosen k)
+  pub chosen-sound : (0 < k .hold → RunsIn k) → Sound (withUses (chosen k) us)
   unfolding chosen
   chosen-sound R = go (eqb (k .hold) 0) refl
     where
-      choose : (f : List TaskSlot) → first k AllReady ≡ f → isNone f ≡ false → Sound (runsIf k f)
+      choose : (f : List TaskSlot) → first k AllReady ≡ f → isNone f ≡ false → Sound (withUses (runsIf k f) us)
       choose [] e n = absurd (false≢true (sym n))
       choose (t ∷ r) e n = runs-first t (first-single k AllReady t r e)
 
-      go : (b : Bool) → eqb (k .hold) 0 ≡ b → Sound (if b then runsIf k (first k AllReady) else k)
+      go : (b : Bool) → eqb (k .hold) 0 ≡ b → Sound (withUses (if b then runsIf k (first k AllReady) else k) us)
       go true e = choose (first k AllReady) refl (some-ready k N)
       go false e =
           let busy : 0 < k .hold = omega (arith, eqb-false (k .hold) 0 e) in
-          nearly-sound k N (record { runs = R busy; no-higher = λ h. absurd (omega arith) })
+          nearly-sound k N (record { runs = R busy; no-higher = λ h. absurd (omega arith) }) U
 
 -- choose changes no task
 pub chosen-tasks : (k : State) → chosen k .tasks ≡ k .tasks

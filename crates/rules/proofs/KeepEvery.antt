@@ -5,7 +5,7 @@ use mathlib.Core.Bool.{true}
 use mathlib.Core.List.{List}
 use lib.ListN.{length}
 use Rattle.lists.specs.Lists.{every, allBelow, kept, any}
-use Rattle.calls.specs.Door.{taskSlot, objSlot}
+use Rattle.calls.specs.Door.{usesFine, taskSlot, objSlot, freshUses}
 use Rattle.calls.specs.Behind.{asked}
 use Rattle.order.specs.Order.{ordered}
 use Rattle.order.specs.Tidy.{count, tidy}
@@ -19,37 +19,38 @@ use Rattle.rules.specs.Sentences.{Sound}
 use Rattle.rules.specs.Effects.{effect}
 use Rattle.rules.specs.Steps.{step}
 use Rattle.rules.proofs.RowPasses.{Passed}
-use Rattle.rules.proofs.Keeps.{Keeps, effect-kept as step-keeps}
+use Rattle.rules.proofs.Keeps.{Keeps, effect-kept as step-keeps, delete-not-idle}
 use Rattle.rules.proofs.KeepTasks.{create-keeps, delete-keeps, suspend-keeps, resume-keeps, priority-keeps, delay-keeps, yield-keeps}
 use Rattle.rules.proofs.KeepTicks.{hold-keeps, release-keeps, tick-keeps}
 use Rattle.rules.proofs.KeepObjects.{queue-keeps, mutex-keeps, remove-keeps}
 use Rattle.rules.proofs.KeepQueues.{send-keeps, receive-keeps}
 use Rattle.rules.proofs.KeepMutexes.{take-keeps, give-keeps}
+use Rattle.rules.proofs.KeepUses.{used-after}
 
 pub fresh-sound : sound fresh ≡ true
-unfolding sound fresh every allBelow kept any ordered count tidy taskAt kindAt holds line noHigher runsFine tablesFine levelsFine listingFine clockFine
+unfolding sound fresh freshUses every allBelow kept any ordered count tidy taskAt kindAt holds line noHigher runsFine tablesFine levelsFine listingFine clockFine usesFine
 fresh-sound = refl
 
-effect-keeps : (k : State) → Sound k → (n : ℕ) (c : Call) → Passed k (asked c) n → Keeps (effect k (asked c))
+effect-keeps : (k : State) → Sound k → (n : ℕ) (c : Call) → Passed k (asked (k .uses) c) n → Keeps (effect k (asked (k .uses) c))
 unfolding asked
 effect-keeps k S n (Create p) = create-keeps k S n p
-effect-keeps k S n (Delete t) = delete-keeps k S n (taskSlot t)
-effect-keeps k S n (Suspend t) = suspend-keeps k S n (taskSlot t)
-effect-keeps k S n (Resume t) = resume-keeps k S n (taskSlot t)
-effect-keeps k S n (SetPriority t p) = priority-keeps k S n (taskSlot t) p
+effect-keeps k S n (Delete t) = delete-keeps k S n (taskSlot (k .uses) t)
+effect-keeps k S n (Suspend t) = suspend-keeps k S n (taskSlot (k .uses) t)
+effect-keeps k S n (Resume t) = resume-keeps k S n (taskSlot (k .uses) t)
+effect-keeps k S n (SetPriority t p) = priority-keeps k S n (taskSlot (k .uses) t) p
 effect-keeps k S n (Delay d) = delay-keeps k S n d
 effect-keeps k S n Yield = yield-keeps k S n
 effect-keeps k S n Hold = hold-keeps k S n
 effect-keeps k S n Release = release-keeps k S n
 effect-keeps k S n (MakeQueue c z) = queue-keeps k S n c z
 effect-keeps k S n MakeMutex = mutex-keeps k S n
-effect-keeps k S n (Remove o) = remove-keeps k S n (objSlot o)
-effect-keeps k S n (Send o w) = send-keeps k S n (objSlot o) w
-effect-keeps k S n (Receive o w) = receive-keeps k S n (objSlot o) w
-effect-keeps k S n (Take o w) = take-keeps k S n (objSlot o) w
-effect-keeps k S n (Give o) = give-keeps k S n (objSlot o)
+effect-keeps k S n (Remove o) = remove-keeps k S n (objSlot (k .uses) o)
+effect-keeps k S n (Send o w) = send-keeps k S n (objSlot (k .uses) o) w
+effect-keeps k S n (Receive o w) = receive-keeps k S n (objSlot (k .uses) o) w
+effect-keeps k S n (Take o w) = take-keeps k S n (objSlot (k .uses) o) w
+effect-keeps k S n (Give o) = give-keeps k S n (objSlot (k .uses) o)
 effect-keeps k S n Tick = tick-keeps k S n
 
 -- whatever the item and the store
 pub step-kept : (k : State) (c : Call) (item s : List ℕ) → sound k ≡ true → sound (step k c item s .kernel) ≡ true
-step-kept k c item s e = step-keeps k c item s e (λ S P. effect-keeps k S (length s) c P)
+step-kept k c item s e = step-keeps k c item s e (λ S P. effect-keeps k S (length s) c P) (λ S P. used-after k (asked (k .uses) c) (S .uses) (delete-not-idle k (asked (k .uses) c) (length s) P))

@@ -13,11 +13,11 @@ use Rattle.lists.proofs.Tests.{larger-max}
 use Rattle.numbers.specs.Numbers.{idle, sameTask}
 use Rattle.calls.specs.Behind.{onObject}
 use Rattle.order.proofs.Passing.{one-number}
-use Rattle.slots.specs.Places.{waitsOn}
+use Rattle.slots.specs.Places.{isFree, waitsOn}
 use Rattle.slots.specs.Values.{ranked, taskAt}
 use Rattle.slots.specs.Kinds.{isUnused, isMutex, heldBy, isHeld, kindAt}
 use Rattle.slots.specs.SoundSlots.{notDue}
-use Rattle.rules.specs.Types.{TaskSlot, ObjSlot, Wake, Place, Free, Ready, Waiting, Task, Nobody, By, Kind, Unused, Queue, Mutex, WaitersOf, State, AMutex}
+use Rattle.rules.specs.Types.{TaskSlot, ObjSlot, Wake, Place, Free, Ready, Waiting, Task, Nobody, By, Kind, Unused, SpentObject, Queue, Mutex, WaitersOf, State, AMutex}
 use Rattle.rules.specs.Tables.{holds, withObject}
 use Rattle.rules.specs.Lines.{level, first, toTail}
 use Rattle.rules.specs.Sentences.{Holds, HoldsNothing, Exists, MayWait, taker, Sound}
@@ -40,6 +40,7 @@ use Rattle.rules.proofs.KeepObjects.{no-wait-free, object-low, first-no
 
 mutex-used : (x : Kind) → isMutex x ≡ true → isUnused x ≡ false
 mutex-used Unused e = absurd (false≢true e)
+mutex-used SpentObject e = absurd (false≢true e)
 mutex-used (Queue q) e = refl
 mutex-used (Mutex h) e = refl
 
@@ -54,7 +55,7 @@ module _ (k : State) (S : Sound k) (store : ℕ) where
   caller-low = ready-low (k .tasks) (k .running) (S .tables .task-slots) (R .ready)
 
   -- 15: take
-  module _ (o : ObjSlot) (w : ℕ) (P : Passed k (onObject 15 AMutex o w) store) where
+  module _ (o : ObjSlot) (w : ℕ) {l : Bool} (P : Passed k (onObject 15 AMutex o l w) store) where
     is-mutex : isMutex (kindAt (k .objects) o) ≡ true
     unfolding namesNone
     is-mutex = on (isMutex (kindAt (k .objects) o)) (P .named)
@@ -72,16 +73,16 @@ module _ (k : State) (S : Sound k) (store : ℕ) where
 
     -- where the mutex is held the wait is not 0, and there is no hold
     some : isHeld (kindAt (k .objects) o) ≡ true → 0 < w
-    some e = some-wait (onObject 15 AMutex o w) (must-wait k (onObject 15 AMutex o w) (P .may-wait) (rw e))
+    some e = some-wait (onObject 15 AMutex o l w) (must-wait k (onObject 15 AMutex o l w) (P .may-wait) (rw e))
 
     no-hold : 0 < w → 0 < k .hold → ⊥
-    no-hold s = wait-free k (onObject 15 AMutex o w) (P .held) (not-off (eqb w 0) (ne-eqb w 0 (λ e. omega arith)))
+    no-hold s = wait-free k (onObject 15 AMutex o l w) (P .held) (not-off (eqb w 0) (ne-eqb w 0 (λ e. omega arith)))
 
     free-taken : kindAt (k .objects) o ≡ Mutex Nobody → Keeps (withObject k o (Mutex (By (k .running))))
     free-taken e =
         record {
           nearly = object-nearly k N o (Mutex (By (k .running))) low (λ t v p. absurd (no-wait-free (S .tables .tasks t .waits o v p) e)) (λ q z. absurd (let y : _≡_ {A = ℕ} 0 1 = cc in omega arith))
-              (λ t q. let u : k .running ≡ t = cc in (subst (λ v. Exists (k .tasks) v) u (λ z. let y : _≡_ {A = ℕ} 0 1 = cc in omega arith), subst (λ (v : TaskSlot). v .0 ≡ 0 → ⊥) u not-idle))
+              (λ t q. let u : k .running ≡ t = cc in (subst (λ v. Exists (k .tasks) v) u (ap isFree (R .ready)), subst (λ (v : TaskSlot). v .0 ≡ 0 → ⊥) u not-idle))
               (λ t h c. absurd (let y : _≡_ {A = ℕ} 0 1 = cc in omega arith));
           runs = λ h. R;
         }
@@ -132,13 +133,13 @@ module _ (k : State) (S : Sound k) (store : ℕ) where
         ahead : settled (k .tick) .due (j .running) place ≡ true
         ahead = ap (λ n. notDue (k .tick) (Waiting o (wakeOf n w))) (s .tick) ∙ wake-ahead (k .tick) w o (S .clock .counts .tick-range) wait
 
-    pub take-keeps : Keeps (effect k (onObject 15 AMutex o w))
+    pub take-keeps : Keeps (effect k (onObject 15 AMutex o l w))
     unfolding effect taken
-    take-keeps = by-kind (kindAt (k .objects) o) (λ x. isMutex x ≡ true → Keeps (takenFrom k o x w)) (λ m. absurd (false≢true m)) (λ q e m. absurd (false≢true m)) (λ e m. free-taken e)
+    take-keeps = by-kind (kindAt (k .objects) o) (λ x. isMutex x ≡ true → Keeps (takenFrom k o x w)) (λ m. absurd (false≢true m)) (λ m. absurd (false≢true m)) (λ q e m. absurd (false≢true m)) (λ e m. free-taken e)
         (λ h e m. held-waited h e) is-mutex
 
   -- 16: give. On the way the giver may have a priority that it has to pay back
-  module _ (o : ObjSlot) (P : Passed k (onObject 16 AMutex o 0) store) where
+  module _ (o : ObjSlot) {l : Bool} (P : Passed k (onObject 16 AMutex o l 0) store) where
     abbrev u : TaskSlot
     u = k .running
 
@@ -220,7 +221,7 @@ module _ (k : State) (S : Sound k) (store : ℕ) where
         new-holder : (v : TaskSlot) → Mutex (By t) ≡ Mutex (By v) → Exists (arrives k t Ready 1 .tasks) v × (v .0 ≡ 0 → ⊥)
         new-holder v q =
             let p : t ≡ v = cc in (
-              subst (λ x. Exists (arrives k t Ready 1 .tasks) x) p (λ z. let r : Ready ≡ Free = sym now-ready ∙ z in let y : _≡_ {A = ℕ} 0 1 = cc in omega arith),
+              subst (λ x. Exists (arrives k t Ready 1 .tasks) x) p (ap isFree now-ready),
               subst (λ (x : TaskSlot). x .0 ≡ 0 → ⊥) p not-idle-one,
             )
 
@@ -259,7 +260,7 @@ module _ (k : State) (S : Sound k) (store : ℕ) where
         giver-ready = ap (λ v. taskAt (j .tasks) v .place) (sym (H .running)) ∙ H .runs .ready
 
         exists : Exists (j .tasks) u
-        exists z = let r : Ready ≡ Free = sym giver-ready ∙ z in let y : _≡_ {A = ℕ} 0 1 = cc in omega arith
+        exists = ap isFree giver-ready
 
         own-least : own ≤ 31
         own-least = omega (arith, H .nearly .levels u .at-least, H .nearly .levels u .range)
@@ -293,6 +294,6 @@ module _ (k : State) (S : Sound k) (store : ℕ) where
               runs = λ h. prioritized-runs j (H .nearly) u caller-low own own (omega arith) own-least (λ c. refl) exists (λ z. absurd (giver-not-idle z)) (H .runs);
             }
 
-    pub give-keeps : Keeps (effect k (onObject 16 AMutex o 0))
+    pub give-keeps : Keeps (effect k (onObject 16 AMutex o l 0))
     unfolding effect given
     give-keeps = repaid (handedOn k o) handed

@@ -60,6 +60,7 @@ unblocked-fits os t x b f h =
       delay-outcome = λ w e. absurd (false≢true (sym b ∙ ap isBlocked e));
       wait-outcome = λ o w e. absurd (false≢true (sym b ∙ ap isBlocked e));
       free = λ e. absurd (false≢true (sym f ∙ ap isFree e));
+      spent = λ e. absurd (false≢true (sym f ∙ ap isFree e));
     }
 
 -- the running task of the kernel is ready and heads its line

@@ -77,6 +77,7 @@ module _ {w : Owing} (k : State) (N : Nearly w k) (o : ObjSlot) (y : Kind) (low 
           delay-outcome = F .delay-outcome;
           wait-outcome = F .wait-outcome;
           free = F .free;
+          spent = F .spent;
         };
         idle-holds = each (λ p z. z ≡ Mutex (By idle) → ⊥) (λ e. H idle e .1 refl) (λ p n e. N .tables .idle-holds p e);
         holders = λ t. each (λ p z. z ≡ Mutex (By t) → Exists (k .tasks) t) (λ e. H t e .0) (λ p n e. N .tables .holders t p e);

@@ -14,8 +14,8 @@ use Rattle.numbers.specs.Numbers.{object, idle}
 use Rattle.calls.specs.Behind.{nothing, onObject}
 use Rattle.order.specs.Order.{listed}
 use Rattle.order.specs.Tidy.{count}
-use Rattle.slots.specs.Kinds.{unused, isUnused, isMutex, isHeld, kindAt}
-use Rattle.rules.specs.Types.{TaskSlot, ObjSlot, Wake, Never, At, Waiting, Ring, Nobody, By, Kind, Unused, Queue, Mutex, Object, WaitersOf, State, AnObject}
+use Rattle.slots.specs.Kinds.{unused, isUnused, takesObject, isMutex, isHeld, kindAt}
+use Rattle.rules.specs.Types.{TaskSlot, ObjSlot, Wake, Never, At, Waiting, Ring, Nobody, By, Kind, Unused, SpentObject, Queue, Mutex, Object, WaitersOf, State, AnObject}
 use Rattle.slots.specs.Values.{taskAt}
 use Rattle.rules.specs.Tables.{freeObject, withObject}
 use Rattle.rules.specs.Lines.{those, first}
@@ -45,8 +45,9 @@ no-wait-free (receiver e) q = let z : _≡_ {A = ℕ} 0 1 = cc in omega arith
 no-wait-free (sender e) q = let z : _≡_ {A = ℕ} 0 1 = cc in omega arith
 no-wait-free (taker n) q = let z : _≡_ {A = ℕ} 0 1 = cc in omega arith
 
-is-unused : (x : Kind) → isUnused x ≡ true → x ≡ Unused
+is-unused : (x : Kind) → takesObject x ≡ true → x ≡ Unused
 is-unused Unused e = refl
+is-unused SpentObject e = absurd (false≢true e)
 is-unused (Queue q) e = absurd (false≢true e)
 is-unused (Mutex h) e = absurd (false≢true e)
 
@@ -99,11 +100,11 @@ module _ (k : State) (S : Sound k) (store : ℕ) where
 
   free-low : eqb (freeObject (k .objects)) 16 ≡ false → freeObject (k .objects) < 16
   unfolding freeObject
-  free-low e = omega (arith, index-most (λ (x : Object). isUnused (x .kind)) unused (k .objects), eqb-false (freeObject (k .objects)) 16 e, S .tables .object-slots)
+  free-low e = omega (arith, index-most (λ (x : Object). takesObject (x .kind)) unused (k .objects), eqb-false (freeObject (k .objects)) 16 e, S .tables .object-slots)
 
   free-kind : freeObject (k .objects) < 16 → kindAt (k .objects) (object (freeObject (k .objects))) ≡ Unused
   unfolding freeObject kindAt
-  free-kind h = is-unused _ (index-passes (λ (x : Object). isUnused (x .kind)) unused (k .objects) (omega (arith, S .tables .object-slots)))
+  free-kind h = is-unused _ (index-passes (λ (x : Object). takesObject (x .kind)) unused (k .objects) (omega (arith, S .tables .object-slots)))
 
   -- 10: make queue
   module _ (c z : ℕ) (P : Passed k (nothing 10 0 0 c z) store) where
@@ -146,7 +147,7 @@ module _ (k : State) (S : Sound k) (store : ℕ) where
         (λ t e. let z : _≡_ {A = ℕ} 0 1 = cc in omega arith)
 
   -- 12: remove
-  module _ (o : ObjSlot) (P : Passed k (onObject 12 AnObject o 0) store) where
+  module _ (o : ObjSlot) {l : Bool} (P : Passed k (onObject 12 AnObject o l 0) store) where
     named : isUnused (kindAt (k .objects) o) ≡ false
     unfolding namesNone
     named = P .named
@@ -159,13 +160,21 @@ module _ (k : State) (S : Sound k) (store : ℕ) where
     unfolding inUse heldOrWaited
     unwaited = on _ (or-off (isHeld (kindAt (k .objects) o)) _ (P .unused) .1)
 
-    pub remove-keeps : Keeps (effect k (onObject 12 AnObject o 0))
+    -- unused, or spent
+    pub remove-keeps : Keeps (effect k (onObject 12 AnObject o l 0))
     unfolding effect removed
-    remove-keeps =
-        record {
-          nearly =
-              object-nearly k N o Unused (object-low (k .objects) o (S .tables .object-slots) named) (λ t v p. absurd (nobody-waits k N o unwaited t v p))
-              (λ q e. absurd (let z : _≡_ {A = ℕ} 0 1 = cc in omega arith))
-              (λ t e. absurd (let z : _≡_ {A = ℕ} 0 1 = cc in omega arith)) (λ t h c. absurd (false≢true (sym unheld ∙ ap isHeld h)));
-          runs = λ h. R;
-        }
+    remove-keeps = go l
+      where
+        nothing-there : (y : Kind) → isUnused y ≡ true → Keeps (withObject k o y)
+        nothing-there y u =
+            record {
+              nearly =
+                  object-nearly k N o y (object-low (k .objects) o (S .tables .object-slots) named) (λ t v p. absurd (nobody-waits k N o unwaited t v p))
+                  (λ q e. absurd (false≢true (sym (ap isUnused e) ∙ u)))
+                  (λ t e. absurd (false≢true (sym (ap isUnused e) ∙ u))) (λ t h c. absurd (false≢true (sym unheld ∙ ap isHeld h)));
+              runs = λ h. R;
+            }
+
+        go : (b : Bool) → Keeps (withObject k o (if b then SpentObject else Unused))
+        go true = nothing-there SpentObject refl
+        go false = nothing-there Unused refl

@@ -11,7 +11,7 @@ use Rattle.lists.proofs.Bools.{on, not-off}
 use Rattle.calls.specs.Behind.{onObject}
 use Rattle.slots.specs.Places.{waitsOn}
 use Rattle.slots.specs.Kinds.{isUnused, isQueue, isMutex, kindAt}
-use Rattle.rules.specs.Types.{TaskSlot, ObjSlot, Wake, Place, Free, Ready, Delayed, Waiting, Suspended, Ring, Kind, Queue, WaitersOf, toWaiter, toQueue, toCaller, State, AQueue}
+use Rattle.rules.specs.Types.{TaskSlot, ObjSlot, Wake, Place, Free, Ready, Delayed, Waiting, Suspended, Spent, Ring, Kind, Queue, WaitersOf, toWaiter, toQueue, toCaller, State, AQueue}
 use Rattle.slots.specs.Values.{taskAt}
 use Rattle.rules.specs.Tables.{withObject}
 use Rattle.rules.specs.Lines.{first, toTail}
@@ -43,6 +43,7 @@ waiting-as o Ready e A f = absurd (false≢true e)
 waiting-as o (Delayed w) e A f = absurd (false≢true e)
 waiting-as o (Waiting q w) e A f = f w (λ i. Waiting (record { 0 = eqb-true (q .0) (o .0) e i }) w)
 waiting-as o Suspended e A f = absurd (false≢true e)
+waiting-as o Spent e A f = absurd (false≢true e)
 
 module _ (k : State) (S : Sound k) (o : ObjSlot) (q : Ring) (kind : kindAt (k .objects) o ≡ Queue q) where
   N : Nearly (settled (k .tick)) k
@@ -162,31 +163,31 @@ module _ (k : State) (S : Sound k) (store : ℕ) (o : ObjSlot) (w : ℕ) where
   waiting s = not-off (eqb w 0) (ne-eqb w 0 (λ e. omega arith))
 
   -- what is done with a queue, where no row turns the call away
-  module _ (n : ℕ) (P : Passed k (onObject n AQueue o w) store) where
+  module _ (n : ℕ) {l : Bool} (P : Passed k (onObject n AQueue o l w) store) where
     busy : 0 < w → k .running .0 ≡ 0 → ⊥
-    busy s = wait-busy k (onObject n AQueue o w) (P .idle) (waiting s)
+    busy s = wait-busy k (onObject n AQueue o l w) (P .idle) (waiting s)
 
     no-hold : 0 < w → 0 < k .hold → ⊥
-    no-hold s = wait-free k (onObject n AQueue o w) (P .held) (waiting s)
+    no-hold s = wait-free k (onObject n AQueue o l w) (P .held) (waiting s)
 
     queue-keeps : (does : Kind → State) → ((q : Ring) → kindAt (k .objects) o ≡ Queue q → Keeps (does (Queue q))) → Keeps (does (kindAt (k .objects) o))
     unfolding namesNone
     queue-keeps does f =
-        by-kind (kindAt (k .objects) o) (λ x. isQueue x ≡ true → Keeps (does x)) (λ m. absurd (false≢true m)) (λ q e m. f q e) (λ e m. absurd (false≢true m)) (λ t e m. absurd (false≢true m))
+        by-kind (kindAt (k .objects) o) (λ x. isQueue x ≡ true → Keeps (does x)) (λ m. absurd (false≢true m)) (λ m. absurd (false≢true m)) (λ q e m. f q e) (λ e m. absurd (false≢true m)) (λ t e m. absurd (false≢true m))
         (on (isQueue (kindAt (k .objects) o)) (P .named))
 
-  module _ (P : Passed k (onObject 13 AQueue o w) store) where
+  module _ {l : Bool} (P : Passed k (onObject 13 AQueue o l w) store) where
     send-waits : (q : Ring) → kindAt (k .objects) o ≡ Queue q → q .count ≡ q .capacity → 0 < w
-    send-waits q e full = some-wait (onObject 13 AQueue o w) (must-wait k (onObject 13 AQueue o w) (P .may-wait) (rw (e, eq-eqb (q .count) (q .capacity) full)))
+    send-waits q e full = some-wait (onObject 13 AQueue o l w) (must-wait k (onObject 13 AQueue o l w) (P .may-wait) (rw (e, eq-eqb (q .count) (q .capacity) full)))
 
-    pub send-keeps : Keeps (effect k (onObject 13 AQueue o w))
+    pub send-keeps : Keeps (effect k (onObject 13 AQueue o l w))
     unfolding effect
     send-keeps = queue-keeps 13 P (λ x. sentTo k o x w) (λ q e. sent-keeps k S o q e w (send-waits q e) (busy 13 P) (no-hold 13 P))
 
-  module _ (P : Passed k (onObject 14 AQueue o w) store) where
+  module _ {l : Bool} (P : Passed k (onObject 14 AQueue o l w) store) where
     receive-waits : (q : Ring) → kindAt (k .objects) o ≡ Queue q → q .count ≡ 0 → 0 < w
-    receive-waits q e none = some-wait (onObject 14 AQueue o w) (must-wait k (onObject 14 AQueue o w) (P .may-wait) (rw (e, eq-eqb (q .count) 0 none)))
+    receive-waits q e none = some-wait (onObject 14 AQueue o l w) (must-wait k (onObject 14 AQueue o l w) (P .may-wait) (rw (e, eq-eqb (q .count) 0 none)))
 
-    pub receive-keeps : Keeps (effect k (onObject 14 AQueue o w))
+    pub receive-keeps : Keeps (effect k (onObject 14 AQueue o l w))
     unfolding effect
     receive-keeps = queue-keeps 14 P (λ x. receivedFrom k o x w) (λ q e. received-keeps k S o q e w (receive-waits q e) (busy 14 P) (no-hold 14 P))

@@ -14,7 +14,7 @@ use Rattle.order.specs.Order.{listed, ordered, without}
 use Rattle.order.specs.Tidy.{count}
 use Rattle.order.proofs.Passing.{one-number}
 use Rattle.order.proofs.Counts.{count-append, count-one, count-other, count-gone, count-stays}
-use Rattle.slots.specs.Places.{isListed}
+use Rattle.slots.specs.Places.{isFree, isListed}
 use Rattle.slots.specs.Values.{freeTask, taskAt}
 use Rattle.rules.specs.Types.{TaskSlot, ObjSlot, Order, Free, Task, State}
 use Rattle.rules.specs.Tables.{withTask, withOrder}
@@ -40,7 +40,7 @@ set-same k t = rw (set-getD (k .tasks) (t .0) freeTask)
 
 module _ {w : Owing} (k : State) (N : Nearly w k) (t : TaskSlot) (x : Task) (low : t .0 < 16)
     (F : TaskFine w (k .objects) t x)
-    (E : (o : ObjSlot) → Holds (k .objects) t o → x .place ≡ Free → ⊥)
+    (E : (o : ObjSlot) → Holds (k .objects) t o → isFree (x .place) ≡ false)
     (I : t .0 ≡ 0 → AsIdle x) where
   abbrev us : List Task
   us = set (k .tasks) (t .0) x
@@ -71,7 +71,7 @@ module _ {w : Owing} (k : State) (N : Nearly w k) (t : TaskSlot) (x : Task) (low
         as-idle = each (λ u y. u .0 ≡ 0 → AsIdle y) I (λ u n e. rw (one-number u idle e) (N .tables .as-idle)) idle refl;
         tasks = each (λ u y. TaskFits (k .objects) u y) (F .fits) (λ u n. N .tables .tasks u);
         idle-holds = N .tables .idle-holds;
-        holders = λ u p h. each (λ v y. Holds (k .objects) v p → y .place ≡ Free → ⊥) (E p) (λ v n q. N .tables .holders v p q) u h;
+        holders = λ u p h. each (λ v y. Holds (k .objects) v p → isFree (y .place) ≡ false) (E p) (λ v n q. N .tables .holders v p q) u h;
         queue-range = N .tables .queue-range;
       }
 

@@ -13,8 +13,8 @@ use Rattle.lists.proofs.Tests.{larger-max}
 use Rattle.numbers.specs.Numbers.{task, idle, isIdle}
 use Rattle.calls.specs.Behind.{nothing, onTask}
 use Rattle.order.proofs.Passing.{one-number}
-use Rattle.slots.specs.Places.{isFree, isSuspended, isBlocked, isListed}
-use Rattle.slots.specs.Values.{freeTask, readyAt, brokenOff, taskAt}
+use Rattle.slots.specs.Places.{isFree, takesTask, isSuspended, isBlocked, isListed}
+use Rattle.slots.specs.Values.{freeTask, spentTask, readyAt, brokenOff, taskAt}
 use Rattle.rules.specs.Types.{TaskSlot, ObjSlot, Free, Ready, Delayed, Suspended, Task, State}
 use Rattle.rules.specs.Tables.{holds, freeSlot, withTask}
 use Rattle.rules.specs.Lines.{level, toTail, leaves}
@@ -24,6 +24,7 @@ use Rattle.rules.specs.Refusals.{inUse}
 use Rattle.rules.specs.Waits.{later, arrives}
 use Rattle.rules.specs.Loans.{prioritized, movedIf, newPriority}
 use Rattle.rules.specs.Effects.{created, deleted, suspended, resumed, yielded, delayed, effect}
+use Rattle.rules.proofs.TableSlots.{takes-free}
 use Rattle.rules.proofs.TableHolds.{none-holds, not-held}
 use Rattle.rules.proofs.RowPasses.{Passed, in-range-of}
 use Rattle.rules.proofs.KeepNearly.{settled, TaskFine, Nearly, unblocked-fits, RunsIn}
@@ -31,7 +32,7 @@ use Rattle.rules.proofs.KeepSlot.{tail-nearly, tail-listed, leave-nearl
 use Rattle.rules.proofs.KeepChosen.{sound-nearly}
 use Rattle.rules.proofs.KeepHeads.{runs-tail, runs-leave}
 use Rattle.rules.proofs.KeepBlocks.{to-ready, to-wait, arrives-nearly, arrives-runs, prioritized-same, prioritized-nearly, prioritized-runs}
-use Rattle.rules.proofs.Keeps.{Keeps, exists-low, not-free, ready-low, apart, index-most, index-passes}
+use Rattle.rules.proofs.Keeps.{Keeps, there-low, ready-low, apart, index-most, index-passes}
 
 -- a wake tick that many ticks ahead is none of now
 pub later-ahead : (tick n : ℕ) → tick ≤ 4294967295 → 0 < n → n ≤ 4294967294 → (leb (later tick n) 4294967295 && not (eqb (later tick n) tick)) ≡ true
@@ -56,13 +57,13 @@ module _ (k : State) (S : Sound k) (store : ℕ) where
     pub has-slot : t .0 < length (k .tasks)
     unfolding noneFree freeSlot
     has-slot =
-        let most = index-most (λ (x : Task). isFree (x .place)) freeTask (k .tasks) in
+        let most = index-most (λ (x : Task). takesTask (x .place)) freeTask (k .tasks) in
         let d = eqb-false (freeSlot (k .tasks)) 16 (P .slot) in
         omega (arith, d, S .tables .task-slots)
 
     pub is-free : isFree (taskAt (k .tasks) t .place) ≡ true
     unfolding freeSlot taskAt
-    is-free = index-passes (λ (x : Task). isFree (x .place)) freeTask (k .tasks) has-slot
+    is-free = takes-free (taskAt (k .tasks) t .place) (index-passes (λ (x : Task). takesTask (x .place)) freeTask (k .tasks) has-slot)
 
     low : t .0 < 16
     low = omega (arith, has-slot, S .tables .task-slots)
@@ -81,8 +82,8 @@ module _ (k : State) (S : Sound k) (store : ℕ) where
     not-idle : t .0 ≡ 0 → AsIdle (readyAt p)
     not-idle e = absurd (not-ready idle (S .tables .as-idle .ready) (sym e))
 
-    no-hold : (o : ObjSlot) → Holds (k .objects) t o → Ready ≡ Free → ⊥
-    no-hold o h e = let z : _≡_ {A = ℕ} 0 1 = cc in omega arith
+    no-hold : (o : ObjSlot) → Holds (k .objects) t o → isFree Ready ≡ false
+    no-hold o h = refl
 
     pub create-keeps : Keeps (effect k (nothing 1 p 0 1 0))
     unfolding effect created toTail
@@ -93,7 +94,7 @@ module _ (k : State) (S : Sound k) (store : ℕ) where
         }
 
   -- 2: delete
-  module _ (t : TaskSlot) (P : Passed k (onTask 2 t 0) store) where
+  module _ (t : TaskSlot) {l : Bool} (P : Passed k (onTask 2 t l 0) store) where
     there : isFree (taskAt (k .tasks) t .place) ≡ false
     unfolding namesNone
     there = P .named
@@ -110,31 +111,54 @@ module _ (k : State) (S : Sound k) (store : ℕ) where
     unfolding notWithHold
     other h e = eqb-false (t .0) (k .running .0) (rw (lt-ltb 0 (k .hold) h) at (P .held)) (sym e)
 
-    gone : TaskFine (settled (k .tick)) (k .objects) t freeTask
+    -- free, or spent
+    left : (P : Task → Type 0) → P spentTask → P freeTask → P (if l then spentTask else freeTask)
+    left P a b = go l
+      where
+        go : (c : Bool) → P (if c then spentTask else freeTask)
+        go true = a
+        go false = b
+
+    gone : TaskFine (settled (k .tick)) (k .objects) t (if l then spentTask else freeTask)
     gone =
-        record {
+        left (TaskFine (settled (k .tick)) (k .objects) t)
+        (record {
+          fits = record {
+            waits = λ o v e. absurd (let z : _≡_ {A = ℕ} 0 1 = cc in omega arith);
+            outcome-range = omega arith;
+            delay-outcome = λ v e. refl;
+            wait-outcome = λ o v e. refl;
+            free = λ e. absurd (let z : _≡_ {A = ℕ} 0 1 = cc in omega arith);
+            spent = λ e. refl;
+          };
+          levels = record { at-least = omega arith; equal = λ c. refl; range = omega arith };
+          due = refl;
+        })
+        (record {
           fits = record {
             waits = λ o v e. absurd (let z : _≡_ {A = ℕ} 0 1 = cc in omega arith);
             outcome-range = omega arith;
             delay-outcome = λ v e. refl;
             wait-outcome = λ o v e. refl;
             free = λ e. refl;
+            spent = λ e. absurd (let z : _≡_ {A = ℕ} 0 1 = cc in omega arith);
           };
           levels = record { at-least = omega arith; equal = λ c. refl; range = omega arith };
           due = refl;
-        }
+        })
 
-    pub delete-keeps : Keeps (effect k (onTask 2 t 0))
+    pub delete-keeps : Keeps (effect k (onTask 2 t l 0))
     unfolding effect deleted leaves
     delete-keeps =
-        let low = exists-low (k .tasks) t (S .tables .task-slots) there in
+        let low = there-low (k .tasks) t (S .tables .task-slots) there in
+        let off-list = left (λ x. isListed (x .place) ≡ false) refl refl in
         record {
-          nearly = leave-nearly k N t freeTask low gone (λ o h e. free-hands o h) (λ e. absurd (busy e)) refl;
-          runs = λ h. runs-leave k R t freeTask (deleted k t) refl refl (other h) (leave-listed k N t freeTask low gone (λ o q e. free-hands o q) (λ e. absurd (busy e)) refl);
+          nearly = leave-nearly k N t _ low gone (λ o h. absurd (free-hands o h)) (λ e. absurd (busy e)) off-list;
+          runs = λ h. runs-leave k R t _ (deleted k t l) refl refl (other h) (leave-listed k N t _ low gone (λ o q. absurd (free-hands o q)) (λ e. absurd (busy e)) off-list);
         }
 
   -- 3: suspend
-  module _ (t : TaskSlot) (P : Passed k (onTask 3 t 0) store) where
+  module _ (t : TaskSlot) {l : Bool} (P : Passed k (onTask 3 t l 0) store) where
     found : isFree (taskAt (k .tasks) t .place) ≡ false
     unfolding namesNone
     found = P .named
@@ -162,25 +186,22 @@ module _ (k : State) (S : Sound k) (store : ℕ) where
           due = refl;
         }
 
-    suspended-not-free : Suspended ≡ Free → ⊥
-    suspended-not-free e = let z : _≡_ {A = ℕ} 0 1 = cc in omega arith
-
-    pub suspend-keeps : Keeps (effect k (onTask 3 t 0))
+    pub suspend-keeps : Keeps (effect k (onTask 3 t l 0))
     unfolding effect suspended leaves
     suspend-keeps = go (isListed (taskAt (k .tasks) t .place))
       where
         go : (b : Bool) → Keeps (if b then leaves (withTask k t stopped) t else k)
         go true =
-            let low = exists-low (k .tasks) t (S .tables .task-slots) found in
+            let low = there-low (k .tasks) t (S .tables .task-slots) found in
             record {
-              nearly = leave-nearly k N t stopped low stopped-fine (λ o h e. suspended-not-free e) (λ e. absurd (not-idle-one e)) refl;
+              nearly = leave-nearly k N t stopped low stopped-fine (λ o h. refl) (λ e. absurd (not-idle-one e)) refl;
               runs = λ h. runs-leave k R t stopped (leaves (withTask k t stopped) t) refl refl (not-caller h)
-                  (leave-listed k N t stopped low stopped-fine (λ o q e. suspended-not-free e) (λ e. absurd (not-idle-one e)) refl);
+                  (leave-listed k N t stopped low stopped-fine (λ o q. refl) (λ e. absurd (not-idle-one e)) refl);
             }
         go false = record { nearly = N; runs = λ h. R }
 
   -- 4: resume
-  module _ (t : TaskSlot) (P : Passed k (onTask 4 t 0) store) where
+  module _ (t : TaskSlot) {l : Bool} (P : Passed k (onTask 4 t l 0) store) where
     known : isFree (taskAt (k .tasks) t .place) ≡ false
     unfolding namesNone
     known = P .named
@@ -189,10 +210,10 @@ module _ (k : State) (S : Sound k) (store : ℕ) where
     unfolding notSuspended
     was-suspended = on (isSuspended (taskAt (k .tasks) t .place)) (P .suspended)
 
-    pub resume-keeps : Keeps (effect k (onTask 4 t 0))
+    pub resume-keeps : Keeps (effect k (onTask 4 t l 0))
     unfolding effect resumed arrives toTail
     resume-keeps =
-        let low = exists-low (k .tasks) t (S .tables .task-slots) known in
+        let low = there-low (k .tasks) t (S .tables .task-slots) known in
         record {
           nearly = arrives-nearly k N t low (to-ready (S .tables .tasks t .outcome-range) refl);
           runs = λ h. arrives-runs k N t low (to-ready (S .tables .tasks t .outcome-range) refl) R
@@ -200,13 +221,13 @@ module _ (k : State) (S : Sound k) (store : ℕ) where
         }
 
   -- 5: set priority
-  module _ (t : TaskSlot) (p : ℕ) (P : Passed k (onTask 5 t p) store) where
+  module _ (t : TaskSlot) (p : ℕ) {l : Bool} (P : Passed k (onTask 5 t l p) store) where
     exists : isFree (taskAt (k .tasks) t .place) ≡ false
     unfolding namesNone
     exists = P .named
 
     in-range : p ≤ 31
-    in-range = in-range-of (onTask 5 t p) (P .in-range) .low
+    in-range = in-range-of (onTask 5 t l p) (P .in-range) .low
 
     idle-to-0 : t .0 ≡ 0 → p ≡ 0
     unfolding notForIdle
@@ -224,15 +245,15 @@ module _ (k : State) (S : Sound k) (store : ℕ) where
     )
     given false e = (omega arith, in-range, (λ n. refl), idle-to-0)
 
-    pub priority-keeps : Keeps (effect k (onTask 5 t p))
+    pub priority-keeps : Keeps (effect k (onTask 5 t l p))
     unfolding effect newPriority prioritized movedIf
     priority-keeps =
         let g = given (holds (k .objects) t) refl in
-        let low = exists-low (k .tasks) t (S .tables .task-slots) exists in
+        let low = there-low (k .tasks) t (S .tables .task-slots) exists in
         record {
           nearly = rw (prioritized-same k t p (eff (holds (k .objects) t)) .tick)
-              (prioritized-nearly k N t low p (eff (holds (k .objects) t)) (g .0) (g .1) (λ c. g .2 (c .1)) (not-free (k .tasks) t exists) (λ z. (idle-to-0 z, g .3 z)));
-          runs = λ h. prioritized-runs k N t low p (eff (holds (k .objects) t)) (g .0) (g .1) (λ c. g .2 (c .1)) (not-free (k .tasks) t exists) (λ z. (idle-to-0 z, g .3 z)) R;
+              (prioritized-nearly k N t low p (eff (holds (k .objects) t)) (g .0) (g .1) (λ c. g .2 (c .1)) exists (λ z. (idle-to-0 z, g .3 z)));
+          runs = λ h. prioritized-runs k N t low p (eff (holds (k .objects) t)) (g .0) (g .1) (λ c. g .2 (c .1)) exists (λ z. (idle-to-0 z, g .3 z)) R;
         }
 
   -- 7: yield

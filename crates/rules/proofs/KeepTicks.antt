@@ -17,7 +17,7 @@ use Rattle.order.proofs.Passing.{one-number}
 use Rattle.slots.specs.Places.{isFree, wakesAt, outcomeDue}
 use Rattle.slots.specs.Values.{taskAt}
 use Rattle.slots.specs.SoundSlots.{wakesInRange, notDue}
-use Rattle.rules.specs.Types.{TaskSlot, Place, Free, Ready, Delayed, Waiting, Suspended, Task, State}
+use Rattle.rules.specs.Types.{TaskSlot, Place, Free, Ready, Delayed, Waiting, Suspended, Spent, Task, State}
 use Rattle.rules.specs.Tables.{withTick, withHold}
 use Rattle.rules.specs.Lines.{level, toTail}
 use Rattle.rules.specs.Sound.{noHigher}
@@ -32,7 +32,7 @@ use Rattle.rules.proofs.KeepNearly.{Owing, settled, level-as, Nearly, R
 use Rattle.rules.proofs.KeepSlot.{at-other, moved-nearly}
 use Rattle.rules.proofs.KeepChosen.{sound-nearly}
 use Rattle.rules.proofs.KeepBlocks.{to-ready, arrives-nearly, arrives-same, arrives-at}
-use Rattle.rules.proofs.Keeps.{Keeps, exists-low, ready-low}
+use Rattle.rules.proofs.Keeps.{Keeps, there-low, ready-low}
 
 -- ── the counts changed, and what is open told anew
 recount : {w : Owing} (k : State) (h p : ℕ) → Nearly w k → Counts (k .tick) h p → Nearly w (withHold k h p)
@@ -62,7 +62,7 @@ record Woken (tick : ℕ) (asked : TaskSlot → Bool) (j : State) : Type 0 where
 
 -- who is due exists
 pub due-there : (n : ℕ) (p : Place) → wakesAt n p ≡ true → isFree p ≡ false
-due-there n p e = passes-there (wakesAt n) p refl e
+due-there n p e = passes-there (wakesAt n) p refl refl e
 
 -- who is due is delayed or waits, and its outcome is 1 or 2
 due-outcome : (p : Place) → outcomeDue p ≤ 3
@@ -71,6 +71,7 @@ due-outcome Ready = omega arith
 due-outcome (Delayed w) = omega arith
 due-outcome (Waiting o w) = omega arith
 due-outcome Suspended = omega arith
+due-outcome Spent = omega arith
 
 module _ (tick : ℕ) (asked : TaskSlot → Bool) (x : TaskSlot) (j : State) (W : Woken tick asked j) where
   abbrev askedToo : TaskSlot → Bool
@@ -98,7 +99,7 @@ module _ (tick : ℕ) (asked : TaskSlot → Bool) (x : TaskSlot) (j : State) (W 
   woken-next = go (wakesAt (j .tick) (taskAt (j .tasks) x .place)) refl
     where
       low : wakesAt (j .tick) (taskAt (j .tasks) x .place) ≡ true → x .0 < 16
-      low e = exists-low (j .tasks) x (W .nearly .tables .task-slots) (due-there (j .tick) (taskAt (j .tasks) x .place) e)
+      low e = there-low (j .tasks) x (W .nearly .tables .task-slots) (due-there (j .tick) (taskAt (j .tasks) x .place) e)
 
       ready-now : (m : ℕ) → x .0 < 16 → notDue tick (taskAt (arrives j x Ready m .tasks) x .place) ≡ true
       ready-now m l = ap (λ (y : Task). notDue tick (y .place)) (arrives-at j x Ready m (omega (arith, W .nearly .tables .task-slots)))

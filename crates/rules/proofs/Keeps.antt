@@ -9,21 +9,22 @@ use lib.ListN.{length, getD}
 use borrow.Author.Tests.{ltb-true, ltb-false, lt-ltb, eqb-true, eqb-false}
 use Rattle.lists.specs.Choice.{if_then_else_}
 use Rattle.lists.specs.Lists.{index}
-use Rattle.lists.proofs.Bools.{off, or-off, or-right}
+use Rattle.lists.proofs.Bools.{off, or-off, or-left, or-right}
 use Rattle.numbers.specs.Numbers.{sameTask, isIdle}
 use Rattle.calls.specs.Behind.{asked}
 use Rattle.slots.specs.Places.{isFree}
 use Rattle.slots.specs.Values.{freeTask, taskAt}
 use Rattle.rules.specs.Types.{TaskSlot, Place, Ready, Task, Asked, Call, State}
 use Rattle.slots.specs.Kinds.{kindAt}
+use Rattle.rules.specs.Tables.{withUses}
 use Rattle.rules.specs.Lines.{chosen}
 use Rattle.rules.specs.Sound.{sound}
-use Rattle.rules.specs.Sentences.{Exists, Sound}
+use Rattle.rules.specs.Sentences.{Exists, Used, Sound}
 use Rattle.rows.specs.Asking.{is, stops, waits}
 use Rattle.rows.specs.Applies.{notForIdle, notWithHold, stopsAt, mustWait}
 use Rattle.rules.specs.Refusals.{seen, laterRow, refusal}
 use Rattle.rules.specs.Effects.{effect}
-use Rattle.rules.specs.Steps.{accepted, turnedAway, step}
+use Rattle.rules.specs.Steps.{usesAfter, accepted, turnedAway, step}
 use Rattle.rules.proofs.TableSlots.{past-tasks}
 use Rattle.rules.proofs.SoundSays.{sound-says, says-sound}
 use Rattle.rules.proofs.RowPasses.{Passed, passed}
@@ -36,15 +37,20 @@ pub record Keeps (j : State) : Type 0 where
   pub runs : 0 < j .hold → RunsIn j
 
 -- so the step keeps soundness, whether the call is accepted or not
-pub effect-kept : (k : State) (c : Call) (item s : List ℕ) → sound k ≡ true → (Sound k → Passed k (asked c) (length s) → Keeps (effect k (asked c))) → sound (step k c item s .kernel) ≡ true
+pub effect-kept : (k : State) (c : Call) (item s : List ℕ) → sound k ≡ true
+    → (Sound k → Passed k (asked (k .uses) c) (length s) → Keeps (effect k (asked (k .uses) c)))
+    → (Sound k → Passed k (asked (k .uses) c) (length s) → Used (usesAfter (k .uses) (asked (k .uses) c))) → sound (step k c item s .kernel) ≡ true
 unfolding step refusal accepted
-effect-kept k c item s e f = rw e (go (eqb (laterRow k (asked c) (length item) (length s)) 0) refl)
+effect-kept k c item s e f g = rw e (go (eqb (laterRow k a (length item) (length s)) 0) refl)
   where
-    go : (b : Bool) → eqb (laterRow k (asked c) (length item) (length s)) 0 ≡ b
-        → sound ((if b then accepted k (asked c) item s else turnedAway k (laterRow k (asked c) (length item) (length s)) s) .kernel) ≡ true
+    a : Asked
+    a = asked (k .uses) c
+
+    go : (b : Bool) → eqb (laterRow k a (length item) (length s)) 0 ≡ b → sound ((if b then accepted k a item s else turnedAway k (laterRow k a (length item) (length s)) s) .kernel) ≡ true
     go true q =
-        let h = f (sound-says k e) (passed k (asked c) (length item) (length s) (eqb-true _ 0 q)) in
-        says-sound (chosen (effect k (asked c))) (chosen-sound (effect k (asked c)) (h .nearly) (h .runs))
+        let P = passed k a (length item) (length s) (eqb-true _ 0 q) in
+        let h = f (sound-says k e) P in
+        says-sound (withUses (chosen (effect k a)) (usesAfter (k .uses) a)) (chosen-sound (effect k a) (h .nearly) (g (sound-says k e) P) (h .runs))
     go false q = e
 
 -- ── small laws that the calls share
@@ -80,16 +86,10 @@ there-low ts t l e = go (ltb (t .0) 16) refl
   where
     go : (b : Bool) → ltb (t .0) 16 ≡ b → t .0 < 16
     go true q = ltb-true (t .0) 16 q
-    go false q = let past : length ts ≤ t .0 = omega (arith, ltb-false (t .0) 16 q) in absurd (e (ap (λ (x : Task). x .place) (past-tasks ts t past)))
-
-pub not-free : (ts : List Task) (t : TaskSlot) → isFree (taskAt ts t .place) ≡ false → Exists ts t
-not-free ts t e q = false≢true (sym e ∙ ap isFree q)
-
-pub exists-low : (ts : List Task) (t : TaskSlot) → length ts ≡ 16 → isFree (taskAt ts t .place) ≡ false → t .0 < 16
-exists-low ts t l e = there-low ts t l (not-free ts t e)
+    go false q = let past : length ts ≤ t .0 = omega (arith, ltb-false (t .0) 16 q) in absurd (false≢true (sym e ∙ ap (λ (x : Task). isFree (x .place)) (past-tasks ts t past)))
 
 pub ready-low : (ts : List Task) (t : TaskSlot) → length ts ≡ 16 → taskAt ts t .place ≡ Ready → t .0 < 16
-ready-low ts t l e = exists-low ts t l (ap isFree e)
+ready-low ts t l e = there-low ts t l (ap isFree e)
 
 -- two tasks that stand in different places are not the same
 pub apart : (ts : List Task) (t u : TaskSlot) (p : Place → Bool) → p (taskAt ts t .place) ≡ true → p (taskAt ts u .place) ≡ false → t .0 ≡ u .0 → ⊥
@@ -116,3 +116,9 @@ module _ {ℓ} {A : Type ℓ} (p : A → Bool) (d : A) where
           → p (getD (x ∷ xs) (if b then 0 else suc (index p xs)) d) ≡ true
       go true e ih m = e
       go false e ih m = ih (omega arith)
+
+-- a delete that no row turns away is not idle's
+pub delete-not-idle : (k : State) (a : Asked) (store : ℕ) → Passed k a store → is 2 a ≡ true → a .task .0 ≡ 0 → ⊥
+unfolding notForIdle
+delete-not-idle k a store P e =
+    eqb-false (a .task .0) 0 (rw (or-left (is 2 a) (is 3 a) e) at (or-off (stops a && isIdle (a .task)) _ (P .idle) .0))

@@ -8,6 +8,7 @@ pub mod SoundLevels
 pub mod SoundListing
 pub mod SoundClock
 pub mod SoundRuns
+pub mod SoundUses
 pub mod SoundSays
 pub mod TableWithin
 pub mod RowPasses
@@ -24,5 +25,7 @@ pub mod KeepTicks
 pub mod KeepObjects
 pub mod KeepMutexes
 pub mod KeepQueues
+pub mod KeepUses
+pub mod KeepTaken
 pub mod KeepEvery
 pub mod Traces

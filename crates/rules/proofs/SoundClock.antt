@@ -11,7 +11,7 @@ use Rattle.lists.proofs.Bools.{and-left, and-right, and-intro, or-second, off, 
 use Rattle.numbers.specs.Numbers.{task}
 use Rattle.slots.specs.Values.{taskAt}
 use Rattle.slots.specs.SoundSlots.{notDue}
-use Rattle.rules.specs.Types.{Never, At, Place, Free, Ready, Delayed, Waiting, Suspended, Task}
+use Rattle.rules.specs.Types.{Never, At, Place, Free, Ready, Delayed, Waiting, Suspended, Spent, Task}
 use Rattle.rules.specs.Sound.{nobodyDue, counted, pendsFine, clockFine}
 use Rattle.rules.specs.Sentences.{WakeFits, Clock}
 use Rattle.rules.proofs.TableSlots.{any-task}
@@ -56,6 +56,7 @@ module _ (tick : ℕ) where
   says-wake (Waiting o (At w)) F =
       and-intro (leb w 4294967295) _ (le-leb w 4294967295 (F .wait-range o w refl)) (not-off (eqb w tick) (ne-eqb w tick (F .wait-ahead o w refl)))
   says-wake Suspended F = refl
+  says-wake Spent F = refl
 
 -- ── the whole clock
 module _ (ts : List Task) (tick hold pended : ℕ) where

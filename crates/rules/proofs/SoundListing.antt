@@ -17,7 +17,7 @@ use Rattle.order.proofs.Rooms.{tidy-few, tidy-zeros, tidy-none, tidy-from, coun
 use Rattle.slots.specs.Places.{isListed}
 use Rattle.slots.specs.Values.{taskAt}
 use Rattle.slots.specs.SoundSlots.{standsFine, ordersFine}
-use Rattle.rules.specs.Types.{TaskSlot, Order, Place, Free, Ready, Delayed, Waiting, Suspended, Task}
+use Rattle.rules.specs.Types.{TaskSlot, Order, Place, Free, Ready, Delayed, Waiting, Suspended, Spent, Task}
 use Rattle.rules.specs.Sound.{eachStands, noneElse, listingFine}
 use Rattle.rules.specs.Sentences.{Listing}
 use Rattle.rules.proofs.TableSlots.{past-tasks, any-task}
@@ -45,6 +45,7 @@ once-only n Ready s o = eqb-true n 1 s
 once-only n (Delayed w) s o = eqb-true n 1 o
 once-only n (Waiting q w) s o = eqb-true n 1 s
 once-only n Suspended s o = eqb-true n 0 o
+once-only n Spent s o = eqb-true n 0 o
 
 stands-once : (n : ℕ) (p : Place) → n ≡ (if isListed p then 1 else 0) → standsFine n p ≡ true
 stands-once n Free e = refl
@@ -52,6 +53,7 @@ stands-once n Ready e = eq-eqb n 1 e
 stands-once n (Delayed w) e = refl
 stands-once n (Waiting q w) e = eq-eqb n 1 e
 stands-once n Suspended e = refl
+stands-once n Spent e = refl
 
 orders-once : (n : ℕ) (p : Place) → n ≡ (if isListed p then 1 else 0) → ordersFine n p ≡ true
 orders-once n Free e = eq-eqb n 0 e
@@ -59,6 +61,7 @@ orders-once n Ready e = refl
 orders-once n (Delayed w) e = eq-eqb n 1 e
 orders-once n (Waiting q w) e = refl
 orders-once n Suspended e = eq-eqb n 0 e
+orders-once n Spent e = eq-eqb n 0 e
 
 -- ── a test that is true says every sentence
 pub listing-says : (ts : List Task) (o : Order) → length ts ≡ 16 → listingFine ts o ≡ true → Listing ts o

@@ -13,7 +13,7 @@ use Rattle.order.specs.Tidy.{count}
 use Rattle.order.proofs.CountPassing.{count-kept}
 use Rattle.slots.specs.Places.{isReady, isListed, waitsOn}
 use Rattle.slots.specs.Values.{inLine, taskAt}
-use Rattle.rules.specs.Types.{TaskSlot, ObjSlot, Order, Place, Free, Ready, Delayed, Waiting, Suspended, Task}
+use Rattle.rules.specs.Types.{TaskSlot, ObjSlot, Order, Place, Free, Ready, Delayed, Waiting, Suspended, Spent, Task}
 use Rattle.rules.specs.Lines.{line, those, level}
 use Rattle.rules.specs.Sentences.{Listing}
 
@@ -30,6 +30,7 @@ waits-listed o Ready q = refl
 waits-listed o (Delayed w) q = refl
 waits-listed o (Waiting p w) q = refl
 waits-listed o Suspended q = q
+waits-listed o Spent q = q
 
 pub listing-of : (ts : List Task) (o : Order) → ((t : TaskSlot) → count (t .0) (listed o) ≡ (if isListed (taskAt ts t .place) then 1 else 0)) → length (o .places) ≡ 16
     → o .living ≤ 16 → ((i : ℕ) → o .living ≤ i → i < 16 → getD (o .places) i idle .0 ≡ 0) → Listing ts o

@@ -2,6 +2,7 @@
 use mathlib.Core.Path.{_≡_}
 use mathlib.Core.Bool.{true}
 use Rattle.lists.proofs.Bools.{at, also, none}
+use Rattle.calls.specs.Door.{usesFine}
 use Rattle.order.specs.Order.{listed}
 use Rattle.rules.specs.Types.{State}
 use Rattle.rules.specs.Sound.{tablesFine, levelsFine, listingFine, clockFine, runsFine, sound}
@@ -11,6 +12,7 @@ use Rattle.rules.proofs.SoundLevels.{levels-say, says-levels}
 use Rattle.rules.proofs.SoundListing.{listing-says, says-listing}
 use Rattle.rules.proofs.SoundClock.{clock-says, says-clock}
 use Rattle.rules.proofs.SoundRuns.{runs-say, says-runs}
+use Rattle.rules.proofs.SoundUses.{uses-say, says-uses}
 
 -- the parts' tests by their names
 pub record Tested (k : State) : Type 0 where
@@ -19,14 +21,15 @@ pub record Tested (k : State) : Type 0 where
   pub listing : listingFine (k .tasks) (k .order) ≡ true
   pub clock : clockFine (k .tasks) (k .tick) (k .hold) (k .pended) ≡ true
   pub runs : runsFine (k .tasks) (listed (k .order)) (k .running) (k .hold) ≡ true
+  pub uses : usesFine (k .uses) ≡ true
 
 pub sound-tested : (k : State) → sound k ≡ true → Tested k
 unfolding sound
-sound-tested k e = record { tables = at _ e 0; levels = at _ e 1; listing = at _ e 2; clock = at _ e 3; runs = at _ e 4 }
+sound-tested k e = record { tables = at _ e 0; levels = at _ e 1; listing = at _ e 2; clock = at _ e 3; runs = at _ e 4; uses = at _ e 5 }
 
 pub tested-sound : (k : State) → Tested k → sound k ≡ true
 unfolding sound
-tested-sound k T = also _ _ (T .tables) (also _ _ (T .levels) (also _ _ (T .listing) (also _ _ (T .clock) (also _ _ (T .runs) none))))
+tested-sound k T = also _ _ (T .tables) (also _ _ (T .levels) (also _ _ (T .listing) (also _ _ (T .clock) (also _ _ (T .runs) (also _ _ (T .uses) none)))))
 
 pub sound-says : (k : State) → sound k ≡ true → Sound k
 sound-says k e =
@@ -36,6 +39,7 @@ sound-says k e =
       listing = listing-says (k .tasks) (k .order) (tables .task-slots) (T .listing);
       clock = clock-says (k .tasks) (k .tick) (k .hold) (k .pended) (tables .task-slots) (T .clock);
       running = runs-say (k .tasks) (listed (k .order)) (k .running) (k .hold) (T .runs);
+      uses = uses-say (k .uses) (T .uses);
     }
   where
     T : Tested k
@@ -52,4 +56,5 @@ says-sound k S =
       listing = says-listing (k .tasks) (k .order) (S .tables .task-slots) (S .listing);
       clock = says-clock (k .tasks) (k .tick) (k .hold) (k .pended) (S .clock);
       runs = says-runs (k .tasks) (listed (k .order)) (k .running) (k .hold) (S .running);
+      uses = says-uses (k .uses) (S .uses);
     }

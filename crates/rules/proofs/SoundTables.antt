@@ -12,11 +12,11 @@ use Rattle.slots.specs.Places.{isFree, isReady, isBlocked}
 use Rattle.slots.specs.Values.{freeTask, taskAt}
 use Rattle.slots.specs.Kinds.{kindAt}
 use Rattle.slots.specs.SoundSlots.{idleFine, mayWait, waitsFine, holderThere, ringFine, ringInRange, outcomeFine, freshIfFree}
-use Rattle.rules.specs.Types.{TaskSlot, ObjSlot, Place, Free, Ready, Delayed, Waiting, Suspended, Task, Ring, Nobody, By, Kind, Unused, Queue, Mutex, Object}
+use Rattle.rules.specs.Types.{TaskSlot, ObjSlot, Place, Free, Ready, Delayed, Waiting, Suspended, Spent, Task, Ring, Nobody, By, Kind, Unused, SpentObject, Queue, Mutex, Object}
 use Rattle.rules.specs.Tables.{holds}
 use Rattle.rules.specs.Sound.{slotTask, sixteen, waitersFine, holdersThere, ringsInRange, outcomesFine, freshSlots, tablesFine}
 use Rattle.rules.specs.Sentences.{MayWait, receiver, sender, taker, RingFits, TaskFits, Tables}
-use Rattle.rules.proofs.TableSlots.{any-task, any-kind, is-ready, exists-there}
+use Rattle.rules.proofs.TableSlots.{any-task, any-kind, is-ready}
 use Rattle.rules.proofs.TableHolds.{none-holds, not-held}
 
 -- ── the tests by their names
@@ -53,6 +53,7 @@ tested-tables ts os T =
 -- ── tests and propositions on one value
 may-wait : (t : TaskSlot) (x : Kind) → mayWait t x ≡ true → MayWait t x
 may-wait t Unused e = absurd (false≢true e)
+may-wait t SpentObject e = absurd (false≢true e)
 may-wait t (Queue q) e = go (eqb (q .count) 0) refl e
   where
     go : (b : Bool) → eqb (q .count) 0 ≡ b → b || eqb (q .count) (q .capacity) ≡ true → MayWait t (Queue q)
@@ -91,9 +92,9 @@ blocked-outcome : (x : Task) → outcomeFine x ≡ true → isBlocked (x .place)
 blocked-outcome x e b =
     eqb-true _ _ (or-second (not (isBlocked (x .place))) (eqb (x .outcome) 0) (and-right (leb (x .outcome) 3) _ e) (rw b))
 
-fresh-is : (x : Task) → freshIfFree x ≡ true → x .place ≡ Free → x ≡ freeTask
-fresh-is x e q =
-    let z = or-second (not (isFree (x .place))) _ e (rw q) in
+fresh-is : (x : Task) → freshIfFree x ≡ true → (p : Place) → isFree p ≡ true → x .place ≡ p → x ≡ record { place = p; own = 0; effective = 0; outcome = 0 }
+fresh-is x e p f q =
+    let z = or-second (not (isFree (x .place))) _ e (rw (q, f)) in
     let y = and-right (eqb (x .own) 0) _ z in
     let own = eqb-true (x .own) 0 (and-left (eqb (x .own) 0) _ z) in
     let eff = eqb-true (x .effective) 0 (and-left (eqb (x .effective) 0) _ y) in
@@ -107,7 +108,8 @@ task-says os t x w o f =
       outcome-range = leb-true _ _ (and-left (leb (x .outcome) 3) _ o);
       delay-outcome = λ v q. blocked-outcome x o (rw q);
       wait-outcome = λ b v q. blocked-outcome x o (rw q);
-      free = fresh-is x f;
+      free = fresh-is x f Free refl;
+      spent = fresh-is x f Spent refl;
     }
 
 -- ── a test that is true says every sentence
@@ -126,7 +128,7 @@ tables-say ts os e =
           (any-task ts (λ u x. outcomeFine x) many (T .outcomes) (λ u h. refl) t)
           (any-task ts (λ u x. freshIfFree x) many (T .fresh) (λ u h. refl) t);
       idle-holds = not-held os idle (off (holds os idle) (T .idle-holds));
-      holders = λ t o h q. false≢true (rw q at (rw h at (any-kind os (holderThere ts) kinds (T .holders) refl o)));
+      holders = λ t o h. off _ (rw h at (any-kind os (holderThere ts) kinds (T .holders) refl o));
       queue-range = λ o q h. ring-fits q (rw h at (any-kind os ringInRange kinds (T .rings) refl o));
     }
   where
@@ -150,6 +152,7 @@ module _ (os : List Object) (t : TaskSlot) (x : Task) (F : TaskFits os t x) wher
   waits-fine (Delayed w) e = refl
   waits-fine (Waiting o w) e = waits-may (F .waits o w e)
   waits-fine Suspended e = refl
+  waits-fine Spent e = refl
 
   outcome-or : (p : Place) → x .place ≡ p → not (isBlocked p) || eqb (x .outcome) 0 ≡ true
   outcome-or Free e = refl
@@ -157,6 +160,7 @@ module _ (os : List Object) (t : TaskSlot) (x : Task) (F : TaskFits os t x) wher
   outcome-or (Delayed w) e = eq-eqb _ _ (F .delay-outcome w e)
   outcome-or (Waiting o w) e = eq-eqb _ _ (F .wait-outcome o w e)
   outcome-or Suspended e = refl
+  outcome-or Spent e = refl
 
   fresh-fine : (p : Place) → x .place ≡ p → not (isFree p) || (eqb (x .own) 0 && (eqb (x .effective) 0 && eqb (x .outcome) 0)) ≡ true
   fresh-fine Free e = rw (F .free e)
@@ -164,16 +168,19 @@ module _ (os : List Object) (t : TaskSlot) (x : Task) (F : TaskFits os t x) wher
   fresh-fine (Delayed w) e = refl
   fresh-fine (Waiting o w) e = refl
   fresh-fine Suspended e = refl
+  fresh-fine Spent e = rw (F .spent e)
 
 module _ (ts : List Task) (os : List Object) (S : Tables ts os) where
   holder-fine : (o : ObjSlot) (x : Kind) → kindAt os o ≡ x → holderThere ts x ≡ true
   holder-fine o Unused e = refl
+  holder-fine o SpentObject e = refl
   holder-fine o (Queue q) e = refl
   holder-fine o (Mutex Nobody) e = refl
-  holder-fine o (Mutex (By t)) e = not-off (isFree (taskAt ts t .place)) (exists-there (taskAt ts t .place) (S .holders t o e))
+  holder-fine o (Mutex (By t)) e = not-off (isFree (taskAt ts t .place)) (S .holders t o e)
 
   ring-fine : (o : ObjSlot) (x : Kind) → kindAt os o ≡ x → ringInRange x ≡ true
   ring-fine o Unused e = refl
+  ring-fine o SpentObject e = refl
   ring-fine o (Queue q) e = fits-ring q (S .queue-range o q e)
   ring-fine o (Mutex h) e = refl
 

@@ -9,12 +9,13 @@ use Rattle.lists.proofs.Bools.{untrue}
 use Rattle.numbers.specs.Numbers.{object}
 use Rattle.order.proofs.Passing.{one-number}
 use Rattle.slots.specs.Kinds.{unused, heldBy, kindAt}
-use Rattle.rules.specs.Types.{TaskSlot, ObjSlot, Nobody, By, Kind, Unused, Queue, Mutex, Object}
+use Rattle.rules.specs.Types.{TaskSlot, ObjSlot, Nobody, By, Kind, Unused, SpentObject, Queue, Mutex, Object}
 use Rattle.rules.specs.Tables.{holds}
 use Rattle.rules.specs.Sentences.{Holds, HoldsNothing}
 
 pub held-one : (t : TaskSlot) (x : Kind) → heldBy t x ≡ true → x ≡ Mutex (By t)
 held-one t Unused e = absurd (false≢true e)
+held-one t SpentObject e = absurd (false≢true e)
 held-one t (Queue q) e = absurd (false≢true e)
 held-one t (Mutex Nobody) e = absurd (false≢true e)
 held-one t (Mutex (By u)) e = ap (λ v. Mutex (By v)) (one-number u t (eqb-true (u .0) (t .0) e))

@@ -10,10 +10,10 @@ use borrow.Author.Tests.{ltb-true, ltb-false}
 use Rattle.lists.specs.Lists.{allBelow}
 use Rattle.lists.proofs.Bools.{all-below}
 use Rattle.numbers.specs.Numbers.{task, object}
-use Rattle.slots.specs.Places.{isFree, isReady}
+use Rattle.slots.specs.Places.{isFree, takesTask, isReady}
 use Rattle.slots.specs.Values.{freeTask, taskAt}
 use Rattle.slots.specs.Kinds.{unused, kindAt}
-use Rattle.rules.specs.Types.{TaskSlot, ObjSlot, Place, Free, Ready, Delayed, Waiting, Suspended, Task, Ring, Nobody, By, Kind, Object, Unused, Queue, Mutex}
+use Rattle.rules.specs.Types.{TaskSlot, ObjSlot, Place, Free, Ready, Delayed, Waiting, Suspended, Spent, Task, Ring, Nobody, By, Kind, Object, Unused, SpentObject, Queue, Mutex}
 
 pub past-tasks : (ts : List Task) (t : TaskSlot) → length ts ≤ t .0 → taskAt ts t ≡ freeTask
 unfolding taskAt
@@ -46,22 +46,31 @@ is-ready Ready e = refl
 is-ready (Delayed w) e = absurd (false≢true e)
 is-ready (Waiting o w) e = absurd (false≢true e)
 is-ready Suspended e = absurd (false≢true e)
+is-ready Spent e = absurd (false≢true e)
 
--- a task that exists has a place; so has one that passes a test which no free slot passes
-pub exists-there : (p : Place) → (p ≡ Free → ⊥) → isFree p ≡ false
-exists-there Free n = absurd (n refl)
-exists-there Ready n = refl
-exists-there (Delayed w) n = refl
-exists-there (Waiting o w) n = refl
-exists-there Suspended n = refl
+-- a task that passes a test which no free and no spent slot passes is there
+pub passes-there : (f : Place → Bool) (p : Place) → f Free ≡ false → f Spent ≡ false → f p ≡ true → isFree p ≡ false
+passes-there f Free z y e = absurd (false≢true (sym z ∙ e))
+passes-there f Ready z y e = refl
+passes-there f (Delayed w) z y e = refl
+passes-there f (Waiting o w) z y e = refl
+passes-there f Suspended z y e = refl
+passes-there f Spent z y e = absurd (false≢true (sym y ∙ e))
 
-pub passes-there : (f : Place → Bool) (p : Place) → f Free ≡ false → f p ≡ true → isFree p ≡ false
-passes-there f p z e = exists-there p (λ q. false≢true (sym z ∙ ap f (sym q) ∙ e))
+-- a slot that a create may take is free
+pub takes-free : (p : Place) → takesTask p ≡ true → isFree p ≡ true
+takes-free Free e = refl
+takes-free Ready e = absurd (false≢true e)
+takes-free (Delayed w) e = absurd (false≢true e)
+takes-free (Waiting o w) e = absurd (false≢true e)
+takes-free Suspended e = absurd (false≢true e)
+takes-free Spent e = refl
 
 -- by the kind of an object
-pub by-kind : (x : Kind) (P : Kind → Type 0) → P Unused → ((q : Ring) → x ≡ Queue q → P (Queue q)) → (x ≡ Mutex Nobody → P (Mutex Nobody)) → ((t : TaskSlot) → x ≡ Mutex (By t) → P (Mutex (By t)))
+pub by-kind : (x : Kind) (P : Kind → Type 0) → P Unused → P SpentObject → ((q : Ring) → x ≡ Queue q → P (Queue q)) → (x ≡ Mutex Nobody → P (Mutex Nobody)) → ((t : TaskSlot) → x ≡ Mutex (By t) → P (Mutex (By t)))
     → P x
-by-kind Unused P none queue free held = none
-by-kind (Queue q) P none queue free held = queue q refl
-by-kind (Mutex Nobody) P none queue free held = free refl
-by-kind (Mutex (By t)) P none queue free held = held t refl
+by-kind Unused P none spent queue free held = none
+by-kind SpentObject P none spent queue free held = spent
+by-kind (Queue q) P none spent queue free held = queue q refl
+by-kind (Mutex Nobody) P none spent queue free held = free refl
+by-kind (Mutex (By t)) P none spent queue free held = held t refl

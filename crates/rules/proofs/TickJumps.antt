@@ -13,7 +13,7 @@ use Rattle.lists.specs.Lists.{foldl, upTo}
 use Rattle.numbers.specs.Numbers.{byNumber}
 use Rattle.slots.specs.Places.{wakesAt, outcomeDue, ahead, away}
 use Rattle.slots.specs.Values.{freeTask, taskAt}
-use Rattle.rules.specs.Types.{TaskSlot, Never, At, Place, Free, Ready, Delayed, Waiting, Suspended, Task, State}
+use Rattle.rules.specs.Types.{TaskSlot, Never, At, Place, Free, Ready, Delayed, Waiting, Suspended, Spent, Task, State}
 use Rattle.rules.specs.Tables.{withTick}
 use Rattle.rules.specs.Waits.{later, arrives}
 use Rattle.rules.specs.Ticks.{wokenIfDue, wakes, oneTick, untilDue, ticks}
@@ -29,6 +29,7 @@ not-yet now d i (Delayed w) n h l = before-wake now w d i n h l
 not-yet now d i (Waiting o Never) n h l = refl
 not-yet now d i (Waiting o (At w)) n h l = before-wake now w d i n h l
 not-yet now d i Suspended n h l = refl
+not-yet now d i Spent n h l = refl
 
 -- ── nobody is due: the wakes change nothing
 none-woken : (k : State) → ((t : TaskSlot) → wakesAt (k .tick) (taskAt (k .tasks) t .place) ≡ false) → (l : List TaskSlot) → wakes k l ≡ k

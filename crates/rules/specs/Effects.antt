@@ -1,12 +1,13 @@
 -- "No. | Call | Effect": what each accepted call does to the kernel, before choose.
 use Prim.Native.Nat.{ℕ}
+use mathlib.Core.Bool.{Bool}
 use mathlib.Core.List.{List, [], _∷_}
 use lib.Dec.{eqb}
 use Rattle.lists.specs.Choice.{if_then_else_}
 use Rattle.numbers.specs.Numbers.{task, object}
 use Rattle.slots.specs.Places.{isListed}
-use Rattle.slots.specs.Values.{freeTask, readyAt, brokenOff, taskAt}
-use Rattle.rules.specs.Types.{TaskSlot, ObjSlot, Ready, Delayed, Nobody, By, Kind, Unused, Queue, Mutex, WaitersOf, Asked, State}
+use Rattle.slots.specs.Values.{freeTask, spentTask, readyAt, brokenOff, taskAt}
+use Rattle.rules.specs.Types.{TaskSlot, ObjSlot, Ready, Delayed, Nobody, By, Kind, Unused, SpentObject, Queue, Mutex, WaitersOf, Asked, State}
 use Rattle.slots.specs.Kinds.{kindAt}
 use Rattle.rules.specs.Tables.{freeSlot, freeObject, withTask, withObject}
 use Rattle.rows.specs.Asking.{is}
@@ -20,9 +21,9 @@ use Rattle.rules.specs.Queues.{sentTo, receivedFrom}
 unfoldable pub created : State → ℕ → State
 created k p = toTail (withTask k (task (freeSlot (k .tasks))) (readyAt p)) (task (freeSlot (k .tasks)))
 
--- 2: "leaves any wait; slot is free and used again"
-unfoldable pub deleted : State → TaskSlot → State
-deleted k t = leaves (withTask k t freeTask) t
+-- 2: "leaves any wait; slot is free and used again", but for one at its last use
+unfoldable pub deleted : State → TaskSlot → Bool → State
+deleted k t last = leaves (withTask k t (if last then spentTask else freeTask)) t
 
 -- 3: "if delayed or waiting, leaves that with outcome 3; if ready, outcome stays; already suspended: nothing changes"
 unfoldable pub suspended : State → TaskSlot → State
@@ -49,13 +50,14 @@ queueMade k c s = withObject k (object (freeObject (k .objects))) (Queue (record
 unfoldable pub mutexMade : State → State
 mutexMade k = withObject k (object (freeObject (k .objects))) (Mutex Nobody)
 
--- 12: "items in it are dropped"
-unfoldable pub removed : State → ObjSlot → State
-removed k o = withObject k o Unused
+-- 12: "items in it are dropped"; the slot is used again, but for one at its last use
+unfoldable pub removed : State → ObjSlot → Bool → State
+removed k o last = withObject k o (if last then SpentObject else Unused)
 
 -- 15: "A free mutex becomes the caller's. Held by another: the caller waits, and the holder's effective priority becomes the larger of the two effective ones."
 abbrev pub takenFrom : State → ObjSlot → Kind → ℕ → State
 takenFrom k o Unused w = k
+takenFrom k o SpentObject w = k
 takenFrom k o (Queue q) w = k
 takenFrom k o (Mutex Nobody) w = withObject k o (Mutex (By (k .running)))
 takenFrom k o (Mutex (By h)) w = waitFor (lent k h) o w
@@ -78,7 +80,7 @@ given k o = ownAgain (handedOn k o) (k .running)
 unfoldable pub effect : State → Asked → State
 effect k a =
     if is 1 a then created k (a .priority)
-    else if is 2 a then deleted k (a .task)
+    else if is 2 a then deleted k (a .task) (a .last)
     else if is 3 a then suspended k (a .task)
     else if is 4 a then resumed k (a .task)
     else if is 5 a then newPriority k (a .task) (a .priority)
@@ -88,7 +90,7 @@ effect k a =
     else if is 9 a then released k
     else if is 10 a then queueMade k (a .capacity) (a .size)
     else if is 11 a then mutexMade k
-    else if is 12 a then removed k (a .object)
+    else if is 12 a then removed k (a .object) (a .last)
     else if is 13 a then sentTo k (a .object) (kindAt (k .objects) (a .object)) (a .wait)
     else if is 14 a then receivedFrom k (a .object) (kindAt (k .objects) (a .object)) (a .wait)
     else if is 15 a then taken k (a .object) (a .wait)

@@ -4,7 +4,7 @@ use mathlib.Core.List.{List, [], _∷_}
 use lib.Dec.{eqb}
 use Rattle.lists.specs.Choice.{if_then_else_}
 use Rattle.items.specs.Bytes.{bytesAt, putAt}
-use Rattle.rules.specs.Types.{TaskSlot, ObjSlot, Ready, Ring, Kind, Unused, Queue, Mutex, WaitersOf, Outlet, toWaiter, toQueue, toCaller, State}
+use Rattle.rules.specs.Types.{TaskSlot, ObjSlot, Ready, Ring, Kind, Unused, SpentObject, Queue, Mutex, WaitersOf, Outlet, toWaiter, toQueue, toCaller, State}
 use Rattle.rules.specs.Tables.{withObject}
 use Rattle.rules.specs.Lines.{first}
 use Rattle.rules.specs.Waits.{arrives, waitFor}
@@ -57,20 +57,24 @@ storeReceived k o q s =
 -- to an object of any kind: only a queue is sent to or received from
 abbrev pub sentTo : State → ObjSlot → Kind → ℕ → State
 sentTo k o Unused w = k
+sentTo k o SpentObject w = k
 sentTo k o (Queue q) w = sent k o q w
 sentTo k o (Mutex h) w = k
 
 abbrev pub storeSentTo : State → ObjSlot → Kind → List ℕ → List ℕ → List ℕ
 storeSentTo k o Unused item s = s
+storeSentTo k o SpentObject item s = s
 storeSentTo k o (Queue q) item s = storeSent k o q item s
 storeSentTo k o (Mutex h) item s = s
 
 abbrev pub receivedFrom : State → ObjSlot → Kind → ℕ → State
 receivedFrom k o Unused w = k
+receivedFrom k o SpentObject w = k
 receivedFrom k o (Queue q) w = received k o q w
 receivedFrom k o (Mutex h) w = k
 
 abbrev pub storeReceivedFrom : State → ObjSlot → Kind → List ℕ → List ℕ
 storeReceivedFrom k o Unused s = s
+storeReceivedFrom k o SpentObject s = s
 storeReceivedFrom k o (Queue q) s = storeReceived k o q s
 storeReceivedFrom k o (Mutex h) s = s

@@ -1,16 +1,18 @@
--- "A kernel value is sound when", as propositions, in the five parts of Sound.antt: for each task, each object, each line and each list what the sentence says.
+-- "A kernel value is sound when", as propositions, in the six parts of Sound.antt: for each task, each object, each line and each list what the sentence says.
 use Prim.Native.Nat.{ℕ, _*_, _<_, _≤_}
 use mathlib.Core.Path.{_≡_}
+use mathlib.Core.Bool.{false}
 use mathlib.Core.List.{List, [], _∷_}
 use lib.ListN.{length, getD}
 use Rattle.lists.specs.Choice.{if_then_else_}
 use Rattle.lists.specs.Lists.{head}
 use Rattle.numbers.specs.Numbers.{idle}
+use Rattle.calls.specs.Door.{useIn}
 use Rattle.order.specs.Order.{listed}
 use Rattle.order.specs.Tidy.{count}
-use Rattle.slots.specs.Places.{isListed, waitsOn}
-use Rattle.slots.specs.Values.{freeTask, inLine, taskAt}
-use Rattle.rules.specs.Types.{TaskSlot, ObjSlot, Wake, At, Place, Free, Ready, Delayed, Waiting, Order, Task, Ring, By, Kind, Queue, Mutex, Object, WaitersOf, State}
+use Rattle.slots.specs.Places.{isFree, isListed, waitsOn}
+use Rattle.slots.specs.Values.{freeTask, spentTask, inLine, taskAt}
+use Rattle.rules.specs.Types.{TaskSlot, ObjSlot, Wake, At, Place, Free, Ready, Delayed, Waiting, Spent, Order, Uses, Task, Ring, By, Kind, Queue, Mutex, Object, WaitersOf, State}
 use Rattle.slots.specs.Kinds.{kindAt}
 use Rattle.rules.specs.Lines.{line, those, level}
 
@@ -24,7 +26,7 @@ HoldsNothing os t = (o : ObjSlot) → Holds os t o → ⊥
 
 -- the task exists
 abbrev pub Exists : List Task → TaskSlot → Type 0
-Exists ts t = taskAt ts t .place ≡ Free → ⊥
+Exists ts t = isFree (taskAt ts t .place) ≡ false
 
 -- "receivers wait only on an empty queue, senders only on a full one, takers only on a mutex held by another"
 pub data MayWait (t : TaskSlot) : Kind → Type 0 where
@@ -58,6 +60,7 @@ pub record TaskFits (os : List Object) (t : TaskSlot) (x : Task) : Type 0 where
   pub wait-outcome : (o : ObjSlot) (w : Wake) → x .place ≡ Waiting o w → x .outcome ≡ 0
   -- "free slots carry the fresh values"
   pub free : x .place ≡ Free → x ≡ freeTask
+  pub spent : x .place ≡ Spent → x ≡ spentTask
 
 pub record Tables (ts : List Task) (os : List Object) : Type 0 where
   -- "16 task slots, 0 to 15"; "16 object slots, 0 to 15"
@@ -130,6 +133,16 @@ pub record Running (ts : List Task) (l : List TaskSlot) (r : TaskSlot) (hold : �
   -- "and with hold 0 no higher line is occupied"
   pub no-higher : hold ≡ 0 → (p : ℕ) → level ts r < p → line ts p l ≡ []
 
+-- ── the uses
+pub record Used (us : Uses) : Type 0 where
+  -- "a use is at most 65,536, in a taken slot 65,535": what is kept is at most 65,535, and a spent slot is not taken
+  pub tasks : (t : TaskSlot) → useIn (us .tasks) (t .0) ≤ 65535
+  pub objects : (o : ObjSlot) → useIn (us .objects) (o .0) ≤ 65535
+  -- "and idle's is 0"
+  pub idle-none : useIn (us .tasks) 0 ≡ 0
+  pub task-slots : length (us .tasks) ≡ 16
+  pub object-slots : length (us .objects) ≡ 16
+
 -- ── every part
 pub record Sound (k : State) : Type 0 where
   pub tables : Tables (k .tasks) (k .objects)
@@ -137,6 +150,7 @@ pub record Sound (k : State) : Type 0 where
   pub listing : Listing (k .tasks) (k .order)
   pub clock : Clock (k .tasks) (k .tick) (k .hold) (k .pended)
   pub running : Running (k .tasks) (listed (k .order)) (k .running) (k .hold)
+  pub uses : Used (k .uses)
 
 -- what a step leans on beside the refusals, all of which soundness gives: the tables have their slots, the caller has one, and each queue obeys the ranges
 pub record Steady (k : State) : Type 0 where

@@ -57,7 +57,7 @@ pub record Run : Type 0 where
 
 -- the answer line: "the running task afterwards" is that of the next kernel
 abbrev pub told : Stepped → List ℕ
-told d = reply (d .answer) (taskNo (d .kernel .running))
+told d = reply (d .answer) (taskNo (d .kernel .uses) (d .kernel .running))
 
 -- a line is answered by d
 abbrev pub answeredBy : Run → Cut → Stepped → Run

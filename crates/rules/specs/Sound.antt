@@ -1,4 +1,4 @@
--- "A kernel value is sound when": a test for each sentence, in five parts. Each part takes the fields that it speaks of, and has its sentences in document 01's order.
+-- "A kernel value is sound when": a test for each sentence, in six parts. Each part takes the fields that it speaks of, and has its sentences in document 01's order.
 -- (Sentences.antt has the same as propositions.)
 use Prim.Native.Nat.{ℕ}
 use mathlib.Core.Bool.{Bool, false, not, _&&_, _||_}
@@ -7,6 +7,7 @@ use lib.Dec.{eqb, ltb, leb}
 use lib.ListN.{length}
 use Rattle.lists.specs.Lists.{every, allBelow, kept, isNone}
 use Rattle.numbers.specs.Numbers.{task, object, idle, sameTask}
+use Rattle.calls.specs.Door.{usesFine}
 use Rattle.order.specs.Order.{listed}
 use Rattle.order.specs.Tidy.{count, tidy}
 use Rattle.slots.specs.Places.{isReady}
@@ -103,6 +104,7 @@ unfoldable pub runsFine : List Task → List TaskSlot → TaskSlot → ℕ → B
 runsFine ts l r hold =
     isReady (taskAt ts r .place) && (heads (line ts (level ts r) l) r && (ltb 0 hold || noHigher ts (level ts r) l))
 
+-- ── the uses: `usesFine` in calls/specs/Door
 -- ── every part
 unfoldable pub sound : State → Bool
 sound k =
@@ -112,4 +114,5 @@ sound k =
     ∷ listingFine (k .tasks) (k .order)
     ∷ clockFine (k .tasks) (k .tick) (k .hold) (k .pended)
     ∷ runsFine (k .tasks) (listed (k .order)) (k .running) (k .hold)
+    ∷ usesFine (k .uses)
     ∷ [])

@@ -4,13 +4,15 @@ use mathlib.Core.List.{List}
 use lib.Dec.{eqb}
 use lib.ListN.{length}
 use Rattle.lists.specs.Choice.{if_then_else_}
-use Rattle.calls.specs.Door.{number}
+use Rattle.numbers.specs.Numbers.{task, object}
+use Rattle.calls.specs.Door.{taskNo, objNo, withoutTask, withoutObject}
 use Rattle.calls.specs.Behind.{asked}
 use Rattle.calls.specs.Said.{Saying, says, done, made, waiting, refused}
 use Rattle.slots.specs.Places.{isBlocked}
-use Rattle.rules.specs.Types.{Call, Asked, State}
+use Rattle.rules.specs.Types.{Call, Uses, Asked, State}
 use Rattle.slots.specs.Values.{taskAt}
 use Rattle.slots.specs.Kinds.{kindAt}
+use Rattle.rules.specs.Tables.{withUses}
 use Rattle.rules.specs.Lines.{chosen}
 use Rattle.rules.specs.Queues.{storeSentTo, storeReceivedFrom}
 use Rattle.rows.specs.Asking.{is, makes}
@@ -25,10 +27,14 @@ stored k a item s =
     else if is 14 a then storeReceivedFrom k (a .object) (kindAt (k .objects) (a .object)) s
     else s
 
+-- the number of the slot n that a create or make takes, where the slots have these uses
+abbrev pub newNumber : Uses → Asked → ℕ → ℕ
+newNumber us a n = if is 1 a then taskNo us (task n) .0 else objNo us (object n) .0
+
 -- "An accepted call answers done, made with the new number, or waiting (given exactly if the caller is now delayed or waits on an object)."
 unfoldable pub answered : State → Asked → State → Saying
 answered k a next =
-    if makes a then says made (number (newSlot k a))
+    if makes a then says made (newNumber (k .uses) a (newSlot k a))
     else if isBlocked (taskAt (next .tasks) (k .running) .place) then says waiting 0
     else says done 0
 
@@ -37,9 +43,18 @@ pub record Stepped : Type 0 where
   pub answer : Saying
   pub store : List ℕ
 
+-- "where a slot's use .. goes up by one at each delete or remove"
+unfoldable pub usesAfter : Uses → Asked → Uses
+usesAfter us a = if is 2 a then withoutTask us (a .task) else if is 12 a then withoutObject us (a .object) else us
+
 -- "Every accepted call ends with choose."
 unfoldable pub accepted : State → Asked → List ℕ → List ℕ → Stepped
-accepted k a item s = record { kernel = chosen (effect k a); answer = answered k a (chosen (effect k a)); store = stored k a item s }
+accepted k a item s =
+    record {
+      kernel = withUses (chosen (effect k a)) (usesAfter (k .uses) a);
+      answer = answered k a (chosen (effect k a));
+      store = stored k a item s;
+    }
 
 -- "A refusal returns the number; the kernel and all lent bytes stay."
 abbrev pub turnedAway : State → ℕ → List ℕ → Stepped
@@ -51,4 +66,4 @@ steppedBy n k a item s = if eqb n 0 then accepted k a item s else turnedAway k n
 
 -- `asked` is the door: what stands behind it speaks of slots alone
 unfoldable pub step : State → Call → List ℕ → List ℕ → Stepped
-step k c item s = steppedBy (refusal k (asked c) (length item) (length s)) k (asked c) item s
+step k c item s = let a = asked (k .uses) c in steppedBy (refusal k a (length item) (length s)) k a item s

@@ -6,6 +6,7 @@ pub use Rattle.calls.specs.declared.Call.{Call}
 pub use Rattle.calls.specs.declared.Call.the-variants.{Create, Delete, Suspend, Resume, SetPriority, Delay, Yield, Hold, Release, MakeQueue, MakeMutex, Remove, Send, Receive, Take, Give, Tick}
 pub use Rattle.calls.specs.declared.Names.{Names}
 pub use Rattle.calls.specs.declared.Names.the-variants.{Nothing, Task as ATask, Object as AnObject, Queue as AQueue, Mutex as AMutex}
+pub use Rattle.calls.specs.declared.Uses.{Uses}
 pub use Rattle.calls.specs.declared.Asked.{Asked}
 pub use Rattle.rows.specs.declared.Seen.{Seen}
 pub use Rattle.cuts.specs.declared.Cut.{Cut}
@@ -13,13 +14,13 @@ pub use Rattle.order.specs.declared.Order.{Order}
 pub use Rattle.slots.specs.declared.Wake.{Wake}
 pub use Rattle.slots.specs.declared.Wake.the-variants.{Never, At}
 pub use Rattle.slots.specs.declared.Place.{Place}
-pub use Rattle.slots.specs.declared.Place.the-variants.{Free, Ready, Delayed, Waiting, Suspended}
+pub use Rattle.slots.specs.declared.Place.the-variants.{Free, Ready, Delayed, Waiting, Suspended, Spent}
 pub use Rattle.slots.specs.declared.Task.{Task}
 pub use Rattle.slots.specs.declared.Ring.{Ring}
 pub use Rattle.slots.specs.declared.Holder.{Holder}
 pub use Rattle.slots.specs.declared.Holder.the-variants.{Nobody, By}
 pub use Rattle.slots.specs.declared.Kind.{Kind}
-pub use Rattle.slots.specs.declared.Kind.the-variants.{Unused, Queue, Mutex}
+pub use Rattle.slots.specs.declared.Kind.the-variants.{Unused, Spent as SpentObject, Queue, Mutex}
 pub use Rattle.slots.specs.declared.Object.{Object}
 pub use Rattle.slots.specs.declared.Who.{Who}
 pub use Rattle.slots.specs.declared.Who.the-variants.{AllReady, WaitersOf}

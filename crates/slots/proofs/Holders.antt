@@ -12,7 +12,7 @@ use Rattle.lists.proofs.Bools.{and-left, and-right, and-intro, same-test, all-b
 use Rattle.lists.proofs.Tests.{any-at, any-none}
 use Rattle.numbers.specs.declared.TaskSlot.{TaskSlot}
 use Rattle.numbers.specs.Numbers.{task, object}
-use Rattle.slots.specs.Types.{Task, Nobody, By, Kind, Unused, Queue, Mutex, Object}
+use Rattle.slots.specs.Types.{Task, Nobody, By, Kind, Unused, SpentObject, Queue, Mutex, Object}
 use Rattle.slots.specs.Places.{isFree}
 use Rattle.slots.specs.Values.{freeTask, taskAt}
 use Rattle.slots.specs.Kinds.{unused, kindAt, heldBy, marksOf}
@@ -41,6 +41,7 @@ module _ (ts : List Task) (os : List Object) (few : length ts ≡ 16) (many : le
   -- from the objects
   one-slotted : (x : Kind) → holderThere ts x ≡ true → holderSlot x ≡ true
   one-slotted Unused e = refl
+  one-slotted SpentObject e = refl
   one-slotted (Queue q) e = refl
   one-slotted (Mutex Nobody) e = refl
   one-slotted (Mutex (By t)) e = past t e
@@ -48,6 +49,7 @@ module _ (ts : List Task) (os : List Object) (few : length ts ≡ 16) (many : le
   not-held : (m : ℕ) → isFree (taskAt ts (task m) .place) ≡ true → (x : Kind) → holderThere ts x ≡ true → heldBy (task m) x ≡ false
   unfolding taskAt
   not-held m f Unused e = refl
+  not-held m f SpentObject e = refl
   not-held m f (Queue q) e = refl
   not-held m f (Mutex Nobody) e = refl
   not-held m f (Mutex (By t)) e = go (eqb (t .0) m) refl
@@ -89,6 +91,7 @@ module _ (ts : List Task) (os : List Object) (few : length ts ≡ 16) (many : le
     one-there : (n : ℕ) → n < 16 → (x : Kind) → kindAt os (object n) ≡ x → holderSlot x ≡ true → holderThere ts x ≡ true
     unfolding taskAt
     one-there n l Unused e s = refl
+    one-there n l SpentObject e s = refl
     one-there n l (Queue q) e s = refl
     one-there n l (Mutex Nobody) e s = refl
     one-there n l (Mutex (By t)) e s =

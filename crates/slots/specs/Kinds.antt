@@ -6,7 +6,7 @@ use Rattle.lists.specs.Lists.{foldl}
 use Rattle.numbers.specs.declared.TaskSlot.{TaskSlot}
 use Rattle.numbers.specs.declared.ObjSlot.{ObjSlot}
 use Rattle.numbers.specs.Numbers.{task, sameTask}
-use Rattle.slots.specs.Types.{Holder, Nobody, By, Kind, Unused, Queue, Mutex, Object}
+use Rattle.slots.specs.Types.{Holder, Nobody, By, Kind, Unused, SpentObject, Queue, Mutex, Object}
 
 -- a free slot
 abbrev pub unused : Object
@@ -18,16 +18,26 @@ kindAt os o = getD os (o .0) unused .kind
 
 abbrev pub isUnused : Kind → Bool
 isUnused Unused = true
+isUnused SpentObject = true
 isUnused (Queue q) = false
 isUnused (Mutex h) = false
 
+-- a make may take it: nothing stands in it, and it is not spent
+abbrev pub takesObject : Kind → Bool
+takesObject Unused = true
+takesObject SpentObject = false
+takesObject (Queue q) = false
+takesObject (Mutex h) = false
+
 abbrev pub isQueue : Kind → Bool
 isQueue Unused = false
+isQueue SpentObject = false
 isQueue (Queue q) = true
 isQueue (Mutex h) = false
 
 abbrev pub isMutex : Kind → Bool
 isMutex Unused = false
+isMutex SpentObject = false
 isMutex (Queue q) = false
 isMutex (Mutex h) = true
 
@@ -42,11 +52,13 @@ isTaken (By u) = true
 -- a mutex that t holds; a mutex that someone holds
 abbrev pub heldBy : TaskSlot → Kind → Bool
 heldBy t Unused = false
+heldBy t SpentObject = false
 heldBy t (Queue q) = false
 heldBy t (Mutex h) = isBy t h
 
 abbrev pub isHeld : Kind → Bool
 isHeld Unused = false
+isHeld SpentObject = false
 isHeld (Queue q) = false
 isHeld (Mutex h) = isTaken h
 
@@ -57,6 +69,7 @@ byWhom (By t) = t
 
 abbrev pub holderOf : Kind → TaskSlot
 holderOf Unused = task 16
+holderOf SpentObject = task 16
 holderOf (Queue q) = task 16
 holderOf (Mutex h) = byWhom h
 

@@ -5,7 +5,7 @@ use mathlib.Core.List.{List}
 use lib.Dec.{eqb, ltb, leb}
 use lib.ListN.{getD}
 use Rattle.numbers.specs.declared.TaskSlot.{TaskSlot}
-use Rattle.slots.specs.Types.{Wake, Never, At, Place, Free, Ready, Delayed, Waiting, Suspended, Task, Ring, Nobody, By, Kind, Unused, Queue, Mutex, Object}
+use Rattle.slots.specs.Types.{Wake, Never, At, Place, Free, Ready, Delayed, Waiting, Suspended, Spent, Task, Ring, Nobody, By, Kind, Unused, SpentObject, Queue, Mutex, Object}
 use Rattle.slots.specs.Places.{isFree, isReady, isBlocked, wakesAt}
 use Rattle.slots.specs.Values.{taskAt}
 use Rattle.slots.specs.Kinds.{kindAt, isBy, isTaken}
@@ -21,10 +21,12 @@ standsFine n Ready = eqb n 1
 standsFine n (Delayed w) = true
 standsFine n (Waiting o w) = eqb n 1
 standsFine n Suspended = true
+standsFine n Spent = true
 
 -- "receivers wait only on an empty queue, senders only on a full one, takers only on a mutex held by another"
 abbrev pub mayWait : TaskSlot → Kind → Bool
 mayWait t Unused = false
+mayWait t SpentObject = false
 mayWait t (Queue q) = eqb (q .count) 0 || eqb (q .count) (q .capacity)
 mayWait t (Mutex h) = isTaken h && not (isBy t h)
 
@@ -38,6 +40,7 @@ waitsFine t os Ready = true
 waitsFine t os (Delayed w) = true
 waitsFine t os (Waiting o w) = mayWait t (kindAt os o)
 waitsFine t os Suspended = true
+waitsFine t os Spent = true
 
 -- "effective is at least own, and equal to it for a task that holds nothing"; "Priorities 0 to 31"
 abbrev pub prioritiesFine : Bool → Task → Bool
@@ -46,6 +49,7 @@ prioritiesFine holds x = leb (x .own) (x .effective) && (leb (x .effective) 31 &
 -- "holders exist"
 abbrev pub holderThere : List Task → Kind → Bool
 holderThere ts Unused = true
+holderThere ts SpentObject = true
 holderThere ts (Queue q) = true
 holderThere ts (Mutex Nobody) = true
 holderThere ts (Mutex (By t)) = not (isFree (taskAt ts t .place))
@@ -53,6 +57,7 @@ holderThere ts (Mutex (By t)) = not (isFree (taskAt ts t .place))
 -- the same in two halves: a holder's number is a slot's, and a free slot holds nothing
 abbrev pub holderSlot : Kind → Bool
 holderSlot Unused = true
+holderSlot SpentObject = true
 holderSlot (Queue q) = true
 holderSlot (Mutex Nobody) = true
 holderSlot (Mutex (By t)) = ltb (t .0) 16
@@ -71,6 +76,7 @@ wakesInRange Ready = true
 wakesInRange (Delayed w) = leb w 4294967295
 wakesInRange (Waiting o w) = wakeInRange w
 wakesInRange Suspended = true
+wakesInRange Spent = true
 
 abbrev pub notDue : ℕ → Place → Bool
 notDue tick p = wakesInRange p && not (wakesAt tick p)
@@ -84,6 +90,7 @@ ringFine q =
 
 abbrev pub ringInRange : Kind → Bool
 ringInRange Unused = true
+ringInRange SpentObject = true
 ringInRange (Queue q) = ringFine q
 ringInRange (Mutex h) = true
 
@@ -102,3 +109,4 @@ ordersFine n Ready = true
 ordersFine n (Delayed w) = eqb n 1
 ordersFine n (Waiting o w) = true
 ordersFine n Suspended = eqb n 0
+ordersFine n Spent = eqb n 0

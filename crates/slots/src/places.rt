@@ -21,6 +21,7 @@ impl Place {
             Place::Delayed(_) => false,
             Place::Waiting(_, _) => false,
             Place::Suspended => false,
+            Place::Spent => true,
         }
     }
 
@@ -33,6 +34,7 @@ impl Place {
             Place::Delayed(_) => false,
             Place::Waiting(_, _) => false,
             Place::Suspended => false,
+            Place::Spent => false,
         }
     }
 
@@ -45,6 +47,7 @@ impl Place {
             Place::Delayed(_) => false,
             Place::Waiting(_, _) => false,
             Place::Suspended => true,
+            Place::Spent => false,
         }
     }
 
@@ -57,6 +60,7 @@ impl Place {
             Place::Delayed(_) => true,
             Place::Waiting(_, _) => true,
             Place::Suspended => false,
+            Place::Spent => false,
         }
     }
 

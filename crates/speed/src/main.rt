@@ -8,7 +8,8 @@ use calls::ObjNo;
 use calls::TaskNo;
 use kernel::Kernel;
 
-// The two calls of a pair: together they leave the kernel as it was. `m` is the last task's number.
+// The two calls of a pair: together they leave the kernel as it was, but for the numbers of what is given up. `m` is the last task's number,
+// `o` that of the object after the first two.
 fn first(pair: u8, m: u32) -> Call {
     match pair {
         97 => Call::Yield,
@@ -26,7 +27,7 @@ fn first(pair: u8, m: u32) -> Call {
     }
 }
 
-fn second(pair: u8, m: u32) -> Call {
+fn second(pair: u8, m: u32, o: u32) -> Call {
     match pair {
         97 => Call::Yield,
         98 => Call::Release,
@@ -36,8 +37,8 @@ fn second(pair: u8, m: u32) -> Call {
         102 => Call::SetPriority(TaskNo::of(1), 3),
         103 => Call::Resume(TaskNo::of(m)),
         104 => Call::Create(3),
-        105 => Call::Remove(ObjNo::of(2)),
-        106 => Call::Remove(ObjNo::of(2)),
+        105 => Call::Remove(ObjNo::of(o)),
+        106 => Call::Remove(ObjNo::of(o)),
         107 => Call::Tick,
         _ => Call::Resume(TaskNo::of(1)),
     }
@@ -63,13 +64,35 @@ fn both(k: Kernel, a: Call, b: Call, store: &mut [u8]) -> Kernel {
     k.step(a, &item, store).kernel.step(b, &item, store).kernel
 }
 
-fn pairs(start: Kernel, a: Call, b: Call, times: u32, store: &mut [u8]) -> u32 {
+// A number of a slot that each turn gives up is `up` higher.
+fn later(pair: u8, n: u32, up: u32) -> u32 {
+    if lists::both(104 <= pair, pair <= 106) {
+        std::num::wrapping_add_u32(n, up)
+    } else {
+        n
+    }
+}
+
+fn turn(k: Kernel, pair: u8, m: u32, up: u32, store: &mut [u8]) -> Kernel {
+    let t = later(pair, m, up);
+    let o = later(pair, 2, up);
+    both(k, first(pair, t), second(pair, t, o), store)
+}
+
+// Before a slot is spent, the kernel is the first one again.
+fn pairs(start: Kernel, pair: u8, m: u32, times: u32, store: &mut [u8]) -> u32 {
     let mut k = start;
+    let mut up = 0u32;
     let mut sum = 0u32;
     let mut i = 0u32;
     while i < times {
-        k = both(k, a, b, store);
-        sum = std::num::wrapping_add_u32(sum, TaskNo::of_slot(k.running).number());
+        if i % 50000 == 0 {
+            k = start;
+            up = 0;
+        }
+        k = turn(k, pair, m, up, store);
+        up = std::num::wrapping_add_u32(up, 16);
+        sum = std::num::wrapping_add_u32(sum, k.runs().number());
         i += 1;
     }
     sum
@@ -81,15 +104,15 @@ fn tests(start: Kernel, times: u32) -> u32 {
     let mut sum = 0u32;
     let mut i = 0u32;
     while i < times {
-        k.tick = i;
+        k.core.tick = i;
         if k.sound() {
             sum = std::num::wrapping_add_u32(sum, 1);
         }
-        k.hold = 1;
+        k.core.hold = 1;
         if k.sound() {
             sum = std::num::wrapping_add_u32(sum, 1);
         }
-        k.hold = 0;
+        k.core.hold = 0;
         i += 1;
     }
     sum
@@ -100,7 +123,7 @@ fn each(start: Kernel, m: u32, times: u32, store: &mut [u8]) -> u32 {
     let mut sum = tests(start, times);
     let mut pair = 97u8;
     while pair < 109 {
-        let one = pairs(start, first(pair, m), second(pair, m), times, store);
+        let one = pairs(start, pair, m, times, store);
         sum = std::num::wrapping_add_u32(sum, one);
         pair += 1;
     }
@@ -127,7 +150,7 @@ fn main() {
     } else if pair == 122 {
         sum = tests(k, times * 100);
     } else {
-        sum = pairs(k, first(pair, m), second(pair, m), times * 100, &mut store);
+        sum = pairs(k, pair, m, times * 100, &mut store);
     }
     let digit = [48 + (sum % 10) as u8, 10];
     io::write_all(libc::STDOUT_FILENO, &digit);

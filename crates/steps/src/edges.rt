@@ -66,7 +66,9 @@ pub(crate) fn unsound() {
     words::text(b"\nnot sound\n");
     let mut none = [0u8; 0];
     let mut k = Kernel::fresh();
-    k.running = TaskSlot::of(3);
+    let mut core = k.core;
+    core.running = TaskSlot::of(3);
+    k.core = core;
     let p = Parlour::with(k).does(Call::Tick);
     stepped(p.kernel, Call::Create(32), b"", &mut none);
 }

@@ -44,10 +44,10 @@ fn ends(p: Parlour) -> Parlour {
 // Depth 255 and 65,535 pended ticks, set by hand.
 fn deepest(p: Parlour) {
     let mut k = p.kernel;
-    k.hold = 255;
+    k.core.hold = 255;
     let p = Parlour::with(k).does(Call::Hold);
     let mut k = p.kernel;
-    k.pended = 65535;
+    k.core.pended = 65535;
     let p = Parlour::with(k).does(Call::Tick);
     p.does(Call::Release);
 }

@@ -44,7 +44,7 @@ fn ends(p: Parlour) {
     let p = p.sets(0, 1);
     let p = p.sets(0, 0);
     let p = p.deletes(2);
-    let p = p.suspends(1);
+    let p = p.suspends(17);
     let p = p.does(Call::Delay(1));
     p.does(Call::Yield);
 }

@@ -17,7 +17,7 @@ pub(crate) fn stepped(k: Kernel, call: Call, item: &[u8], store: &mut [u8]) -> K
     let a = r.answer;
     words::answered(a);
     let next = r.kernel;
-    let t = TaskNo::of_slot(next.running);
+    let t = next.runs();
     words::runs(t.number());
     next
 }

@@ -87,12 +87,13 @@ pub(crate) fn bytes(words: &[u8], store: &[u8], from: usize, to: usize) {
 
 // The outcome of the task `t`.
 pub(crate) fn outcome(k: Kernel, t: TaskNo) {
-    let x = k.tasks.get(t.slot());
+    let uses = k.uses.tasks;
+    let x = k.core.tasks.get(t.slot(uses));
     two(b"  outcome of", t.number(), b":", x.outcome as u32);
     text(b"\n");
 }
 
 pub(crate) fn ticks(k: Kernel) {
-    one(b"  tick count:", k.tick);
+    one(b"  tick count:", k.core.tick);
     text(b"\n");
 }

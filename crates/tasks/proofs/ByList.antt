@@ -11,7 +11,7 @@ use Rattle.order.specs.declared.Order.{Order}
 use Rattle.slots.specs.declared.Task.{Task}
 use Rattle.slots.specs.declared.Who.{Who}
 use Rattle.slots.specs.declared.Lead.the-variants.{Open}
-use Rattle.slots.specs.Places.{isFree, wakesAt, away}
+use Rattle.slots.specs.Places.{takesTask, wakesAt, away}
 use Rattle.slots.specs.Values.{taskAt, inHigher}
 use Rattle.slots.specs.Leads.{better}
 use Rattle.tasks.specs.declared.Woken.{Woken}
@@ -33,7 +33,7 @@ pub higher-of : (xs : List Task) (p : ℕ) (l : List TaskSlot) → higherIn (tas
 unfolding higherIn
 higher-of xs p l = simp task-of
 
-pub free-of : (xs : List Task) → freeIn (tasksOf xs) ≡ index (λ (x : Task). isFree (x .place)) xs
+pub free-of : (xs : List Task) → freeIn (tasksOf xs) ≡ index (λ (x : Task). takesTask (x .place)) xs
 unfolding freeIn
 free-of xs = rw (rows-of xs)
 

@@ -9,7 +9,7 @@ use lib.Seq.{set-out, map-set-same}
 use Rattle.slots.proofs.Sweeps.{map-set, values-many, value-at, values-of}
 use Rattle.slots.specs.declared.Wake.the-variants.{Never, At}
 use Rattle.slots.specs.declared.Place.{Place}
-use Rattle.slots.specs.declared.Place.the-variants.{Free, Ready, Delayed, Waiting, Suspended}
+use Rattle.slots.specs.declared.Place.the-variants.{Free, Ready, Delayed, Waiting, Suspended, Spent}
 use Rattle.slots.specs.declared.Task.{Task}
 use Rattle.slots.specs.Values.{freeTask, placed, ranked}
 use Rattle.tasks.specs.declared.Tasks.{Tasks}
@@ -26,6 +26,7 @@ place-back (Delayed w) = (refl, refl)
 place-back (Waiting o (At w)) = (refl, refl)
 place-back (Waiting o Never) = (refl, refl)
 place-back Suspended = (refl, refl)
+place-back Spent = (refl, refl)
 
 -- a row of the columns that stand for a list is the list's element
 pub row-of : (xs : List Task) (n : ℕ) → rowAt (tasksOf xs) n ≡ getD xs n freeTask

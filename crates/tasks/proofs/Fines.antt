@@ -31,8 +31,8 @@ module _ (o w own level outcome n : ℕ) (held : Bool) where
   row-is : (s : ℕ) → Same s
   unfolding rowFine placeOf
   row-is s =
-      by-state Same refl refl refl refl refl
-      (λ m h. rw (is-suspended m o w h, ne-eqb m 0 (λ e. omega arith), ne-eqb m 1 (λ e. omega arith), ne-eqb m 2 (λ e. omega arith), ne-eqb m 3 (λ e. omega arith), ne-eqb m 4 (λ e. omega arith)))
+      by-state Same refl refl refl refl refl refl
+      (λ m h. rw (is-suspended m o w h, ne-eqb m 0 (λ e. omega arith), ne-eqb m 1 (λ e. omega arith), ne-eqb m 2 (λ e. omega arith), ne-eqb m 3 (λ e. omega arith), ne-eqb m 4 (λ e. omega arith), ne-eqb m 5 (λ e. omega arith)))
       s
 
 module _ (o w tick : ℕ) where
@@ -42,7 +42,7 @@ module _ (o w tick : ℕ) where
   wake-is : (s : ℕ) → Likewise s
   unfolding wakeFine placeOf
   wake-is s =
-      by-state Likewise (rw and-true) (rw and-true) refl refl (rw and-true)
+      by-state Likewise (rw and-true) (rw and-true) refl refl (rw and-true) (rw and-true)
       (λ m h. rw (is-suspended m o w h, ne-eqb m 2 (λ e. omega arith), ne-eqb m 3 (λ e. omega arith), and-true))
       s
 
@@ -109,7 +109,7 @@ module _ (ts : Tasks) (opens takes : List Bool) (holder : List ℕ) where
   wait-is : (i s o w : ℕ) → waitsBy opens takes holder (task i) (placeOf (cells s o w)) ≡ (if waitsState s then ltb o 16 && mayWaitOn opens takes holder (task i) o else true)
   unfolding placeOf
   wait-is i s o w =
-      by-state (λ n. waitsBy opens takes holder (task i) (placeOf (cells n o w)) ≡ (if waitsState n then ltb o 16 && mayWaitOn opens takes holder (task i) o else true)) refl refl refl refl refl
+      by-state (λ n. waitsBy opens takes holder (task i) (placeOf (cells n o w)) ≡ (if waitsState n then ltb o 16 && mayWaitOn opens takes holder (task i) o else true)) refl refl refl refl refl refl
       (λ n h. rw (is-suspended n o w h, ne-eqb n 3 (λ e. omega arith), ne-eqb n 4 (λ e. omega arith))) s
 
   waits-is : (i : ℕ) → waitNumber (ts .state) (ts .object) opens takes holder i ≡ waitsAt ts opens takes holder i

@@ -10,7 +10,7 @@ use Rattle.lists.specs.Choice.{if_then_else_}
 use Rattle.slots.specs.declared.Place.the-variants.{Suspended}
 use Rattle.slots.specs.declared.Who.{Who}
 use Rattle.slots.specs.declared.Who.the-variants.{AllReady, WaitersOf}
-use Rattle.slots.specs.Places.{isFree, isReady, waitsOn, wakesAt, outcomeDue, ahead, away}
+use Rattle.slots.specs.Places.{takesTask, isReady, waitsOn, wakesAt, outcomeDue, ahead, away}
 use Rattle.slots.specs.Leads.{isWho}
 use Rattle.slots.specs.Values.{inLine, inHigher}
 use Rattle.tasks.specs.declared.Tasks.{Tasks}
@@ -19,50 +19,51 @@ use Rattle.tasks.specs.Columns.{rowAt}
 use Rattle.tasks.specs.Walks.{isMeant}
 use Rattle.tasks.specs.Dues.{timed}
 
--- a number is one of the five first states, or more
-pub by-state : (P : ℕ → Type 0) → P 0 → P 1 → P 2 → P 3 → P 4 → ((s : ℕ) → 5 ≤ s → P s) → (s : ℕ) → P s
-by-state P a b c d e f zero = a
-by-state P a b c d e f (suc zero) = b
-by-state P a b c d e f (suc (suc zero)) = c
-by-state P a b c d e f (suc (suc (suc zero))) = d
-by-state P a b c d e f (suc (suc (suc (suc zero)))) = e
-by-state P a b c d e f (suc (suc (suc (suc (suc n))))) = f (suc (suc (suc (suc (suc n))))) (omega arith)
+-- a number is one of the six first states, or more
+pub by-state : (P : ℕ → Type 0) → P 0 → P 1 → P 2 → P 3 → P 4 → P 5 → ((s : ℕ) → 6 ≤ s → P s) → (s : ℕ) → P s
+by-state P a b c d e f g zero = a
+by-state P a b c d e f g (suc zero) = b
+by-state P a b c d e f g (suc (suc zero)) = c
+by-state P a b c d e f g (suc (suc (suc zero))) = d
+by-state P a b c d e f g (suc (suc (suc (suc zero)))) = e
+by-state P a b c d e f g (suc (suc (suc (suc (suc zero))))) = f
+by-state P a b c d e f g (suc (suc (suc (suc (suc (suc n)))))) = g (suc (suc (suc (suc (suc (suc n)))))) (omega arith)
 
-pub is-suspended : (s o w : ℕ) → 5 ≤ s → placeOf (cells s o w) ≡ Suspended
+pub is-suspended : (s o w : ℕ) → 6 ≤ s → placeOf (cells s o w) ≡ Suspended
 unfolding placeOf
 is-suspended s o w h =
-    rw (ne-eqb s 0 (λ e. omega arith), ne-eqb s 1 (λ e. omega arith), ne-eqb s 2 (λ e. omega arith), ne-eqb s 3 (λ e. omega arith), ne-eqb s 4 (λ e. omega arith))
+    rw (ne-eqb s 0 (λ e. omega arith), ne-eqb s 1 (λ e. omega arith), ne-eqb s 2 (λ e. omega arith), ne-eqb s 3 (λ e. omega arith), ne-eqb s 4 (λ e. omega arith), ne-eqb s 5 (λ e. omega arith))
 
 meant-is : (w : Who) (s o x : ℕ) → isWho w (placeOf (cells s o x)) ≡ isMeant w s o
 unfolding placeOf
 meant-is AllReady s o x =
-    by-state (λ n. isReady (placeOf (cells n o x)) ≡ eqb n 1) refl refl refl refl refl (λ n h. rw (is-suspended n o x h, ne-eqb n 1 (λ e. omega arith))) s
+    by-state (λ n. isReady (placeOf (cells n o x)) ≡ eqb n 1) refl refl refl refl refl refl (λ n h. rw (is-suspended n o x h, ne-eqb n 1 (λ e. omega arith))) s
 meant-is (WaitersOf y) s o x =
-    by-state (λ n. waitsOn y (placeOf (cells n o x)) ≡ ((eqb n 3 || eqb n 4) && eqb o (y .0))) refl refl refl refl refl
+    by-state (λ n. waitsOn y (placeOf (cells n o x)) ≡ ((eqb n 3 || eqb n 4) && eqb o (y .0))) refl refl refl refl refl refl
     (λ n h. rw (is-suspended n o x h, ne-eqb n 3 (λ e. omega arith), ne-eqb n 4 (λ e. omega arith))) s
 
-free-is : (s o x : ℕ) → isFree (placeOf (cells s o x)) ≡ eqb s 0
+takes-is : (s o x : ℕ) → takesTask (placeOf (cells s o x)) ≡ eqb s 0
 unfolding placeOf
-free-is s o x = by-state (λ n. isFree (placeOf (cells n o x)) ≡ eqb n 0) refl refl refl refl refl (λ n h. rw (is-suspended n o x h, ne-eqb n 0 (λ e. omega arith))) s
+takes-is s o x = by-state (λ n. takesTask (placeOf (cells n o x)) ≡ eqb n 0) refl refl refl refl refl refl (λ n h. rw (is-suspended n o x h, ne-eqb n 0 (λ e. omega arith))) s
 
 -- the wake tick: how far away, whether it is now, and the outcome
 away-is : (now s o w : ℕ) → away now (placeOf (cells s o w)) ≡ (if timed s then ahead now w else 4294967295)
 unfolding placeOf
 away-is now s o w =
-    by-state (λ n. away now (placeOf (cells n o w)) ≡ (if timed n then ahead now w else 4294967295)) refl refl refl refl refl
+    by-state (λ n. away now (placeOf (cells n o w)) ≡ (if timed n then ahead now w else 4294967295)) refl refl refl refl refl refl
     (λ n h. rw (is-suspended n o w h, ne-eqb n 2 (λ e. omega arith), ne-eqb n 3 (λ e. omega arith))) s
 
 due-is : (now s o w : ℕ) → wakesAt now (placeOf (cells s o w)) ≡ (timed s && eqb w now)
 unfolding placeOf
 due-is now s o w =
-    by-state (λ n. wakesAt now (placeOf (cells n o w)) ≡ (timed n && eqb w now)) refl refl refl refl refl
+    by-state (λ n. wakesAt now (placeOf (cells n o w)) ≡ (timed n && eqb w now)) refl refl refl refl refl refl
     (λ n h. rw (is-suspended n o w h, ne-eqb n 2 (λ e. omega arith), ne-eqb n 3 (λ e. omega arith))) s
 
 ended-is : (s o w : ℕ) → timed s ≡ true → outcomeDue (placeOf (cells s o w)) ≡ (if eqb s 2 then 1 else 2)
 unfolding placeOf
 ended-is s o w =
     by-state (λ n. timed n ≡ true → outcomeDue (placeOf (cells n o w)) ≡ (if eqb n 2 then 1 else 2))
-    (λ e. absurd (false≢true e)) (λ e. absurd (false≢true e)) (λ e. refl) (λ e. refl) (λ e. absurd (false≢true e))
+    (λ e. absurd (false≢true e)) (λ e. absurd (false≢true e)) (λ e. refl) (λ e. refl) (λ e. absurd (false≢true e)) (λ e. absurd (false≢true e))
     (λ n h e. absurd (false≢true (rw (ne-eqb n 2 (λ q. omega arith), ne-eqb n 3 (λ q. omega arith)) at e))) s
 
 -- the same of a row
@@ -83,9 +84,9 @@ module _ (ts : Tasks) (i : ℕ) where
   unfolding rowAt
   row-meant v = meant-is v s o w
 
-  pub row-free : isFree (rowAt ts i .place) ≡ eqb s 0
+  pub row-takes : takesTask (rowAt ts i .place) ≡ eqb s 0
   unfolding rowAt
-  row-free = free-is s o w
+  row-takes = takes-is s o w
 
   pub row-line : (p : ℕ) → inLine p (rowAt ts i) ≡ (eqb s 1 && eqb level p)
   unfolding rowAt

@@ -20,7 +20,7 @@ use Rattle.slots.specs.declared.Who.{Who}
 use Rattle.slots.specs.declared.Who.the-variants.{AllReady, WaitersOf}
 use Rattle.slots.specs.declared.Lead.{Lead}
 use Rattle.slots.specs.declared.Lead.the-variants.{Open}
-use Rattle.slots.specs.Places.{isFree, waitsOn, wakesAt, ahead, away}
+use Rattle.slots.specs.Places.{takesTask, waitsOn, wakesAt, ahead, away}
 use Rattle.slots.specs.Leads.{leadOver, better}
 use Rattle.slots.specs.Values.{freeTask, inHigher}
 use Rattle.slots.proofs.Sweeps.{by-rows, some-row, first-row}
@@ -29,7 +29,7 @@ use Rattle.tasks.specs.Columns.{rowAt, rowsOf, put, freeIn}
 use Rattle.tasks.specs.Walks.{leadIn, higherIn, outrankedIn, lineIn, readyLevel, topIn, waitedIn, isMeant, ready}
 use Rattle.tasks.specs.Dues.{timed, untilIn, wakeNow, woken, tailed, wakeIn}
 use Rattle.tasks.proofs.Columns.{Full, row-at, rows-many}
-use Rattle.tasks.proofs.StateTests.{row-meant, row-free, row-line, row-higher, row-away, row-due, row-ended}
+use Rattle.tasks.proofs.StateTests.{row-meant, row-takes, row-line, row-higher, row-away, row-due, row-ended}
 
 -- the first n of a list that is long enough
 module _ (xs : List TaskSlot) (n : ℕ) (h : n ≤ length xs) where
@@ -142,8 +142,8 @@ module _ (ts : Tasks) (full : Full ts) where
 
   pub free-first : index (λ s. eqb s 0) (ts .state) ≡ freeIn ts
   unfolding freeIn
-  free-first = first-row (λ (x : Task). isFree (x .place)) (λ s. eqb s 0) (rowsOf ts) (ts .state) freeTask 0 (rows-many ts)
-      (λ i h. ap (λ (x : Task). isFree (x .place)) (row-at ts i h) ∙ row-free ts i)
+  free-first = first-row (λ (x : Task). takesTask (x .place)) (λ s. eqb s 0) (rowsOf ts) (ts .state) freeTask 0 (rows-many ts)
+      (λ i h. ap (λ (x : Task). takesTask (x .place)) (row-at ts i h) ∙ row-takes ts i)
 
 -- the task i is due, and is made ready; or it is not
 abbrev pub columns : List ℕ → List ℕ → List ℕ → List ℕ → List ℕ → List ℕ → Tasks

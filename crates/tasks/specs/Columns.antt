@@ -5,7 +5,7 @@ use lib.ListN.{length, getD, set}
 use Rattle.lists.specs.Lists.{index, values}
 use Rattle.slots.specs.declared.Place.{Place}
 use Rattle.slots.specs.declared.Task.{Task}
-use Rattle.slots.specs.Places.{isFree}
+use Rattle.slots.specs.Places.{takesTask}
 use Rattle.tasks.specs.declared.Tasks.{Tasks}
 use Rattle.tasks.specs.Numbering.{cells, cellsOf, placeOf}
 
@@ -81,6 +81,6 @@ rowAt ts n =
 unfoldable pub rowsOf : Tasks → List Task
 rowsOf ts = values (rowAt ts) (length (ts .state))
 
--- the lowest free row; their number where there is none
+-- the lowest row that a create may take; their number where there is none
 unfoldable pub freeIn : Tasks → ℕ
-freeIn ts = index (λ (x : Task). isFree (x .place)) (rowsOf ts)
+freeIn ts = index (λ (x : Task). takesTask (x .place)) (rowsOf ts)

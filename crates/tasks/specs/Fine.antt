@@ -10,7 +10,7 @@ use Rattle.lists.specs.Lists.{allBelow, upTo}
 use Rattle.numbers.specs.declared.TaskSlot.{TaskSlot}
 use Rattle.numbers.specs.Numbers.{task, sameTask}
 use Rattle.slots.specs.declared.Place.{Place}
-use Rattle.slots.specs.declared.Place.the-variants.{Free, Ready, Delayed, Waiting, Suspended}
+use Rattle.slots.specs.declared.Place.the-variants.{Free, Ready, Delayed, Waiting, Suspended, Spent}
 use Rattle.slots.specs.declared.Task.{Task}
 use Rattle.slots.specs.Places.{isReady}
 use Rattle.slots.specs.SoundSlots.{idleFine, standsFine, ordersFine, prioritiesFine, outcomeFine, freshIfFree, freeHolds, notDue, mayWaitOn}
@@ -39,7 +39,7 @@ rowFine s o own level outcome n held =
     && (eqb n (if eqb s 1 || blocked s then 1 else 0)
     && ((leb own level && (leb level 31 && (held || eqb own level)))
     && ((leb outcome 3 && (not (blocked s) || eqb outcome 0))
-    && (not (eqb s 0) || ((eqb own 0 && (eqb level 0 && eqb outcome 0)) && not held)))))
+    && (not (eqb s 0 || eqb s 5) || ((eqb own 0 && (eqb level 0 && eqb outcome 0)) && not held)))))
 
 abbrev pub rowsFine : Tasks → List ℕ → List Bool → ℕ → Bool
 rowsFine ts stands holds i = known (getD (ts .state) i 0) (getD (ts .object) i 0) && aloneFine (getD stands i 0) (getD holds i false) (rowAt ts i)
@@ -68,6 +68,7 @@ waitsBy opens takes holder t Ready = true
 waitsBy opens takes holder t (Delayed w) = true
 waitsBy opens takes holder t (Waiting o w) = ltb (o .0) 16 && mayWaitOn opens takes holder t (o .0)
 waitsBy opens takes holder t Suspended = true
+waitsBy opens takes holder t Spent = true
 
 abbrev pub waitsAt : Tasks → List Bool → List Bool → List ℕ → ℕ → Bool
 waitsAt ts opens takes holder i = waitsBy opens takes holder (task i) (rowAt ts i .place)

@@ -13,7 +13,7 @@ waitsState s = eqb s 3 || eqb s 4
 
 -- of a state and its object; of a state and its wake tick
 abbrev pub known : ℕ → ℕ → Bool
-known s o = leb s 5 && (waitsState s || eqb o 0)
+known s o = leb s 6 && (waitsState s || eqb o 0)
 
 abbrev pub wakeKnown : ℕ → ℕ → Bool
 wakeKnown s w = timed s || eqb w 0

@@ -29,14 +29,15 @@ fn row_fine(s: u8, o: u8, own: u8, level: u8, outcome: u8, n: u8, held: bool) ->
     let waits = waits(s);
     let blocked = lists::either(s == 2, waits);
     let listed = lists::either(s == 1, blocked);
-    let known = lists::both(s <= 5, lists::either(waits, o == 0));
+    let known = lists::both(s <= 6, lists::either(waits, o == 0));
     let ranks = lists::both(
         own <= level,
         lists::both(level <= 31, lists::either(held, own == level)),
     );
     let ends = lists::both(outcome <= 3, lists::either(!blocked, outcome == 0));
     let zeros = lists::both(own == 0, lists::both(level == 0, outcome == 0));
-    let fresh = lists::either(s != 0, lists::both(zeros, !held));
+    let free = lists::either(s == 0, s == 5);
+    let fresh = lists::either(!free, lists::both(zeros, !held));
     lists::both(
         known,
         lists::both(

@@ -1,5 +1,6 @@
 // Kernel values made by hand: some sound, and one unsound by each clause that the types leave open. What `sound` says of each is written down.
 // A table with an unused number that is not 0 cannot be made here: the columns are private, and a row goes in only through `set`, which writes 0 there.
+use calls::Uses;
 use kernel::Kernel;
 use numbers::ObjSlot;
 use numbers::TaskSlot;
@@ -42,28 +43,54 @@ fn waiting(o: u8, w: Wake) -> Place {
 }
 
 fn put_task(mut k: Kernel, i: u8, x: Task) -> Kernel {
-    k.tasks = k.tasks.set(TaskSlot::of(i), x);
+    let mut core = k.core;
+    core.tasks = core.tasks.set(TaskSlot::of(i), x);
+    k.core = core;
     k
 }
 
 fn put_kind(mut k: Kernel, i: u8, kind: Kind) -> Kernel {
-    k.objects = k.objects.set(ObjSlot::of(i), kind);
+    let mut core = k.core;
+    core.objects = core.objects.set(ObjSlot::of(i), kind);
+    k.core = core;
     k
 }
 
 fn put_order(mut k: Kernel, o: Order) -> Kernel {
-    k.order = o;
+    let mut core = k.core;
+    core.order = o;
+    k.core = core;
+    k
+}
+
+fn put_running(mut k: Kernel, i: u8) -> Kernel {
+    let mut core = k.core;
+    core.running = TaskSlot::of(i);
+    k.core = core;
+    k
+}
+
+// What stood in a task's slot was given up so often.
+fn given_up(mut k: Kernel, i: u8, times: u16) -> Kernel {
+    let mut tasks = k.uses.tasks;
+    let s = i as usize;
+    if s < 16 {
+        tasks[s] = times;
+    }
+    let objects = k.uses.objects;
+    let next = Uses { tasks, objects };
+    k.uses = next;
     k
 }
 
 // The number `n` once more, at the end.
 fn listed_too(k: Kernel, n: u8) -> Kernel {
-    let o = k.order;
+    let o = k.core.order;
     put_order(k, o.appended(TaskSlot::of(n)))
 }
 
 fn unlisted(k: Kernel, n: u8) -> Kernel {
-    let o = k.order;
+    let o = k.core.order;
     put_order(k, o.without(TaskSlot::of(n)))
 }
 
@@ -73,9 +100,9 @@ fn parlour() -> Kernel {
     let k = put_kind(k, 0, ring(4, 8, 1, 0));
     let k = put_kind(k, 1, ring(2, 0, 0, 2));
     let k = put_kind(k, 2, held_by(1));
-    let mut k = put_kind(k, 3, Kind::Mutex(Holder::Nobody));
-    k.running = TaskSlot::of(1);
-    k.tick = 5;
+    let k = put_kind(k, 3, Kind::Mutex(Holder::Nobody));
+    let mut k = put_running(k, 1);
+    k.core.tick = 5;
     k
 }
 
@@ -118,8 +145,8 @@ fn good() {
     say(b"fresh", Kernel::fresh());
     say(b"a suspended task that the order does not list", parlour());
     let mut k = put_task(parlour(), 2, task(Place::Ready, 6, 6, 0));
-    k.hold = 1;
-    k.pended = 3;
+    k.core.hold = 1;
+    k.core.pended = 3;
     say(b"with a hold: a higher line, and ticks pended", k);
 }
 
@@ -128,6 +155,7 @@ fn main() {
     values::idle();
     values::priorities();
     values::others();
+    values::uses();
     orders::listing();
     orders::many();
     orders::running();

@@ -2,6 +2,7 @@
 use crate::listed_too;
 use crate::parlour;
 use crate::put_order;
+use crate::put_running;
 use crate::put_task;
 use crate::say;
 use crate::say_task;
@@ -21,7 +22,7 @@ pub(crate) fn listing() {
     say(b"a free slot listed", listed_too(parlour(), 8));
     say(b"number 16 listed", listed_too(parlour(), 16));
     let k = parlour();
-    let o = k.order;
+    let o = k.core.order;
     let mut places = o.places;
     places[9] = TaskSlot::of(2);
     let living = o.living;
@@ -45,7 +46,7 @@ fn crowd() -> Kernel {
 pub(crate) fn many() {
     let k = crowd();
     say(b"sixteen listed", k);
-    let o = k.order;
+    let o = k.core.order;
     let places = o.places;
     say(
         b"more than sixteen listed",
@@ -55,7 +56,7 @@ pub(crate) fn many() {
 
 pub(crate) fn running() {
     let k = put_task(parlour(), 2, task(Place::Ready, 5, 5, 0));
-    let o = k.order;
+    let o = k.core.order;
     say(
         b"the running task behind another in its line",
         put_order(k, o.to_front(TaskSlot::of(2))),
@@ -65,9 +66,6 @@ pub(crate) fn running() {
         2,
         task(Place::Ready, 6, 6, 0),
     );
-    let mut k = parlour();
-    k.running = TaskSlot::of(3);
-    say(b"a delayed task running", k);
-    k.running = TaskSlot::of(16);
-    say(b"number 16 running", k);
+    say(b"a delayed task running", put_running(parlour(), 3));
+    say(b"number 16 running", put_running(parlour(), 16));
 }

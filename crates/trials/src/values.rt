@@ -1,4 +1,5 @@
 // Tasks with a value that no sound kernel has.
+use crate::given_up;
 use crate::held_by;
 use crate::parlour;
 use crate::put_task;
@@ -8,6 +9,7 @@ use crate::say_task;
 use crate::task;
 use crate::unlisted;
 use crate::waiting;
+use slots::Kind;
 use slots::Place;
 use slots::Wake;
 
@@ -32,9 +34,9 @@ pub(crate) fn priorities() {
 
 pub(crate) fn others() {
     let mut k = parlour();
-    k.tick = 10;
+    k.core.tick = 10;
     say(b"a delay's wake tick is the tick count", k);
-    k.tick = 20;
+    k.core.tick = 20;
     say(b"a wait's wake tick is the tick count", k);
     say_task(b"outcome 4", 2, task(Place::Ready, 3, 3, 4));
     say_task(
@@ -58,6 +60,22 @@ pub(crate) fn others() {
         task(Place::Free, 0, 0, 1),
     );
     let mut k = parlour();
-    k.pended = 1;
+    k.core.pended = 1;
     say(b"a tick pended with no hold", k);
+}
+
+// Slots that were given up.
+pub(crate) fn uses() {
+    say_task(b"a spent slot", 8, task(Place::Spent, 0, 0, 0));
+    say_task(
+        b"a spent slot with a priority",
+        8,
+        task(Place::Spent, 1, 1, 0),
+    );
+    say_kind(b"a mutex that a task holds, spent", 2, Kind::Spent);
+    say(
+        b"a task's slot at its last use",
+        given_up(parlour(), 2, 65535),
+    );
+    say(b"idle given up once", given_up(parlour(), 0, 1));
 }

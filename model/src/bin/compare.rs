@@ -1,6 +1,8 @@
-//! Runs two filters on the same random journals and compares their answers byte for byte.
+//! Runs two filters on the same journals, random ones or the one that retires slots, and compares their answers byte
+//! for byte.
 
 use model::journal::journal;
+use model::retire;
 use std::io::{self, Read, Write};
 use std::process::{Command, ExitCode, Stdio};
 use std::thread;
@@ -12,13 +14,18 @@ const SHRINK_FOR: Duration = Duration::from_secs(60);
 fn main() -> ExitCode {
     let arguments: Vec<String> = std::env::args().skip(1).collect();
     let numbers: Vec<u64> = arguments.iter().skip(2).filter_map(|argument| argument.parse().ok()).collect();
-    let (5, &[seed, lines, journals]) = (arguments.len(), numbers.as_slice()) else {
-        eprintln!("usage: compare PROGRAM-A PROGRAM-B SEED LINES JOURNALS");
-        eprintln!("a program can have arguments: 'model --check'");
-        return ExitCode::from(2);
+    let words: Vec<&str> = arguments.iter().map(String::as_str).collect();
+    let result = match (words.as_slice(), numbers.as_slice()) {
+        (&[a, b, "retire"], _) => compare_retired(&Pair::new(a, b)),
+        (&[a, b, _, _, _], &[seed, lines, journals]) => compare(&Pair::new(a, b), seed, lines, journals),
+        _ => {
+            eprintln!("usage: compare PROGRAM-A PROGRAM-B SEED LINES JOURNALS");
+            eprintln!("       compare PROGRAM-A PROGRAM-B retire");
+            eprintln!("a program can have arguments: 'model --check'");
+            return ExitCode::from(2);
+        }
     };
-    let pair = Pair { a: arguments[0].clone(), b: arguments[1].clone() };
-    match compare(&pair, seed, lines, journals) {
+    match result {
         Ok(true) => ExitCode::SUCCESS,
         Ok(false) => ExitCode::FAILURE,
         Err(error) => {
@@ -48,7 +55,8 @@ fn compare(pair: &Pair, seed: u64, lines: u64, journals: u64) -> io::Result<bool
         if pair.differ(&journal)?.is_some() {
             println!("seed {seed}, {lines} lines: the answers differ");
             let shortest = shrink(pair, split_lines(&journal))?;
-            print_difference(pair, &shortest)?;
+            println!("shortest journal found, {} lines; answers of A and B:", shortest.len());
+            print_difference(pair, &shortest, 0)?;
             return Ok(false);
         }
     }
@@ -56,7 +64,25 @@ fn compare(pair: &Pair, seed: u64, lines: u64, journals: u64) -> io::Result<bool
     Ok(true)
 }
 
+/// The journal that retires slots. It is not made shorter: with fewer turns no slot is retired.
+fn compare_retired(pair: &Pair) -> io::Result<bool> {
+    let journal = retire::journal();
+    let lines = split_lines(&journal);
+    if let Some(line) = pair.differ(&journal)? {
+        println!("the journal that retires slots (generate --retire), line {}: the answers differ", line + 1);
+        println!("the last lines up to it; answers of A and B:");
+        print_difference(pair, &lines[..lines.len().min(line + 1)], line.saturating_sub(5))?;
+        return Ok(false);
+    }
+    println!("the journal that retires slots, {} lines, {} bytes: no difference", lines.len(), journal.len());
+    Ok(true)
+}
+
 impl Pair {
+    fn new(a: &str, b: &str) -> Pair {
+        Pair { a: a.to_string(), b: b.to_string() }
+    }
+
     /// The first line whose answers differ, counted from 0. Programs that both end badly differ after their last answer.
     fn differ(&self, journal: &[u8]) -> io::Result<Option<usize>> {
         let (a, b) = (run(&self.a, journal)?, run(&self.b, journal)?);
@@ -137,14 +163,14 @@ fn cut_after_difference<'j>(pair: &Pair, mut journal: Vec<&'j [u8]>) -> io::Resu
     Ok(journal)
 }
 
-fn print_difference(pair: &Pair, journal: &[&[u8]]) -> io::Result<()> {
+/// The journal with both answers, from this row on.
+fn print_difference(pair: &Pair, journal: &[&[u8]], from: usize) -> io::Result<()> {
     let bytes = journal.concat();
     let (a, b) = (run(&pair.a, &bytes)?, run(&pair.b, &bytes)?);
     let (a_lines, b_lines) = (split_lines(&a.answers), split_lines(&b.answers));
-    println!("shortest journal found, {} lines; answers of A and B:", journal.len());
     let rows = journal.len().max(a_lines.len()).max(b_lines.len());
     let row_of = |row: usize| [journal.get(row), a_lines.get(row), b_lines.get(row)];
-    let mut row = 0;
+    let mut row = from;
     while row < rows {
         // Equal rows that follow each other are printed once.
         let times = (row..rows).take_while(|&next| row_of(next) == row_of(row)).count();

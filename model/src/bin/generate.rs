@@ -1,11 +1,15 @@
-//! Writes a random journal, or says what it exercises.
+//! Writes a random journal, or says what it exercises; or writes the journal that retires slots.
 
 use model::journal::Author;
+use model::retire;
 use std::io::{self, BufWriter, Write};
 use std::process::ExitCode;
 
 fn main() -> ExitCode {
     let mut arguments: Vec<String> = std::env::args().skip(1).collect();
+    if arguments == ["--retire"] {
+        return status(io::stdout().lock().write_all(&retire::journal()));
+    }
     let coverage = arguments.first().is_some_and(|first| first == "--coverage");
     if coverage {
         arguments.remove(0);
@@ -13,9 +17,14 @@ fn main() -> ExitCode {
     let numbers: Vec<u64> = arguments.iter().filter_map(|argument| argument.parse().ok()).collect();
     let &[seed, lines] = numbers.as_slice() else {
         eprintln!("usage: generate [--coverage] SEED LINES");
+        eprintln!("       generate --retire");
         return ExitCode::from(2);
     };
-    match if coverage { report(seed, lines) } else { write_journal(seed, lines) } {
+    status(if coverage { report(seed, lines) } else { write_journal(seed, lines) })
+}
+
+fn status(result: io::Result<()>) -> ExitCode {
+    match result {
         Ok(()) => ExitCode::SUCCESS,
         Err(error) => {
             eprintln!("generate: {error}");

@@ -8,7 +8,12 @@ use std::io::Read;
 
 const ITEM: [u8; 8] = [7; 8];
 
-fn pair(letter: u8, m: u32) -> (Call<'static>, Call<'static>) {
+/// A kernel is taken afresh after so many turns, before a slot is retired.
+const TURNS: u32 = 50_000;
+
+/// The pair of a turn. Each turn of h, i and j gives a slot up, so its numbers go by the turn.
+fn pair(letter: u8, m: u32, turn: u32) -> (Call<'static>, Call<'static>) {
+    let made = 2 + 16 * turn;
     match letter {
         b'a' => (Call::Yield, Call::Yield),
         b'b' => (Call::Hold, Call::Release),
@@ -17,9 +22,9 @@ fn pair(letter: u8, m: u32) -> (Call<'static>, Call<'static>) {
         b'e' => (Call::Tick, Call::Tick),
         b'f' => (Call::SetPriority { task: 1, priority: 4 }, Call::SetPriority { task: 1, priority: 3 }),
         b'g' => (Call::Suspend { task: m }, Call::Resume { task: m }),
-        b'h' => (Call::Delete { task: m }, Call::Create { priority: 3 }),
-        b'i' => (Call::MakeMutex, Call::Remove { object: 2 }),
-        b'j' => (Call::MakeQueue { capacity: 4, size: 8 }, Call::Remove { object: 2 }),
+        b'h' => (Call::Delete { task: m + 16 * turn }, Call::Create { priority: 3 }),
+        b'i' => (Call::MakeMutex, Call::Remove { object: made }),
+        b'j' => (Call::MakeQueue { capacity: 4, size: 8 }, Call::Remove { object: made }),
         b'k' => (Call::Delay { ticks: 1 }, Call::Tick),
         _ => (Call::Resume { task: 1 }, Call::Resume { task: 1 }),
     }
@@ -30,7 +35,8 @@ fn letter(b: u8) -> u32 {
 }
 
 /// The pair so many times; z is the soundness test, twice a turn.
-fn turns(kind: u8, m: u32, times: u32, mut kernel: Kernel, store: &mut [u8]) -> u32 {
+fn turns(kind: u8, m: u32, times: u32, first: &Kernel, store: &mut [u8]) -> u32 {
+    let mut kernel = first.clone();
     let mut sum = 0u32;
     if kind == b'z' {
         for _ in 0..times {
@@ -38,11 +44,15 @@ fn turns(kind: u8, m: u32, times: u32, mut kernel: Kernel, store: &mut [u8]) -> 
             sum = sum.wrapping_add(u32::from(soundness(&kernel).is_ok()));
         }
     } else {
-        let (a, b) = pair(kind, m);
-        for _ in 0..times {
+        for time in 0..times {
+            let turn = time % TURNS;
+            if turn == 0 {
+                kernel.clone_from(first);
+            }
+            let (a, b) = pair(kind, m, turn);
             step(&mut kernel, store, &a);
             step(&mut kernel, store, &b);
-            sum = sum.wrapping_add(u32::from(kernel.running.number()));
+            sum = sum.wrapping_add(kernel.running_number());
         }
     }
     sum
@@ -62,9 +72,9 @@ fn main() {
     step(&mut kernel, &mut store, &Call::MakeMutex);
     let sum = if input[0] == b'y' {
         let kinds = b"zabcdefghijkl";
-        kinds.iter().fold(0u32, |sum, &kind| sum.wrapping_add(turns(kind, m, times, kernel.clone(), &mut store)))
+        kinds.iter().fold(0u32, |sum, &kind| sum.wrapping_add(turns(kind, m, times, &kernel, &mut store)))
     } else {
-        turns(input[0], m, times * 100, kernel, &mut store)
+        turns(input[0], m, times * 100, &kernel, &mut store)
     };
     println!("{}", sum % 10);
 }

@@ -2,7 +2,7 @@
 #![allow(dead_code)]
 
 use model::filter;
-use model::kernel::{Kernel, ObjectNo, TaskNo};
+use model::kernel::{Kernel, ObjectSlot, TaskSlot};
 use model::machine::Machine;
 
 /// The filter's answers to these bytes, with the self-check on.
@@ -38,18 +38,19 @@ pub fn repeat(machine: &mut Machine, times: usize, line: &str) {
     }
 }
 
-pub fn task(number: u32) -> TaskNo {
-    TaskNo::new(number).unwrap()
+pub fn task(slot: usize) -> TaskSlot {
+    TaskSlot::all().nth(slot).unwrap()
 }
 
-pub fn object(number: u32) -> ObjectNo {
-    ObjectNo::new(number).unwrap()
+pub fn object(slot: usize) -> ObjectSlot {
+    ObjectSlot::all().nth(slot).unwrap()
 }
 
-pub fn line_of(kernel: &Kernel, priority: usize) -> Vec<u8> {
-    kernel.lines[priority].iter().map(|task| task.number()).collect()
+/// The slots of a line's tasks.
+pub fn line_of(kernel: &Kernel, priority: usize) -> Vec<usize> {
+    kernel.lines[priority].iter().map(|task| task.index()).collect()
 }
 
-pub fn slip(machine: &Machine, number: u32, length: usize) -> &[u8] {
-    &machine.store[model::store::slip(task(number), length)]
+pub fn slip(machine: &Machine, slot: usize, length: usize) -> &[u8] {
+    &machine.store[model::store::slip(task(slot), length)]
 }

@@ -1,51 +1,20 @@
-use borrow.Author.Needs.{needs}
 use mathlib.Core.Path.{_≡_, sym, _∙_}
-use Rattle.kernel.proofs.SoundQuick.{quick, quick-is, stands-for}
-use Rattle.order.proofs.Halves.{halves}
+use mathlib.Core.Bool.{true}
+use borrow.Author.Needs.{needs}
+use Rattle.lists.proofs.Bools.{and-left}
+use Rattle.kernel.proofs.Shown.{shown-uses, sound-parts, core-shown}
 use Rattle.kernel.proofs.Kernel.sound.Statement.{statement}
 use Rattle.kernel.proofs.Kernel.sound.Tie as tie
 
 returns : tie.Need-returns
 returns c =
-    let shaped = c .before .before .shaped in
-    let c4 = c .before .before .before .before in
-    let c8 = c4 .before .before .before .before in
-    let c12 = c8 .before .before .before .before in
-    let c16 = c12 .before .before .before .before in
-    let c20 = c16 .before .before .before .before in
-    let c24 = c20 .before .before .before .before in
-    let holdings = c20 .before .before .holdings in
-    let tallied = c24 .tallied in
-    let fine = c16 .before .fine in
-    let k = c24 .before .before .args .self in
-    let hs = holdings .result in
-    let e : c .both8 .result ≡ quick k (tallied .result .tallies) hs (fine .result) (fine .ensures) (holdings .ensures) (tallied .ensures .0)
-    (shaped .ensures .1) (shaped .ensures .2) =
-    c .both8 .ensures ∙ rw (shaped .ensures .0, c .before .both7 .ensures, c12 .before .before .both2 .ensures, c12 .before .before .before .both .ensures)
-    (rw (c16 .waits-fine .ensures, c .before .before .before .both6 .ensures, c12 .runs-fine .ensures, c4 .both5 .ensures, c8 .both4 .ensures)
-    (rw (c8 .before .both3 .ensures, tallied .ensures .1, c8 .before .before .zeros .ensures, c4 .before .either .ensures, halves))) in (
-      e ∙ quick-is k _ hs _ (fine .ensures) (holdings .ensures) (tallied .ensures .0) (shaped .ensures .1) (shaped .ensures .2),
-      λ q. stands-for k _ hs _ (fine .ensures) (holdings .ensures) (tallied .ensures .0) (shaped .ensures .1) (shaped .ensures .2) (sym e ∙ q),
+    let f = c .before .before .fine in
+    let k = c .before .before .before .args .self in (
+      c .both .ensures ∙ rw (f .ensures .0, c .before .fine2 .ensures) (sym (sound-parts (k .core) (k .uses))),
+      λ e.
+          let t : f .result ≡ true = and-left (f .result) _ (sym (c .both .ensures) ∙ e) in
+          λ i. record { core = (f .ensures .1 t ∙ sym (core-shown (k .core) (k .uses))) i; uses = sym (shown-uses k) i },
     )
 
 pub sound-spec : {M : Type 1} → statement M
-sound-spec =
-    tie.close
-    (tie.spec
-    (λ c κs. search needs)
-    (λ c κs. search needs)
-    (λ c κs. search needs)
-    (λ c κs. search needs)
-    (λ c κs. search needs)
-    (λ c κs. search needs)
-    (λ c κs. search needs)
-    (λ c κs. search needs)
-    (λ c κs. search needs)
-    (λ c κs. search needs)
-    (λ c κs. search needs)
-    (λ c κs. search needs)
-    (λ c κs. search needs)
-    (λ c κs. search needs)
-    (λ c κs. search needs)
-    (λ c κs. search needs)
-    returns)
+sound-spec = tie.close (tie.spec (λ c κs. search needs) (λ c κs. search needs) (λ c κs. search needs) returns)

@@ -118,7 +118,7 @@ loop-again c =
       answered-on (gathers-on (l .loop .inv .0) (g .ensures)) cut (q .result) (q .last .1 .1 .1 .0) (put-answer .result) (put-answer .last .0) (keep .ensures)
           (subst (λ (x : Read). Is (l .loop .kernel) (stepRead (shown (l .loop .kernel)) (l .loop .store) x) (q .result) (q .last .1 .1 .1 .0))
           (whole-cut (keep .last .0) (keep .result) (whole .result) (read-call .result) (whole .ensures .0) (read-call .ensures) .0) (q .ensures))
-          (rw (← c4 .of-slot .ensures) (put-answer .ensures)) (r .1) newline,
+          (rw (← c4 .runs .ensures) (put-answer .ensures)) (r .1) newline,
       search needs,
     )
 

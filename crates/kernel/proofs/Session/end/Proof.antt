@@ -21,7 +21,7 @@ returns-2 c =
     let put-answer = c .before .before .before .put-answer in
     let a = c12 .before .before .args in
     last-told (a .self .kernel) (a .store .now) (a .self .cut) (a .out .now) (is-empty .result) (either .result) (sound .result) (no-line .result) (put-answer .result) (put-answer .last .0)
-    (is-empty .ensures) (either .ensures) (c8 .if1 .left) (sound .ensures .0) (no-line .ensures) (rw (← c4 .of-slot .ensures) (put-answer .ensures))
+    (is-empty .ensures) (either .ensures) (c8 .if1 .left) (sound .ensures .0) (no-line .ensures) (rw (← c4 .runs .ensures) (put-answer .ensures))
 
 pub end-spec : {M : Type 1} → statement M
 end-spec =

@@ -6,18 +6,23 @@ returns : tie.Need-returns
 returns c = rw (c .before .enum-told .given .1) (c .bare .ensures)
 
 returns-2 : tie.Need-returns-2
-returns-2 c = rw (c .before .k .given .1)
+returns-2 c = rw (c .before .enum-told2 .given .1) (c .bare2 .ensures)
 
 returns-3 : tie.Need-returns-3
-returns-3 c = rw (c .before .before .before .before .k2 .given .1, c .before .enum-told2 .given .1) (c .bare2 .ensures)
+returns-3 c = rw (c .before .k .given .1)
 
 returns-4 : tie.Need-returns-4
-returns-4 c = rw (c .before .before .before .before .before .k2 .given .1, c .before .before .h .given .1) (c .bare3 .ensures)
+returns-4 c = rw (c .before .before .before .before .k2 .given .1, c .before .enum-told3 .given .1) (c .bare3 .ensures)
+
+returns-5 : tie.Need-returns-5
+returns-5 c = rw (c .before .before .before .before .before .k2 .given .1, c .before .before .h .given .1) (c .bare4 .ensures)
 
 pub of-spec : {M : Type 1} → statement M
 of-spec =
     tie.close
     (tie.spec
+    (λ c. search needs)
+    (λ c κs. search needs)
     (λ c. search needs)
     (λ c κs. search needs)
     (λ c. search needs)
@@ -29,4 +34,5 @@ of-spec =
     returns
     returns-2
     returns-3
-    returns-4)
+    returns-4
+    returns-5)

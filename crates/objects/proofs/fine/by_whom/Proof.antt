@@ -4,10 +4,10 @@ use Rattle.objects.proofs.fine.by_whom.Statement.{statement}
 use Rattle.objects.proofs.fine.by_whom.Tie as tie
 
 returns : tie.Need-returns
-returns c = rw (le-leb 3 _ (c .if1 .taken))
+returns c = rw (le-leb 4 _ (c .if1 .taken))
 
 returns-2 : tie.Need-returns-2
-returns-2 c = rw (lt-leb 3 (c .before .args .s) (omega (arith, c .if1 .left)))
+returns-2 c = rw (lt-leb 4 (c .before .args .s) (omega (arith, c .if1 .left)))
 
 pub by-whom-spec : {M : Type 1} → statement M
 by-whom-spec = tie.close (tie.spec returns returns-2)

@@ -1,0 +1,305 @@
+-- The life of a slot: twice its use, and one more while it is taken; a spent one has the longest. No step of a sound kernel makes it less.
+use Prim.Native.Nat.{ℕ, zero, suc, _+_, _*_, _/_, _%_, _<_, _≤_}
+use mathlib.Core.Path.{_≡_, refl, sym, ap, _∙_}
+use mathlib.Core.Bool.{Bool, true, false, false≢true}
+use mathlib.Core.List.{List, [], _∷_}
+use native.Mathlib.Omega.{arith}
+use lib.Dec.{eqb}
+use lib.ListN.{set}
+use lib.Seq.{getD-set-same}
+use borrow.Author.Tests.{eqb-true, eqb-false, eq-eqb}
+use Rattle.lists.specs.Choice.{if_then_else_}
+use Rattle.numbers.specs.Numbers.{task, object}
+use Rattle.calls.specs.declared.Uses.{Uses}
+use Rattle.calls.specs.Door.{useIn, numberIn, slotIn, lastIn, nextUse, givenUp, taskSlot, objSlot}
+use Rattle.calls.specs.Behind.{asked}
+use Rattle.slots.specs.Places.{isFree, takesTask}
+use Rattle.slots.specs.Values.{freeTask, spentTask, readyAt, taskAt}
+use Rattle.slots.specs.Kinds.{unused, isUnused, takesObject, kindAt}
+use Rattle.rules.specs.Tables.{freeSlot, freeObject, withUses}
+use Rattle.rules.specs.Lines.{first, runsIf, chosen, toTail, leaves}
+use Rattle.rules.specs.Sentences.{Sound}
+use Rattle.rows.specs.Asking.{is, makes}
+use Rattle.rows.specs.Applies.{namesNone, noneFree}
+use Rattle.rules.specs.Refusals.{newSlot}
+use Rattle.rules.specs.Effects.{created, deleted, queueMade, mutexMade, removed, effect}
+use Rattle.rules.specs.Steps.{newNumber, usesAfter}
+use Rattle.rules.proofs.RowPasses.{Passed}
+use Rattle.rules.proofs.KeepSlot.{at-same, at-other}
+use Rattle.rules.proofs.KeepObject.{kinds, kind-same, kind-other}
+use Rattle.rules.proofs.Keeps.{there-low, index-most, index-passes}
+use Rattle.rules.proofs.KeepObjects.{object-low}
+use Rattle.rules.proofs.KeepUses.{up-other}
+use Rattle.rules.proofs.KeepTaken.{stands, standsAs, there-stands, used-stands, Stays, effect-stays}
+use Rattle.histories.specs.Types.{TaskSlot, ObjSlot, Place, Free, Ready, Delayed, Waiting, Suspended, Spent, Task, Ring, Nobody, Kind, Unused, SpentObject, Queue, Mutex, Object, AllReady, State}
+use Rattle.histories.specs.Types.{Call, Create, Delete, Suspend, Resume, SetPriority, Delay, Yield, Hold, Release, MakeQueue, MakeMutex, Remove, Send, Receive, Take, Give, Tick}
+
+-- of a slot where nothing, something, or nothing ever after stands
+abbrev pub lifeIn : ℕ → ℕ → ℕ
+lifeIn zero u = 2 * u
+lifeIn (suc zero) u = suc (2 * u)
+lifeIn (suc (suc n)) u = 131072
+
+abbrev pub taskLife : State → ℕ → ℕ
+taskLife k s = lifeIn (stands (taskAt (k .tasks) (task s) .place)) (useIn (k .uses .tasks) s)
+
+abbrev pub objectLife : State → ℕ → ℕ
+objectLife k s = lifeIn (standsAs (kindAt (k .objects) (object s))) (useIn (k .uses .objects) s)
+
+-- of a task slot, of an object slot
+abbrev pub lifeOf : Bool → State → ℕ → ℕ
+lifeOf true k s = taskLife k s
+lifeOf false k s = objectLife k s
+
+abbrev pub Grows : State → State → Type 0
+Grows k j = (b : Bool) (s : ℕ) → lifeOf b k s ≤ lifeOf b j s
+
+-- ── a number and the life of its slot
+odd-life : (st u m : ℕ) → lifeIn st u ≡ suc (2 * m) → (st ≡ 1) × (u ≡ m)
+odd-life zero u m e = absurd (omega arith)
+odd-life (suc zero) u m e = (refl, omega arith)
+odd-life (suc (suc n)) u m e = absurd (omega arith)
+
+module _ (us : List ℕ) (st : ℕ → ℕ) (n : ℕ) where
+  pub life-names : lifeIn (st (n % 16)) (useIn us (n % 16)) ≡ suc (2 * (n / 16)) → st (slotIn us n) ≡ 1
+  life-names e =
+      let h = odd-life (st (n % 16)) (useIn us (n % 16)) (n / 16) e in
+      rw (eq-eqb (n / 16) (useIn us (n % 16)) (sym (h .1))) (h .0)
+
+  pub names-life : st 16 ≡ 0 → st (slotIn us n) ≡ 1 → lifeIn (st (n % 16)) (useIn us (n % 16)) ≡ suc (2 * (n / 16))
+  names-life z e = go (eqb (n / 16) (useIn us (n % 16))) refl e
+    where
+      go : (b : Bool) → eqb (n / 16) (useIn us (n % 16)) ≡ b → st (if b then n % 16 else 16) ≡ 1 → lifeIn (st (n % 16)) (useIn us (n % 16)) ≡ suc (2 * (n / 16))
+      go true q h = rw (h, eqb-true (n / 16) (useIn us (n % 16)) q)
+      go false q h = absurd (omega (arith, z, h))
+
+-- what a create or make does to the life of the slot that its number tells
+pub record Takes (before after : ℕ → ℕ) (n : ℕ) : Type 0 where
+  pub was : before (n % 16) ≡ 2 * (n / 16)
+  pub now : after (n % 16) ≡ suc (2 * (n / 16))
+
+-- ── one slot
+one-more : (st u : ℕ) → st ≡ 0 → lifeIn st u ≤ suc (2 * u)
+one-more st u e = rw e (omega arith)
+
+-- what is given up
+gives-up : (st u : ℕ) (last : Bool) (x : ℕ) → st ≡ 1 → u ≤ 65535 → eqb u 65535 ≡ last → x ≡ (if last then 2 else 0) → lifeIn st u ≤ lifeIn x (if last then u else u + 1)
+gives-up st u true x e h l q = rw (e, q) (omega (arith, h))
+gives-up st u false x e h l q = rw (e, q) (omega arith)
+
+takes-stands : (p : Place) → takesTask p ≡ true → stands p ≡ 0
+takes-stands Free e = refl
+takes-stands Ready e = absurd (false≢true e)
+takes-stands (Delayed w) e = absurd (false≢true e)
+takes-stands (Waiting o w) e = absurd (false≢true e)
+takes-stands Suspended e = absurd (false≢true e)
+takes-stands Spent e = absurd (false≢true e)
+
+takes-object : (x : Kind) → takesObject x ≡ true → standsAs x ≡ 0
+takes-object Unused e = refl
+takes-object SpentObject e = absurd (false≢true e)
+takes-object (Queue q) e = absurd (false≢true e)
+takes-object (Mutex h) e = absurd (false≢true e)
+
+same-le : (a b : ℕ) → b ≡ a → a ≤ b
+same-le a b e = omega arith
+
+-- a number of a slot tells the slot and the use
+pub number-slot : (s u : ℕ) → s < 16 → (s + 16 * u) % 16 ≡ s
+number-slot s u h = omega arith
+
+pub number-use : (s u : ℕ) → s < 16 → (s + 16 * u) / 16 ≡ u
+number-use s u h = omega arith
+
+takes-number : (before after : ℕ → ℕ) (us : List ℕ) (s : ℕ) → s < 16 → before s ≡ 2 * useIn us s → after s ≡ suc (2 * useIn us s) → Takes before after (numberIn us s)
+takes-number before after us s h a b =
+    record { was = rw (number-slot s (useIn us s) h, number-use s (useIn us s) h) a; now = rw (number-slot s (useIn us s) h, number-use s (useIn us s) h) b }
+
+-- what stays
+stays-grow : (k j : State) (us : Uses) → us ≡ k .uses → Stays k j → Grows k (withUses j us)
+stays-grow k j us e T true s = same-le _ _ (rw (e, T .tasks (task s)))
+stays-grow k j us e T false s = same-le _ _ (rw (e, T .objects (object s)))
+
+module _ (k : State) (S : Sound k) (n : ℕ) where
+  -- ── the slot that is taken
+  module _ (e : eqb (freeSlot (k .tasks)) 16 ≡ false) where
+    abbrev new : TaskSlot
+    new = task (freeSlot (k .tasks))
+
+    new-low : freeSlot (k .tasks) < 16
+    unfolding freeSlot
+    new-low = omega (arith, index-most (λ (x : Task). takesTask (x .place)) freeTask (k .tasks), eqb-false (freeSlot (k .tasks)) 16 e, S .tables .task-slots)
+
+    new-stands : stands (taskAt (k .tasks) new .place) ≡ 0
+    unfolding freeSlot taskAt
+    new-stands = takes-stands (taskAt (k .tasks) new .place) (index-passes (λ (x : Task). takesTask (x .place)) freeTask (k .tasks) (omega (arith, new-low, S .tables .task-slots)))
+
+    abbrev more : ℕ → List Task
+    more p = set (k .tasks) (new .0) (readyAt p)
+
+    now-stands : (p : ℕ) → stands (taskAt (more p) new .place) ≡ 1
+    now-stands p = ap (λ (x : Task). stands (x .place)) (at-same (k .tasks) new (readyAt p) (omega (arith, new-low, S .tables .task-slots)))
+
+    create-life : (p s : ℕ) → taskLife k s ≤ lifeIn (stands (taskAt (more p) (task s) .place)) (useIn (k .uses .tasks) s)
+    create-life p s = go (eqb s (new .0)) refl
+      where
+        go : (b : Bool) → eqb s (new .0) ≡ b → taskLife k s ≤ lifeIn (stands (taskAt (more p) (task s) .place)) (useIn (k .uses .tasks) s)
+        go true q = rw (eqb-true s (new .0) q, now-stands p) (one-more (stands (taskAt (k .tasks) new .place)) (useIn (k .uses .tasks) (new .0)) new-stands)
+        go false q = rw (at-other (k .tasks) new (readyAt p) (task s) (eqb-false s (new .0) q)) (omega arith)
+
+  module _ (e : eqb (freeObject (k .objects)) 16 ≡ false) (y : Kind) (made : standsAs y ≡ 1) where
+    abbrev slot : ObjSlot
+    slot = object (freeObject (k .objects))
+
+    slot-low : freeObject (k .objects) < 16
+    unfolding freeObject
+    slot-low = omega (arith, index-most (λ (x : Object). takesObject (x .kind)) unused (k .objects), eqb-false (freeObject (k .objects)) 16 e, S .tables .object-slots)
+
+    slot-stands : standsAs (kindAt (k .objects) slot) ≡ 0
+    unfolding freeObject kindAt
+    slot-stands = takes-object (kindAt (k .objects) slot) (index-passes (λ (x : Object). takesObject (x .kind)) unused (k .objects) (omega (arith, slot-low, S .tables .object-slots)))
+
+    slot-now : standsAs (kindAt (kinds (k .objects) slot y) slot) ≡ 1
+    slot-now = ap standsAs (kind-same (k .objects) slot y (omega (arith, slot-low, S .tables .object-slots))) ∙ made
+
+    make-life : (s : ℕ) → objectLife k s ≤ lifeIn (standsAs (kindAt (kinds (k .objects) slot y) (object s))) (useIn (k .uses .objects) s)
+    make-life s = go (eqb s (slot .0)) refl
+      where
+        go : (b : Bool) → eqb s (slot .0) ≡ b → objectLife k s ≤ lifeIn (standsAs (kindAt (kinds (k .objects) slot y) (object s))) (useIn (k .uses .objects) s)
+        go true q = rw (eqb-true s (slot .0) q, slot-now) (one-more (standsAs (kindAt (k .objects) slot)) (useIn (k .uses .objects) (slot .0)) slot-stands)
+        go false q = rw (kind-other (k .objects) slot y (object s) (eqb-false s (slot .0) q)) (omega arith)
+
+  -- ── the slot that is given up
+  module _ (t : TaskSlot) (there : isFree (taskAt (k .tasks) t .place) ≡ false) where
+    abbrev last : Bool
+    last = lastIn (k .uses .tasks) (t .0)
+
+    abbrev fewer : List Task
+    fewer = set (k .tasks) (t .0) (if last then spentTask else freeTask)
+
+    low : t .0 < 16
+    low = there-low (k .tasks) t (S .tables .task-slots) there
+
+    left-stands : (b : Bool) → stands ((if b then spentTask else freeTask) .place) ≡ (if b then 2 else 0)
+    left-stands true = refl
+    left-stands false = refl
+
+    gone-stands : stands (taskAt fewer t .place) ≡ (if last then 2 else 0)
+    gone-stands =
+        ap (λ (x : Task). stands (x .place)) (at-same (k .tasks) t (if last then spentTask else freeTask) (omega (arith, low, S .tables .task-slots)))
+        ∙ left-stands last
+
+    delete-life : (s : ℕ) → taskLife k s ≤ lifeIn (stands (taskAt fewer (task s) .place)) (useIn (givenUp (k .uses .tasks) (t .0)) s)
+    delete-life s = go (eqb s (t .0)) refl
+      where
+        go : (b : Bool) → eqb s (t .0) ≡ b → taskLife k s ≤ lifeIn (stands (taskAt fewer (task s) .place)) (useIn (givenUp (k .uses .tasks) (t .0)) s)
+        go true q =
+            rw (eqb-true s (t .0) q, getD-set-same (k .uses .tasks) (t .0) (nextUse (useIn (k .uses .tasks) (t .0))) 0 (omega (arith, low, S .uses .task-slots)))
+            (gives-up (stands (taskAt (k .tasks) t .place)) (useIn (k .uses .tasks) (t .0)) last (stands (taskAt fewer t .place)) (there-stands (taskAt (k .tasks) t .place) there) (S .uses .tasks t) refl gone-stands)
+        go false q =
+            rw (at-other (k .tasks) t (if last then spentTask else freeTask) (task s) (eqb-false s (t .0) q), up-other (k .uses .tasks) (t .0) s (eqb-false s (t .0) q)) (omega arith)
+
+  module _ (o : ObjSlot) (there : isUnused (kindAt (k .objects) o) ≡ false) where
+    abbrev ends : Bool
+    ends = lastIn (k .uses .objects) (o .0)
+
+    abbrev others : List Object
+    others = kinds (k .objects) o (if ends then SpentObject else Unused)
+
+    o-low : o .0 < 16
+    o-low = object-low (k .objects) o (S .tables .object-slots) there
+
+    left-as : (b : Bool) → standsAs (if b then SpentObject else Unused) ≡ (if b then 2 else 0)
+    left-as true = refl
+    left-as false = refl
+
+    gone-as : standsAs (kindAt others o) ≡ (if ends then 2 else 0)
+    gone-as = ap standsAs (kind-same (k .objects) o (if ends then SpentObject else Unused) (omega (arith, o-low, S .tables .object-slots))) ∙ left-as ends
+
+    remove-life : (s : ℕ) → objectLife k s ≤ lifeIn (standsAs (kindAt others (object s))) (useIn (givenUp (k .uses .objects) (o .0)) s)
+    remove-life s = go (eqb s (o .0)) refl
+      where
+        go : (b : Bool) → eqb s (o .0) ≡ b → objectLife k s ≤ lifeIn (standsAs (kindAt others (object s))) (useIn (givenUp (k .uses .objects) (o .0)) s)
+        go true q =
+            rw (eqb-true s (o .0) q, getD-set-same (k .uses .objects) (o .0) (nextUse (useIn (k .uses .objects) (o .0))) 0 (omega (arith, o-low, S .uses .object-slots)))
+            (gives-up (standsAs (kindAt (k .objects) o)) (useIn (k .uses .objects) (o .0)) ends (standsAs (kindAt others o)) (used-stands (kindAt (k .objects) o) there) (S .uses .objects o) refl gone-as)
+        go false q =
+            rw (kind-other (k .objects) o (if ends then SpentObject else Unused) (object s) (eqb-false s (o .0) q), up-other (k .uses .objects) (o .0) s (eqb-false s (o .0) q)) (omega arith)
+
+-- ── every call
+-- after the effect, with the uses that go with it
+abbrev pub next : State → Call → State
+next k c = withUses (effect k (asked (k .uses) c)) (usesAfter (k .uses) (asked (k .uses) c))
+
+-- a queue as it is made
+abbrev ring : ℕ → ℕ → Ring
+ring c z = record { capacity = c; size = z; first = 0; count = 0 }
+
+pub effect-grows : (k : State) → Sound k → (n : ℕ) (c : Call) → Passed k (asked (k .uses) c) n → Grows k (next k c)
+unfolding effect asked usesAfter namesNone noneFree created deleted queueMade mutexMade removed toTail leaves
+effect-grows k S n (Create p) P true s = create-life k S n (P .slot) p s
+effect-grows k S n (Create p) P false s = omega arith
+effect-grows k S n (Delete t) P true s = delete-life k S n (taskSlot (k .uses) t) (P .named) s
+effect-grows k S n (Delete t) P false s = omega arith
+effect-grows k S n (Suspend t) P b s = stays-grow k _ (k .uses) refl (effect-stays k S n (Suspend t) refl P) b s
+effect-grows k S n (Resume t) P b s = stays-grow k _ (k .uses) refl (effect-stays k S n (Resume t) refl P) b s
+effect-grows k S n (SetPriority t p) P b s = stays-grow k _ (k .uses) refl (effect-stays k S n (SetPriority t p) refl P) b s
+effect-grows k S n (Delay d) P b s = stays-grow k _ (k .uses) refl (effect-stays k S n (Delay d) refl P) b s
+effect-grows k S n Yield P b s = stays-grow k _ (k .uses) refl (effect-stays k S n Yield refl P) b s
+effect-grows k S n Hold P b s = stays-grow k _ (k .uses) refl (effect-stays k S n Hold refl P) b s
+effect-grows k S n Release P b s = stays-grow k _ (k .uses) refl (effect-stays k S n Release refl P) b s
+effect-grows k S n (MakeQueue c z) P true s = omega arith
+effect-grows k S n (MakeQueue c z) P false s = make-life k S n (P .slot) (Queue (ring c z)) refl s
+effect-grows k S n MakeMutex P true s = omega arith
+effect-grows k S n MakeMutex P false s = make-life k S n (P .slot) (Mutex Nobody) refl s
+effect-grows k S n (Remove o) P true s = omega arith
+effect-grows k S n (Remove o) P false s = remove-life k S n (objSlot (k .uses) o) (P .named) s
+effect-grows k S n (Send o w) P b s = stays-grow k _ (k .uses) refl (effect-stays k S n (Send o w) refl P) b s
+effect-grows k S n (Receive o w) P b s = stays-grow k _ (k .uses) refl (effect-stays k S n (Receive o w) refl P) b s
+effect-grows k S n (Take o w) P b s = stays-grow k _ (k .uses) refl (effect-stays k S n (Take o w) refl P) b s
+effect-grows k S n (Give o) P b s = stays-grow k _ (k .uses) refl (effect-stays k S n (Give o) refl P) b s
+effect-grows k S n Tick P b s = stays-grow k _ (k .uses) refl (effect-stays k S n Tick refl P) b s
+
+-- a create or make takes the slot of the number that it answers
+pub effect-takes : (k : State) → Sound k → (n : ℕ) (c : Call) → Passed k (asked (k .uses) c) n → makes (asked (k .uses) c) ≡ true
+    → let a = asked (k .uses) c in Takes (lifeOf (is 1 a) k) (lifeOf (is 1 a) (next k c)) (newNumber (k .uses) a (newSlot k a))
+unfolding effect asked usesAfter noneFree created queueMade mutexMade toTail
+effect-takes k S n (Create p) P x =
+    takes-number (taskLife k) (taskLife (next k (Create p))) (k .uses .tasks) (freeSlot (k .tasks)) (new-low k S n (P .slot))
+    (ap (λ i. lifeIn i (useIn (k .uses .tasks) (freeSlot (k .tasks)))) (new-stands k S n (P .slot)))
+    (ap (λ i. lifeIn i (useIn (k .uses .tasks) (freeSlot (k .tasks)))) (now-stands k S n (P .slot) p))
+effect-takes k S n (MakeQueue c z) P x =
+    takes-number (objectLife k) (objectLife (next k (MakeQueue c z))) (k .uses .objects) (freeObject (k .objects)) (slot-low k S n (P .slot) (Queue (ring c z)) refl)
+    (ap (λ i. lifeIn i (useIn (k .uses .objects) (freeObject (k .objects)))) (slot-stands k S n (P .slot) (Queue (ring c z)) refl))
+    (ap (λ i. lifeIn i (useIn (k .uses .objects) (freeObject (k .objects)))) (slot-now k S n (P .slot) (Queue (ring c z)) refl))
+effect-takes k S n MakeMutex P x =
+    takes-number (objectLife k) (objectLife (next k MakeMutex)) (k .uses .objects) (freeObject (k .objects)) (slot-low k S n (P .slot) (Mutex Nobody) refl)
+    (ap (λ i. lifeIn i (useIn (k .uses .objects) (freeObject (k .objects)))) (slot-stands k S n (P .slot) (Mutex Nobody) refl))
+    (ap (λ i. lifeIn i (useIn (k .uses .objects) (freeObject (k .objects)))) (slot-now k S n (P .slot) (Mutex Nobody) refl))
+effect-takes k S n (Delete t) P x = absurd (false≢true x)
+effect-takes k S n (Suspend t) P x = absurd (false≢true x)
+effect-takes k S n (Resume t) P x = absurd (false≢true x)
+effect-takes k S n (SetPriority t p) P x = absurd (false≢true x)
+effect-takes k S n (Delay d) P x = absurd (false≢true x)
+effect-takes k S n Yield P x = absurd (false≢true x)
+effect-takes k S n Hold P x = absurd (false≢true x)
+effect-takes k S n Release P x = absurd (false≢true x)
+effect-takes k S n (Remove o) P x = absurd (false≢true x)
+effect-takes k S n (Send o w) P x = absurd (false≢true x)
+effect-takes k S n (Receive o w) P x = absurd (false≢true x)
+effect-takes k S n (Take o w) P x = absurd (false≢true x)
+effect-takes k S n (Give o) P x = absurd (false≢true x)
+effect-takes k S n Tick P x = absurd (false≢true x)
+
+-- choose changes who runs, and no life
+pub chosen-life : (b : Bool) (j : State) (us : Uses) (s : ℕ) → lifeOf b (withUses (chosen j) us) s ≡ lifeOf b (withUses j us) s
+unfolding chosen
+chosen-life b j us s = go b (eqb (j .hold) 0) (first j AllReady)
+  where
+    go : (b c : Bool) (l : List TaskSlot) → lifeOf b (withUses (if c then runsIf j l else j) us) s ≡ lifeOf b (withUses j us) s
+    go true true [] = refl
+    go true true (u ∷ l) = refl
+    go true false l = refl
+    go false true [] = refl
+    go false true (u ∷ l) = refl
+    go false false l = refl

@@ -1,0 +1,68 @@
+-- "Borrowed priority is paid back", of a task by its full number: a slot used again is another task because its number is another.
+use Prim.Native.Nat.{ℕ}
+use mathlib.Core.Path.{_≡_}
+use mathlib.Core.Bool.{Bool, true, false, _&&_, _||_}
+use mathlib.Core.List.{List, [], _∷_, _++_}
+use lib.Dec.{eqb}
+use Rattle.lists.specs.Choice.{if_then_else_}
+use Rattle.calls.specs.Named.{taskOf}
+use Rattle.calls.specs.Door.{taskSlot}
+use Rattle.calls.specs.Behind.{asked}
+use Rattle.rules.specs.Lines.{level}
+use Rattle.rules.specs.Trace.{Moment, CallMade}
+use Rattle.histories.specs.Types.{TaskSlot, State}
+use Rattle.histories.specs.Types.{Call, Create, Delete, Suspend, Resume, SetPriority, Delay, Yield, Hold, Release, MakeQueue, MakeMutex, Remove, Send, Receive, Take, Give, Tick}
+use Rattle.histories.specs.Moments.{moments, hasMutex, notRefused}
+use Rattle.histories.specs.Borrowed.{largest, lastOf, lentAt}
+use Rattle.histories.specs.Again.{namesTask, madeTask}
+
+-- the slot that the number names in that kernel; where it names none, one that no table has
+abbrev pub slotOf : State → ℕ → TaskSlot
+slotOf k n = taskSlot (k .uses) (taskOf n)
+
+-- a set priority whose call says the number n itself
+abbrev pub setsPriorityOf : ℕ → Call → Bool
+setsPriorityOf n (Create p) = false
+setsPriorityOf n (Delete t) = false
+setsPriorityOf n (Suspend t) = false
+setsPriorityOf n (Resume t) = false
+setsPriorityOf n (SetPriority t p) = eqb (t .0) n
+setsPriorityOf n (Delay d) = false
+setsPriorityOf n Yield = false
+setsPriorityOf n Hold = false
+setsPriorityOf n Release = false
+setsPriorityOf n (MakeQueue c z) = false
+setsPriorityOf n MakeMutex = false
+setsPriorityOf n (Remove o) = false
+setsPriorityOf n (Send o w) = false
+setsPriorityOf n (Receive o w) = false
+setsPriorityOf n (Take o w) = false
+setsPriorityOf n (Give o) = false
+setsPriorityOf n Tick = false
+
+-- "by its creation or an accepted change": by the create that answered made n, or by an accepted set priority of n
+unfoldable pub givenTo : ℕ → Moment CallMade → List ℕ
+givenTo n m =
+    if madeTask m n || (setsPriorityOf n (m .made .call) && notRefused m) then asked (m .before .uses) (m .made .call) .priority ∷ [] else []
+
+-- "the priority last given to it"; idle counts as created with 0
+unfoldable pub lastGivenTo : ℕ → List (Moment CallMade) → ℕ
+lastGivenTo n [] = 0
+lastGivenTo n (m ∷ earlier) = lastOf (givenTo n m) (lastGivenTo n earlier)
+
+-- what is lent to the task that has the number after the moment
+abbrev pub lentTo : ℕ → Moment CallMade → List ℕ
+lentTo n m = lentAt (slotOf (m .gave .kernel) n) m
+
+unfoldable pub countedSinceOf : ℕ → List (Moment CallMade) → List ℕ
+countedSinceOf n [] = []
+countedSinceOf n (m ∷ earlier) =
+    if hasMutex (m .before) (slotOf (m .before) n) then givenTo n m ++ (lentTo n m ++ countedSinceOf n earlier)
+    else level (m .before .tasks) (slotOf (m .before) n) ∷ []
+
+unfoldable pub dueOf : State → List (Moment CallMade) → ℕ → ℕ
+dueOf k past n = if hasMutex k (slotOf k n) then largest (countedSinceOf n past) else lastGivenTo n past
+
+-- the task that the number names in k, which these calls reach, has the effective priority that their history says
+abbrev pub PaysBackByNumber : List CallMade → State → ℕ → Type 0
+PaysBackByNumber ms k n = namesTask k n ≡ true → level (k .tasks) (slotOf k n) ≡ dueOf k (moments ms) n

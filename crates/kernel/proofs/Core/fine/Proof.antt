@@ -1,0 +1,51 @@
+use borrow.Author.Needs.{needs}
+use mathlib.Core.Path.{_≡_, sym, _∙_}
+use Rattle.kernel.proofs.SoundQuick.{quick, quick-is, stands-for}
+use Rattle.order.proofs.Halves.{halves}
+use Rattle.kernel.proofs.Core.fine.Statement.{statement}
+use Rattle.kernel.proofs.Core.fine.Tie as tie
+
+returns : tie.Need-returns
+returns c =
+    let shaped = c .before .before .shaped in
+    let c4 = c .before .before .before .before in
+    let c8 = c4 .before .before .before .before in
+    let c12 = c8 .before .before .before .before in
+    let c16 = c12 .before .before .before .before in
+    let c20 = c16 .before .before .before .before in
+    let c24 = c20 .before .before .before .before in
+    let holdings = c20 .before .before .holdings in
+    let tallied = c24 .tallied in
+    let fine = c16 .before .fine in
+    let k = c24 .before .before .args .self in
+    let hs = holdings .result in
+    let e : c .both8 .result ≡ quick k (tallied .result .tallies) hs (fine .result) (fine .ensures) (holdings .ensures) (tallied .ensures .0)
+    (shaped .ensures .1) (shaped .ensures .2) =
+    c .both8 .ensures ∙ rw (shaped .ensures .0, c .before .both7 .ensures, c12 .before .before .both2 .ensures, c12 .before .before .before .both .ensures)
+    (rw (c16 .waits-fine .ensures, c .before .before .before .both6 .ensures, c12 .runs-fine .ensures, c4 .both5 .ensures, c8 .both4 .ensures)
+    (rw (c8 .before .both3 .ensures, tallied .ensures .1, c8 .before .before .zeros .ensures, c4 .before .either .ensures, halves))) in (
+      e ∙ quick-is k _ hs _ (fine .ensures) (holdings .ensures) (tallied .ensures .0) (shaped .ensures .1) (shaped .ensures .2),
+      λ q. stands-for k _ hs _ (fine .ensures) (holdings .ensures) (tallied .ensures .0) (shaped .ensures .1) (shaped .ensures .2) (sym e ∙ q),
+    )
+
+pub fine-spec : {M : Type 1} → statement M
+fine-spec =
+    tie.close
+    (tie.spec
+    (λ c κs. search needs)
+    (λ c κs. search needs)
+    (λ c κs. search needs)
+    (λ c κs. search needs)
+    (λ c κs. search needs)
+    (λ c κs. search needs)
+    (λ c κs. search needs)
+    (λ c κs. search needs)
+    (λ c κs. search needs)
+    (λ c κs. search needs)
+    (λ c κs. search needs)
+    (λ c κs. search needs)
+    (λ c κs. search needs)
+    (λ c κs. search needs)
+    (λ c κs. search needs)
+    (λ c κs. search needs)
+    returns)
