@@ -23,7 +23,7 @@ use Rattle.kernel.proofs.Shown.{shown-of}
 use Rattle.promises.proofs.Gate.{both-sides-of-the-gate}
 use Rattle.promises.proofs.TurnedAway.{decided}
 use Rattle.promises.proofs.Reaches.{program-placed}
-use Rattle.histories.proofs.PaidBack.{program-pays-back}
+use Rattle.histories.proofs.ByFullNumber.{program-pays-back-by-number}
 use Rattle.histories.proofs.NeverAgain.{never-again-task, never-again-object, made-once-task, made-once-object}
 use Rattle.claims.specs.Types.{Call, Read}
 use Rattle.claims.specs.Claims.{Code, Values, Refused, Ruled, Journalled, Kept, NeverAgain, Claims}
@@ -31,7 +31,8 @@ use Rattle.claims.proofs.Values.{test-says, says-test, full-stands}
 use Rattle.claims.proofs.Exact.{step-exactly, accepted-so, unsound-stays}
 use Rattle.claims.proofs.Unique.{line-so}
 use Rattle.claims.proofs.Fitting.{total}
-use Rattle.claims.proofs.Reaching.{calls-reach, calls-sound, calls-placed, calls-pay-back, session-so-far, session-sound, session-placed, session-pays-back, journal}
+use Rattle.claims.proofs.Reaching.{calls-reach, calls-sound, calls-numbered, calls-placed, calls-pay-back}
+use Rattle.claims.proofs.Reaching.{lines-numbered, session-so-far, session-sound, session-numbered, session-placed, session-pays-back, journal}
 
 code : Code
 code =
@@ -83,12 +84,15 @@ kept =
     record {
       calls-reach = calls-reach;
       sound = calls-sound;
+      numbered = calls-numbered;
       placed = calls-placed;
       borrowed = calls-pay-back;
+      lines-numbered = lines-numbered;
       lines-placed = program-placed;
-      lines-borrowed = program-pays-back;
+      lines-borrowed = program-pays-back-by-number;
       session-so-far = session-so-far;
       session-sound = session-sound;
+      session-numbered = session-numbered;
       session-placed = session-placed;
       session-borrowed = session-pays-back;
     }

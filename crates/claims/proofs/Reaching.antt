@@ -4,7 +4,7 @@ use mathlib.Core.Path.{_≡_, refl, sym, ap, _∙_, subst}
 use mathlib.Core.Bool.{Bool, true, false}
 use mathlib.Core.List.{List, [], _∷_, _++_}
 use lib.Dec.{eqb}
-use lib.ListN.{length, take, drop}
+use lib.ListN.{length, take, drop, replicate}
 use lib.Seq.{take-append-seam}
 use Rattle.lists.specs.Choice.{if_then_else_}
 use Rattle.lists.specs.Lists.{foldl}
@@ -20,7 +20,7 @@ use Rattle.kernel.specs.Promises.{Closes, newSession}
 use Rattle.kernel.proofs.Shown.{shown-of}
 use Rattle.kernel.proofs.SessionRuns.{line-keeps}
 use Rattle.promises.specs.History.{reached, Placed}
-use Rattle.promises.specs.Program.{linesOf, Answered, program}
+use Rattle.promises.specs.Program.{linesOf, Answered, answering, program}
 use Rattle.promises.specs.ByLines.{ProgramAnswers}
 use Rattle.promises.specs.Turns.{Turn, Pause, afterTurn, afterTurns, cameIn, afterEnd, atStart, outcome}
 use Rattle.promises.specs.Reached.{programCalls}
@@ -28,9 +28,9 @@ use Rattle.promises.proofs.Histories.{reached-sound, after-any-calls}
 use Rattle.promises.proofs.InWords.{program-answers}
 use Rattle.promises.proofs.LineForLine.{closed-stays, session-is-the-program}
 use Rattle.promises.proofs.Reaches.{program-reached, program-placed, session-so-far as rules-so-far}
-use Rattle.histories.specs.Borrowed.{PaysBack}
-use Rattle.histories.proofs.PaidBack.{paid-back, program-pays-back}
-use Rattle.claims.specs.Types.{TaskSlot, State, Kernel, Served}
+use Rattle.histories.specs.ByFullNumber.{Numbered, PaysBackByNumber}
+use Rattle.histories.proofs.ByFullNumber.{numbered, paid-back-by-number, program-pays-back-by-number}
+use Rattle.claims.specs.Types.{State, Kernel, Served}
 use Rattle.claims.specs.Values.{SoundValue}
 use Rattle.claims.specs.Runs.{Called, Port, servedTo, Turned, freshPort, portOutcome, CameTo}
 use Rattle.claims.proofs.Values.{test-says}
@@ -63,8 +63,15 @@ module _ (ms : List CallMade) (k : Kernel) (f : Called (kernelOf fresh) ms k) wh
   pub calls-placed : Placed (shown k)
   calls-placed = subst (λ (s : State). Placed s) (sym shows-reached) (after-any-calls ms)
 
-  pub calls-pay-back : (t : TaskSlot) → PaysBack ms (shown k) t
-  calls-pay-back t = subst (λ (s : State). PaysBack ms s t) (sym shows-reached) (paid-back ms t)
+  pub calls-numbered : Numbered (shown k)
+  calls-numbered = subst (λ (s : State). Numbered s) (sym shows-reached) (numbered (reached ms) (reached-sound ms))
+
+  pub calls-pay-back : (n : ℕ) → PaysBackByNumber ms (shown k) n
+  calls-pay-back n = subst (λ (s : State). PaysBackByNumber ms s n) (sym shows-reached) (paid-back-by-number ms n)
+
+-- ── lines
+pub lines-numbered : (ls : List (List ℕ)) → Numbered (answering fresh (replicate 9216 0) ls .kernel)
+lines-numbered ls = subst (λ (s : State). Numbered s) (sym (program-reached ls)) (numbered (reached (programCalls ls)) (reached-sound (programCalls ls)))
 
 -- ── turns: a session keeps soundness
 fed-keeps : (r : Run) (b : ℕ) → sound (r .kernel) ≡ true → sound (fed r b .kernel) ≡ true
@@ -136,9 +143,12 @@ module _ (ts : List Turn) (p : Port) (f : Turned freshPort ts p) where
   pub session-placed : Placed (shown (p .session .kernel))
   session-placed = subst (λ (s : State). Placed s) (sym shows-program) (program-placed (linesOf (session-so-far .taken)))
 
-  pub session-pays-back : (t : TaskSlot) → PaysBack (programCalls (linesOf (session-so-far .taken))) (shown (p .session .kernel)) t
-  session-pays-back t =
-      subst (λ (s : State). PaysBack (programCalls (linesOf (session-so-far .taken))) s t) (sym shows-program) (program-pays-back (linesOf (session-so-far .taken)) t)
+  pub session-numbered : Numbered (shown (p .session .kernel))
+  session-numbered = subst (λ (s : State). Numbered s) (sym shows-program) (lines-numbered (linesOf (session-so-far .taken)))
+
+  pub session-pays-back : (n : ℕ) → PaysBackByNumber (programCalls (linesOf (session-so-far .taken))) (shown (p .session .kernel)) n
+  session-pays-back n =
+      subst (λ (s : State). PaysBackByNumber (programCalls (linesOf (session-so-far .taken))) s n) (sym shows-program) (program-pays-back-by-number (linesOf (session-so-far .taken)) n)
 
 -- ── the input's end
 end-reaches : (p : Pause) (lent : List ℕ) (r : Served) (o : List ℕ) → Closes (portOf p .session) (p .store) lent r o

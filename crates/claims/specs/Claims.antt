@@ -32,9 +32,9 @@ use Rattle.promises.specs.Program.{linesOf, answering}
 use Rattle.promises.specs.ByLines.{LineSteps, ProgramAnswers}
 use Rattle.promises.specs.Turns.{Turn, cameIn}
 use Rattle.promises.specs.Reached.{programCalls}
-use Rattle.histories.specs.Borrowed.{PaysBack}
+use Rattle.histories.specs.ByFullNumber.{Numbered, PaysBackByNumber}
 use Rattle.histories.specs.Again.{namesTask, namesObject, momentFrom, madeTask, madeObject}
-use Rattle.claims.specs.Types.{TaskSlot, TaskNo, Call, Answer, Asked, Read, Says, Written, Count, State, Kernel, Step, Session, Served}
+use Rattle.claims.specs.Types.{TaskNo, Call, Answer, Asked, Read, Says, Written, Count, State, Kernel, Step, Session, Served}
 use Rattle.claims.specs.Values.{SoundValue, Full, Stands}
 use Rattle.claims.specs.Exact.{ValueRefused, ValueAccepted, tableFor, ValueExactly}
 use Rattle.claims.specs.Runs.{Called, Port, servedTo, Turned, freshPort, portOutcome, CameTo}
@@ -115,18 +115,22 @@ pub record Journalled : Type 0 where
 
 -- 3. "From the fresh kernel, after any calls, refused ones among them": "each task in exactly one state and listed only where that state belongs; unless held, no ready task
 -- outranks the running one; borrowed priority is what the rule says." So it is after any calls, after every line of every journal, and at any time of a session, however its input is cut.
+-- It "speaks of the task by its full number": each task has one, which names it, so what `Placed` says of a task's slot is said of its number.
 pub record Kept : Type 0 where
   -- the code is where the rules are, and sound
   pub calls-reach : (ms : List CallMade) (k : Kernel) → Called (kernelOf fresh) ms k → k ≡ kernelOf (reached ms)
   pub sound : (ms : List CallMade) (k : Kernel) → Called (kernelOf fresh) ms k → SoundValue k
+  pub numbered : (ms : List CallMade) (k : Kernel) → Called (kernelOf fresh) ms k → Numbered (shown k)
   pub placed : (ms : List CallMade) (k : Kernel) → Called (kernelOf fresh) ms k → Placed (shown k)
-  pub borrowed : (ms : List CallMade) (k : Kernel) → Called (kernelOf fresh) ms k → (t : TaskSlot) → PaysBack ms (shown k) t
+  pub borrowed : (ms : List CallMade) (k : Kernel) → Called (kernelOf fresh) ms k → (n : ℕ) → PaysBackByNumber ms (shown k) n
+  pub lines-numbered : (ls : List (List ℕ)) → Numbered (answering fresh (replicate 9216 0) ls .kernel)
   pub lines-placed : (ls : List (List ℕ)) → Placed (answering fresh (replicate 9216 0) ls .kernel)
-  pub lines-borrowed : (ls : List (List ℕ)) (t : TaskSlot) → PaysBack (programCalls ls) (answering fresh (replicate 9216 0) ls .kernel) t
+  pub lines-borrowed : (ls : List (List ℕ)) (n : ℕ) → PaysBackByNumber (programCalls ls) (answering fresh (replicate 9216 0) ls .kernel) n
   pub session-so-far : (ts : List Turn) (p : Port) → Turned freshPort ts p → CameTo ts p
   pub session-sound : (ts : List Turn) (p : Port) → Turned freshPort ts p → SoundValue (p .session .kernel)
+  pub session-numbered : (ts : List Turn) (p : Port) → Turned freshPort ts p → Numbered (shown (p .session .kernel))
   pub session-placed : (ts : List Turn) (p : Port) → Turned freshPort ts p → Placed (shown (p .session .kernel))
-  pub session-borrowed : (ts : List Turn) (p : Port) (f : Turned freshPort ts p) (t : TaskSlot) → PaysBack (programCalls (linesOf (session-so-far ts p f .taken))) (shown (p .session .kernel)) t
+  pub session-borrowed : (ts : List Turn) (p : Port) (f : Turned freshPort ts p) (n : ℕ) → PaysBackByNumber (programCalls (linesOf (session-so-far ts p f .taken))) (shown (p .session .kernel)) n
 
 -- Over any history from the fresh kernel, for tasks and for objects: a number that was given up names nothing ever after, and no number is made twice.
 pub record NeverAgain : Type 0 where

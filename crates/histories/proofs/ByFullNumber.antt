@@ -1,4 +1,4 @@
--- "Borrowed priority is paid back", of a task by its full number: what the history says of the number is what it says of the slot that the number names.
+-- Tasks by their full numbers: each has one, which names it; and what the history says of the number is what it says of the slot that the number names.
 use Prim.Native.Nat.{ℕ, _+_, _*_, _/_, _%_, _<_}
 use mathlib.Core.Path.{_≡_, refl, sym, ap, subst, _∙_}
 use mathlib.Core.Bool.{Bool, true, false, not, _&&_, false≢true}
@@ -10,11 +10,11 @@ use borrow.Author.Tests.{eqb-true, eqb-false, eq-eqb, ne-eqb}
 use Rattle.lists.specs.Choice.{if_then_else_}
 use Rattle.lists.specs.Lists.{foldl}
 use Rattle.lists.proofs.Bools.{off}
-use Rattle.numbers.specs.Numbers.{task, sameTask}
-use Rattle.calls.specs.Named.{taskOf}
+use Rattle.numbers.specs.Numbers.{task, object, sameTask}
+use Rattle.calls.specs.Named.{taskOf, objectOf}
 use Rattle.calls.specs.declared.Uses.{Uses}
 use Rattle.calls.specs.declared.Asked.{Asked}
-use Rattle.calls.specs.Door.{useIn, numberIn, slotIn, lastIn, givenUp, taskSlot}
+use Rattle.calls.specs.Door.{useIn, numberIn, slotIn, lastIn, givenUp, taskSlot, objSlot}
 use Rattle.calls.specs.Behind.{asked}
 use Rattle.calls.specs.Said.{says, done}
 use Rattle.slots.specs.Places.{isFree}
@@ -22,7 +22,7 @@ use Rattle.slots.specs.Values.{taskAt}
 use Rattle.rules.specs.Tables.{fresh, freeSlot}
 use Rattle.rules.specs.Lines.{level, chosen}
 use Rattle.rules.specs.Sound.{sound}
-use Rattle.rules.specs.Sentences.{Sound}
+use Rattle.rules.specs.Sentences.{Exists, Tables, Sound}
 use Rattle.rows.specs.Asking.{is}
 use Rattle.rules.specs.Effects.{created, deleted, effect}
 use Rattle.rules.specs.Steps.{Stepped, answered, usesAfter, accepted, turnedAway}
@@ -32,6 +32,7 @@ use Rattle.rules.proofs.SoundSays.{sound-says}
 use Rattle.rules.proofs.RowPasses.{Passed}
 use Rattle.rules.proofs.Keeps.{there-low}
 use Rattle.rules.proofs.KeepTasks.{has-slot, is-free}
+use Rattle.rules.proofs.KeepObjects.{object-low}
 use Rattle.rules.proofs.KeepChosen.{chosen-tasks}
 use Rattle.rules.proofs.KeepUses.{up-other}
 use Rattle.rules.proofs.KeepEvery.{fresh-sound, step-kept}
@@ -45,7 +46,7 @@ use Rattle.histories.specs.Types.{Call, Create, Delete, Suspend, Resume,
 use Rattle.histories.specs.Moments.{onto, moments, hasMutex, notRefused}
 use Rattle.histories.specs.Borrowed.{largest, isCreated, isChanged, givenAt, lastOf, lastGiven, lentAt, countedSince, due}
 use Rattle.histories.specs.Again.{namesTask, isMade, madeTask}
-use Rattle.histories.specs.ByFullNumber.{slotOf, setsPriorityOf, givenTo, lastGivenTo, countedSinceOf, dueOf, PaysBackByNumber}
+use Rattle.histories.specs.ByFullNumber.{slotOf, Numbered, setsPriorityOf, givenTo, lastGivenTo, countedSinceOf, dueOf, PaysBackByNumber}
 use Rattle.histories.proofs.FairTasks.{that-or-other, others, now-gone}
 use Rattle.histories.proofs.FairSteps.{step-fair}
 use Rattle.histories.proofs.Lives.{number-slot, number-use}
@@ -65,6 +66,22 @@ number-slot-in us s h = rw (number-slot s (useIn us s) h, number-use s (useIn us
 
 number-names : (us : List ℕ) (s x : ℕ) → s < 16 → x ≡ numberIn us s → slotIn us x ≡ s
 number-names us s x h e = ap (λ i. slotIn us i) e ∙ number-slot-in us s h
+
+-- so each task and each object of a sound kernel has one number, which names it
+pub numbered : (k : State) → sound k ≡ true → Numbered k
+numbered k e =
+    record {
+      task-named = λ t x. ap task (number-slot-in (k .uses .tasks) (t .0) (task-low t (off _ x)));
+      task-number = λ n x. sym (slot-number (k .uses .tasks) (slotOf k n .0) n (task-low (slotOf k n) (off _ x)) refl);
+      object-named = λ o x. ap object (number-slot-in (k .uses .objects) (o .0) (object-low (k .objects) o (T .object-slots) x));
+      object-number = λ n x. let o = objSlot (k .uses) (objectOf n) in sym (slot-number (k .uses .objects) (o .0) n (object-low (k .objects) o (T .object-slots) (off _ x)) refl);
+    }
+  where
+    T : Tables (k .tasks) (k .objects)
+    T = sound-says k e .tables
+
+    task-low : (t : TaskSlot) → Exists (k .tasks) t → t .0 < 16
+    task-low t = there-low (k .tasks) t (T .task-slots)
 
 same-test : (us : List ℕ) (s n x : ℕ) → s < 16 → n ≡ numberIn us s → eqb x n ≡ eqb (slotIn us x) s
 same-test us s n x h e = go (eqb (slotIn us x) s) refl

@@ -1,6 +1,6 @@
 -- "Borrowed priority is paid back": after any calls from the fresh kernel the effective priorities are what the history says.
 use Prim.Native.Nat.{ℕ, zero, suc}
-use mathlib.Core.Path.{_≡_, refl, sym, ap, subst, _∙_}
+use mathlib.Core.Path.{_≡_, refl, sym, ap, _∙_}
 use mathlib.Core.Bool.{Bool, true, false, false≢true}
 use mathlib.Core.List.{List, [], _∷_, _++_}
 use lib.ListN.{getD, replicate}
@@ -16,14 +16,10 @@ use Rattle.rules.proofs.TableHolds.{not-held}
 use Rattle.rules.proofs.SoundSays.{sound-says}
 use Rattle.rules.proofs.KeepEvery.{fresh-sound, step-kept}
 use Rattle.promises.specs.History.{reached}
-use Rattle.promises.specs.Program.{linesOf, answering}
-use Rattle.promises.specs.Turns.{Turn, afterTurns, atStart}
-use Rattle.promises.specs.Reached.{programCalls}
-use Rattle.promises.proofs.Reaches.{program-reached, session-so-far}
 use Rattle.rules.specs.Trace.{Moment, momentOf, trace, stateAfter, CallMade, stepMade}
 use Rattle.histories.specs.Types.{TaskSlot, State}
 use Rattle.histories.specs.Moments.{onto, moments, hasMutex}
-use Rattle.histories.specs.Borrowed.{largest, givenAt, lastOf, lastGiven, lentAt, countedSince, due, PaysBack}
+use Rattle.histories.specs.Borrowed.{largest, givenAt, lastOf, lastGiven, lentAt, countedSince, due}
 use Rattle.histories.proofs.Largest.{largest-append, larger-none}
 use Rattle.histories.proofs.Fair.{Fair}
 use Rattle.histories.proofs.FairSteps.{step-fair}
@@ -109,14 +105,3 @@ module _ (ms : List CallMade) (t : TaskSlot) (there : Exists ((reached ms) .task
       go : (b : Bool) → hasMutex (reached ms) t ≡ b → level ((reached ms) .tasks) t ≡ (if b then largest (countedSince t (moments ms)) else lastGiven t (moments ms))
       go true e = with-mutex e
       go false e = without-mutex e
-
--- ── of the program: the calls are those of its lines
--- after every line of every input
-pub program-pays-back : (ls : List (List ℕ)) (t : TaskSlot) → PaysBack (programCalls ls) (answering fresh (replicate 9216 0) ls .kernel) t
-program-pays-back ls t = subst (λ (k : State). PaysBack (programCalls ls) k t) (sym (program-reached ls)) (paid-back (programCalls ls) t)
-
--- however the input is cut, at any time
-pub session-pays-back : (ts : List Turn) (t : TaskSlot) → PaysBack (programCalls (linesOf (session-so-far ts .taken))) (afterTurns atStart ts .kernel) t
-session-pays-back ts t =
-    let h = session-so-far ts in
-    subst (λ (k : State). PaysBack (programCalls (linesOf (h .taken))) k t) (sym (h .kernel)) (program-pays-back (linesOf (h .taken)) t)

@@ -1,6 +1,5 @@
 -- "Borrowed priority is paid back": what a task's effective priority is, told by the moments of the history alone.
 use Prim.Native.Nat.{ℕ}
-use mathlib.Core.Path.{_≡_}
 use mathlib.Core.Bool.{Bool, _&&_, _||_}
 use mathlib.Core.List.{List, [], _∷_, _++_, map}
 use Rattle.lists.specs.Choice.{if_then_else_}
@@ -10,7 +9,6 @@ use Rattle.calls.specs.Behind.{asked}
 use Rattle.slots.specs.Kinds.{heldBy, kindAt}
 use Rattle.slots.specs.Values.{taskAt}
 use Rattle.rules.specs.Lines.{level}
-use Rattle.rules.specs.Sentences.{Exists}
 use Rattle.rows.specs.Asking.{is}
 use Rattle.rules.specs.Trace.{Moment, CallMade}
 use Rattle.histories.specs.Types.{TaskSlot, State}
@@ -60,7 +58,3 @@ countedSince t (m ∷ earlier) =
 -- "a task without a mutex has exactly the priority last given to it"; "A task with one has the largest of" those counted
 unfoldable pub due : State → List (Moment CallMade) → TaskSlot → ℕ
 due k past t = if hasMutex k t then largest (countedSince t past) else lastGiven t past
-
--- a task that exists in k, which these calls reach, has the effective priority that their history says
-abbrev pub PaysBack : List CallMade → State → TaskSlot → Type 0
-PaysBack ms k t = Exists (k .tasks) t → level (k .tasks) t ≡ due k (moments ms) t

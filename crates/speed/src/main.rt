@@ -64,23 +64,27 @@ fn both(k: Kernel, a: Call, b: Call, store: &mut [u8]) -> Kernel {
     k.step(a, &item, store).kernel.step(b, &item, store).kernel
 }
 
-// A number of a slot that each turn gives up is `up` higher.
-fn later(pair: u8, n: u32, up: u32) -> u32 {
-    if lists::both(104 <= pair, pair <= 106) {
-        std::num::wrapping_add_u32(n, up)
-    } else {
-        n
+// The pair again and again.
+fn same(start: Kernel, a: Call, b: Call, times: u32, store: &mut [u8]) -> u32 {
+    let mut k = start;
+    let mut sum = 0u32;
+    let mut i = 0u32;
+    while i < times {
+        k = both(k, a, b, store);
+        sum = std::num::wrapping_add_u32(sum, k.runs().number());
+        i += 1;
     }
+    sum
 }
 
-fn turn(k: Kernel, pair: u8, m: u32, up: u32, store: &mut [u8]) -> Kernel {
-    let t = later(pair, m, up);
-    let o = later(pair, 2, up);
+fn renewal(k: Kernel, pair: u8, m: u32, up: u32, store: &mut [u8]) -> Kernel {
+    let t = std::num::wrapping_add_u32(m, up);
+    let o = std::num::wrapping_add_u32(2, up);
     both(k, first(pair, t), second(pair, t, o), store)
 }
 
-// Before a slot is spent, the kernel is the first one again.
-fn pairs(start: Kernel, pair: u8, m: u32, times: u32, store: &mut [u8]) -> u32 {
+// Where each turn gives a slot up, its number is 16 higher the next time; before the slot is spent, the kernel is the first one again.
+fn renewed(start: Kernel, pair: u8, m: u32, times: u32, store: &mut [u8]) -> u32 {
     let mut k = start;
     let mut up = 0u32;
     let mut sum = 0u32;
@@ -90,12 +94,20 @@ fn pairs(start: Kernel, pair: u8, m: u32, times: u32, store: &mut [u8]) -> u32 {
             k = start;
             up = 0;
         }
-        k = turn(k, pair, m, up, store);
+        k = renewal(k, pair, m, up, store);
         up = std::num::wrapping_add_u32(up, 16);
         sum = std::num::wrapping_add_u32(sum, k.runs().number());
         i += 1;
     }
     sum
+}
+
+fn pairs(start: Kernel, pair: u8, m: u32, times: u32, store: &mut [u8]) -> u32 {
+    if lists::both(104 <= pair, pair <= 106) {
+        renewed(start, pair, m, times, store)
+    } else {
+        same(start, first(pair, m), second(pair, m, 2), times, store)
+    }
 }
 
 // The soundness test by itself, twice a turn.
