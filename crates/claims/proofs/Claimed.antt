@@ -24,6 +24,7 @@ use Rattle.promises.proofs.Gate.{both-sides-of-the-gate}
 use Rattle.promises.proofs.TurnedAway.{decided}
 use Rattle.promises.proofs.Reaches.{program-placed}
 use Rattle.histories.proofs.ByFullNumber.{program-pays-back-by-number}
+use Rattle.histories.proofs.UseCounts.{uses-count}
 use Rattle.histories.proofs.NeverAgain.{never-again-task, never-again-object, made-once-task, made-once-object}
 use Rattle.claims.specs.Types.{Call, Read}
 use Rattle.claims.specs.Claims.{Code, Values, Refused, Ruled, Journalled, Kept, NeverAgain, Claims}
@@ -98,7 +99,7 @@ kept =
     }
 
 never-again : NeverAgain
-never-again = record { task-gone = never-again-task; object-gone = never-again-object; task-once = made-once-task; object-once = made-once-object }
+never-again = record { task-gone = never-again-task; object-gone = never-again-object; task-once = made-once-task; object-once = made-once-object; uses = uses-count }
 
 pub claims : Claims
 claims = record { code = code; values = values; total = total; refused = refused; ruled = ruled; journalled = journalled; kept = kept; never-again = never-again }

@@ -33,6 +33,7 @@ use Rattle.promises.specs.ByLines.{LineSteps, ProgramAnswers}
 use Rattle.promises.specs.Turns.{Turn, cameIn}
 use Rattle.promises.specs.Reached.{programCalls}
 use Rattle.histories.specs.ByFullNumber.{Numbered, PaysBackByNumber}
+use Rattle.histories.specs.Uses.{UsesCount}
 use Rattle.histories.specs.Again.{namesTask, namesObject, momentFrom, madeTask, madeObject}
 use Rattle.claims.specs.Types.{TaskNo, Call, Answer, Asked, Read, Says, Written, Count, State, Kernel, Step, Session, Served}
 use Rattle.claims.specs.Values.{SoundValue, Full, Stands}
@@ -132,7 +133,8 @@ pub record Kept : Type 0 where
   pub session-placed : (ts : List Turn) (p : Port) → Turned freshPort ts p → Placed (shown (p .session .kernel))
   pub session-borrowed : (ts : List Turn) (p : Port) (f : Turned freshPort ts p) (n : ℕ) → PaysBackByNumber (programCalls (linesOf (session-so-far ts p f .taken))) (shown (p .session .kernel)) n
 
--- Over any history from the fresh kernel, for tasks and for objects: a number that was given up names nothing ever after, and no number is made twice.
+-- Over any history from the fresh kernel, for tasks and for objects: a number that was given up names nothing ever after, and no number is made twice; a number is its slot + 16 × use,
+-- and a slot's use is how often it was given up.
 pub record NeverAgain : Type 0 where
   pub task-gone : (ms ns : List CallMade) (m : CallMade) (n : ℕ) → namesTask (reached ms) n ≡ true → namesTask (reached (ms ++ (m ∷ []))) n ≡ false
       → namesTask (reached (ms ++ (m ∷ []) ++ ns)) n ≡ false
@@ -142,6 +144,7 @@ pub record NeverAgain : Type 0 where
       → madeTask (momentFrom (reached (ms ++ (m ∷ []) ++ ns)) l) n ≡ false
   pub object-once : (ms ns : List CallMade) (m l : CallMade) (n : ℕ) → madeObject (momentFrom (reached ms) m) n ≡ true
       → madeObject (momentFrom (reached (ms ++ (m ∷ []) ++ ns)) l) n ≡ false
+  pub uses : (ms : List CallMade) → UsesCount ms
 
 pub record Claims : Type 2 where
   pub code : Code

@@ -82,7 +82,7 @@ refused-fair k c n t = quiet-fair _ t (none-given t _ (not-both (is 1 (asked (k 
     not-third true false = refl
     not-third false y = refl
 
-answered-accepts : (k : State) (c : Call) (j : State) → isRefusal (answered k (asked (k .uses) c) j .word) ≡ false
+pub answered-accepts : (k : State) (c : Call) (j : State) → isRefusal (answered k (asked (k .uses) c) j .word) ≡ false
 unfolding answered
 answered-accepts k c j = go (makes (asked (k .uses) c)) (isBlocked (taskAt (j .tasks) (k .running) .place))
   where

@@ -9,4 +9,5 @@ pub mod FairSteps
 pub mod PaidBack
 pub mod Lives
 pub mod NeverAgain
+pub mod UseCounts
 pub mod ByFullNumber

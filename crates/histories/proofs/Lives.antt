@@ -1,7 +1,7 @@
--- The life of a slot: twice its use, and one more while it is taken; a spent one has the longest. No step of a sound kernel makes it less.
+-- What a step of a sound kernel does to a slot: it stays, is taken, or is given up. So the life of a slot, twice its use and one more while it is taken, never goes back.
 use Prim.Native.Nat.{ℕ, zero, suc, _+_, _*_, _/_, _%_, _<_, _≤_}
 use mathlib.Core.Path.{_≡_, refl, sym, ap, _∙_}
-use mathlib.Core.Bool.{Bool, true, false, false≢true}
+use mathlib.Core.Bool.{Bool, true, false, _&&_, false≢true}
 use mathlib.Core.List.{List, [], _∷_}
 use native.Mathlib.Omega.{arith}
 use lib.Dec.{eqb}
@@ -11,6 +11,7 @@ use borrow.Author.Tests.{eqb-true, eqb-false, eq-eqb}
 use Rattle.lists.specs.Choice.{if_then_else_}
 use Rattle.numbers.specs.Numbers.{task, object}
 use Rattle.calls.specs.declared.Uses.{Uses}
+use Rattle.calls.specs.declared.Asked.{Asked}
 use Rattle.calls.specs.Door.{useIn, numberIn, slotIn, lastIn, nextUse, givenUp, taskSlot, objSlot}
 use Rattle.calls.specs.Behind.{asked}
 use Rattle.slots.specs.Places.{isFree, takesTask}
@@ -40,16 +41,17 @@ lifeIn zero u = 2 * u
 lifeIn (suc zero) u = suc (2 * u)
 lifeIn (suc (suc n)) u = 131072
 
-abbrev pub taskLife : State → ℕ → ℕ
-taskLife k s = lifeIn (stands (taskAt (k .tasks) (task s) .place)) (useIn (k .uses .tasks) s)
+-- of a task slot, of an object slot: what stands in it, and the use that is kept
+abbrev pub standsIn : Bool → State → ℕ → ℕ
+standsIn true k s = stands (taskAt (k .tasks) (task s) .place)
+standsIn false k s = standsAs (kindAt (k .objects) (object s))
 
-abbrev pub objectLife : State → ℕ → ℕ
-objectLife k s = lifeIn (standsAs (kindAt (k .objects) (object s))) (useIn (k .uses .objects) s)
+abbrev pub keptUse : Bool → State → ℕ → ℕ
+keptUse true k s = useIn (k .uses .tasks) s
+keptUse false k s = useIn (k .uses .objects) s
 
--- of a task slot, of an object slot
 abbrev pub lifeOf : Bool → State → ℕ → ℕ
-lifeOf true k s = taskLife k s
-lifeOf false k s = objectLife k s
+lifeOf b k s = lifeIn (standsIn b k s) (keptUse b k s)
 
 abbrev pub Grows : State → State → Type 0
 Grows k j = (b : Bool) (s : ℕ) → lifeOf b k s ≤ lifeOf b j s
@@ -79,13 +81,17 @@ pub record Takes (before after : ℕ → ℕ) (n : ℕ) : Type 0 where
   pub now : after (n % 16) ≡ suc (2 * (n / 16))
 
 -- ── one slot
-one-more : (st u : ℕ) → st ≡ 0 → lifeIn st u ≤ suc (2 * u)
-one-more st u e = rw e (omega arith)
+-- what becomes of what stands in a slot and of the use that is kept; g says that it is given up
+pub data Turn (g : Bool) (st u st' u' : ℕ) : Type 0 where
+  stays : g ≡ false → st' ≡ st → u' ≡ u → Turn g st u st' u'
+  taken : g ≡ false → st ≡ 0 → st' ≡ 1 → u' ≡ u → Turn g st u st' u'
+  gone : g ≡ true → st ≡ 1 → (last : Bool) → eqb u 65535 ≡ last → st' ≡ (if last then 2 else 0) → u' ≡ (if last then u else u + 1) → Turn g st u st' u'
 
--- what is given up
-gives-up : (st u : ℕ) (last : Bool) (x : ℕ) → st ≡ 1 → u ≤ 65535 → eqb u 65535 ≡ last → x ≡ (if last then 2 else 0) → lifeIn st u ≤ lifeIn x (if last then u else u + 1)
-gives-up st u true x e h l q = rw (e, q) (omega (arith, h))
-gives-up st u false x e h l q = rw (e, q) (omega arith)
+turn-life : (g : Bool) (st u st' u' : ℕ) → Turn g st u st' u' → u ≤ 65535 → lifeIn st u ≤ lifeIn st' u'
+turn-life g st u st' u' (stays n e f) h = rw (e, f) (omega arith)
+turn-life g st u st' u' (taken n e f q) h = rw (e, f, q) (omega arith)
+turn-life g st u st' u' (gone n e true l f q) h = rw (e, f) (omega (arith, h))
+turn-life g st u st' u' (gone n e false l f q) h = rw (e, f, q) (omega arith)
 
 takes-stands : (p : Place) → takesTask p ≡ true → stands p ≡ 0
 takes-stands Free e = refl
@@ -101,9 +107,6 @@ takes-object SpentObject e = absurd (false≢true e)
 takes-object (Queue q) e = absurd (false≢true e)
 takes-object (Mutex h) e = absurd (false≢true e)
 
-same-le : (a b : ℕ) → b ≡ a → a ≤ b
-same-le a b e = omega arith
-
 -- a number of a slot tells the slot and the use
 pub number-slot : (s u : ℕ) → s < 16 → (s + 16 * u) % 16 ≡ s
 number-slot s u h = omega arith
@@ -114,11 +117,6 @@ number-use s u h = omega arith
 takes-number : (before after : ℕ → ℕ) (us : List ℕ) (s : ℕ) → s < 16 → before s ≡ 2 * useIn us s → after s ≡ suc (2 * useIn us s) → Takes before after (numberIn us s)
 takes-number before after us s h a b =
     record { was = rw (number-slot s (useIn us s) h, number-use s (useIn us s) h) a; now = rw (number-slot s (useIn us s) h, number-use s (useIn us s) h) b }
-
--- what stays
-stays-grow : (k j : State) (us : Uses) → us ≡ k .uses → Stays k j → Grows k (withUses j us)
-stays-grow k j us e T true s = same-le _ _ (rw (e, T .tasks (task s)))
-stays-grow k j us e T false s = same-le _ _ (rw (e, T .objects (object s)))
 
 module _ (k : State) (S : Sound k) (n : ℕ) where
   -- ── the slot that is taken
@@ -140,12 +138,12 @@ module _ (k : State) (S : Sound k) (n : ℕ) where
     now-stands : (p : ℕ) → stands (taskAt (more p) new .place) ≡ 1
     now-stands p = ap (λ (x : Task). stands (x .place)) (at-same (k .tasks) new (readyAt p) (omega (arith, new-low, S .tables .task-slots)))
 
-    create-life : (p s : ℕ) → taskLife k s ≤ lifeIn (stands (taskAt (more p) (task s) .place)) (useIn (k .uses .tasks) s)
-    create-life p s = go (eqb s (new .0)) refl
+    create-turn : (p s : ℕ) → Turn false (standsIn true k s) (keptUse true k s) (stands (taskAt (more p) (task s) .place)) (keptUse true k s)
+    create-turn p s = go (eqb s (new .0)) refl
       where
-        go : (b : Bool) → eqb s (new .0) ≡ b → taskLife k s ≤ lifeIn (stands (taskAt (more p) (task s) .place)) (useIn (k .uses .tasks) s)
-        go true q = rw (eqb-true s (new .0) q, now-stands p) (one-more (stands (taskAt (k .tasks) new .place)) (useIn (k .uses .tasks) (new .0)) new-stands)
-        go false q = rw (at-other (k .tasks) new (readyAt p) (task s) (eqb-false s (new .0) q)) (omega arith)
+        go : (b : Bool) → eqb s (new .0) ≡ b → Turn false (standsIn true k s) (keptUse true k s) (stands (taskAt (more p) (task s) .place)) (keptUse true k s)
+        go true q = rw (eqb-true s (new .0) q) (taken refl new-stands (now-stands p) refl)
+        go false q = stays refl (ap (λ (x : Task). stands (x .place)) (at-other (k .tasks) new (readyAt p) (task s) (eqb-false s (new .0) q))) refl
 
   module _ (e : eqb (freeObject (k .objects)) 16 ≡ false) (y : Kind) (made : standsAs y ≡ 1) where
     abbrev slot : ObjSlot
@@ -162,12 +160,12 @@ module _ (k : State) (S : Sound k) (n : ℕ) where
     slot-now : standsAs (kindAt (kinds (k .objects) slot y) slot) ≡ 1
     slot-now = ap standsAs (kind-same (k .objects) slot y (omega (arith, slot-low, S .tables .object-slots))) ∙ made
 
-    make-life : (s : ℕ) → objectLife k s ≤ lifeIn (standsAs (kindAt (kinds (k .objects) slot y) (object s))) (useIn (k .uses .objects) s)
-    make-life s = go (eqb s (slot .0)) refl
+    make-turn : (s : ℕ) → Turn false (standsIn false k s) (keptUse false k s) (standsAs (kindAt (kinds (k .objects) slot y) (object s))) (keptUse false k s)
+    make-turn s = go (eqb s (slot .0)) refl
       where
-        go : (b : Bool) → eqb s (slot .0) ≡ b → objectLife k s ≤ lifeIn (standsAs (kindAt (kinds (k .objects) slot y) (object s))) (useIn (k .uses .objects) s)
-        go true q = rw (eqb-true s (slot .0) q, slot-now) (one-more (standsAs (kindAt (k .objects) slot)) (useIn (k .uses .objects) (slot .0)) slot-stands)
-        go false q = rw (kind-other (k .objects) slot y (object s) (eqb-false s (slot .0) q)) (omega arith)
+        go : (b : Bool) → eqb s (slot .0) ≡ b → Turn false (standsIn false k s) (keptUse false k s) (standsAs (kindAt (kinds (k .objects) slot y) (object s))) (keptUse false k s)
+        go true q = rw (eqb-true s (slot .0) q) (taken refl slot-stands slot-now refl)
+        go false q = stays refl (ap standsAs (kind-other (k .objects) slot y (object s) (eqb-false s (slot .0) q))) refl
 
   -- ── the slot that is given up
   module _ (t : TaskSlot) (there : isFree (taskAt (k .tasks) t .place) ≡ false) where
@@ -189,15 +187,16 @@ module _ (k : State) (S : Sound k) (n : ℕ) where
         ap (λ (x : Task). stands (x .place)) (at-same (k .tasks) t (if last then spentTask else freeTask) (omega (arith, low, S .tables .task-slots)))
         ∙ left-stands last
 
-    delete-life : (s : ℕ) → taskLife k s ≤ lifeIn (stands (taskAt fewer (task s) .place)) (useIn (givenUp (k .uses .tasks) (t .0)) s)
-    delete-life s = go (eqb s (t .0)) refl
+    delete-turn : (s : ℕ) → Turn (eqb (t .0) s) (standsIn true k s) (keptUse true k s) (stands (taskAt fewer (task s) .place)) (useIn (givenUp (k .uses .tasks) (t .0)) s)
+    delete-turn s = go (eqb (t .0) s) refl
       where
-        go : (b : Bool) → eqb s (t .0) ≡ b → taskLife k s ≤ lifeIn (stands (taskAt fewer (task s) .place)) (useIn (givenUp (k .uses .tasks) (t .0)) s)
+        go : (b : Bool) → eqb (t .0) s ≡ b → Turn b (standsIn true k s) (keptUse true k s) (stands (taskAt fewer (task s) .place)) (useIn (givenUp (k .uses .tasks) (t .0)) s)
         go true q =
-            rw (eqb-true s (t .0) q, getD-set-same (k .uses .tasks) (t .0) (nextUse (useIn (k .uses .tasks) (t .0))) 0 (omega (arith, low, S .uses .task-slots)))
-            (gives-up (stands (taskAt (k .tasks) t .place)) (useIn (k .uses .tasks) (t .0)) last (stands (taskAt fewer t .place)) (there-stands (taskAt (k .tasks) t .place) there) (S .uses .tasks t) refl gone-stands)
+            rw (sym (eqb-true (t .0) s q))
+            (gone refl (there-stands (taskAt (k .tasks) t .place) there) last refl gone-stands (getD-set-same (k .uses .tasks) (t .0) (nextUse (useIn (k .uses .tasks) (t .0))) 0 (omega (arith, low, S .uses .task-slots))))
         go false q =
-            rw (at-other (k .tasks) t (if last then spentTask else freeTask) (task s) (eqb-false s (t .0) q), up-other (k .uses .tasks) (t .0) s (eqb-false s (t .0) q)) (omega arith)
+            let d : s ≡ t .0 → ⊥ = λ e. eqb-false (t .0) s q (sym e) in
+            stays refl (ap (λ (x : Task). stands (x .place)) (at-other (k .tasks) t (if last then spentTask else freeTask) (task s) d)) (up-other (k .uses .tasks) (t .0) s d)
 
   module _ (o : ObjSlot) (there : isUnused (kindAt (k .objects) o) ≡ false) where
     abbrev ends : Bool
@@ -216,15 +215,16 @@ module _ (k : State) (S : Sound k) (n : ℕ) where
     gone-as : standsAs (kindAt others o) ≡ (if ends then 2 else 0)
     gone-as = ap standsAs (kind-same (k .objects) o (if ends then SpentObject else Unused) (omega (arith, o-low, S .tables .object-slots))) ∙ left-as ends
 
-    remove-life : (s : ℕ) → objectLife k s ≤ lifeIn (standsAs (kindAt others (object s))) (useIn (givenUp (k .uses .objects) (o .0)) s)
-    remove-life s = go (eqb s (o .0)) refl
+    remove-turn : (s : ℕ) → Turn (eqb (o .0) s) (standsIn false k s) (keptUse false k s) (standsAs (kindAt others (object s))) (useIn (givenUp (k .uses .objects) (o .0)) s)
+    remove-turn s = go (eqb (o .0) s) refl
       where
-        go : (b : Bool) → eqb s (o .0) ≡ b → objectLife k s ≤ lifeIn (standsAs (kindAt others (object s))) (useIn (givenUp (k .uses .objects) (o .0)) s)
+        go : (b : Bool) → eqb (o .0) s ≡ b → Turn b (standsIn false k s) (keptUse false k s) (standsAs (kindAt others (object s))) (useIn (givenUp (k .uses .objects) (o .0)) s)
         go true q =
-            rw (eqb-true s (o .0) q, getD-set-same (k .uses .objects) (o .0) (nextUse (useIn (k .uses .objects) (o .0))) 0 (omega (arith, o-low, S .uses .object-slots)))
-            (gives-up (standsAs (kindAt (k .objects) o)) (useIn (k .uses .objects) (o .0)) ends (standsAs (kindAt others o)) (used-stands (kindAt (k .objects) o) there) (S .uses .objects o) refl gone-as)
+            rw (sym (eqb-true (o .0) s q))
+            (gone refl (used-stands (kindAt (k .objects) o) there) ends refl gone-as (getD-set-same (k .uses .objects) (o .0) (nextUse (useIn (k .uses .objects) (o .0))) 0 (omega (arith, o-low, S .uses .object-slots))))
         go false q =
-            rw (kind-other (k .objects) o (if ends then SpentObject else Unused) (object s) (eqb-false s (o .0) q), up-other (k .uses .objects) (o .0) s (eqb-false s (o .0) q)) (omega arith)
+            let d : s ≡ o .0 → ⊥ = λ e. eqb-false (o .0) s q (sym e) in
+            stays refl (ap standsAs (kind-other (k .objects) o (if ends then SpentObject else Unused) (object s) d)) (up-other (k .uses .objects) (o .0) s d)
 
 -- ── every call
 -- after the effect, with the uses that go with it
@@ -235,45 +235,63 @@ next k c = withUses (effect k (asked (k .uses) c)) (usesAfter (k .uses) (asked (
 abbrev ring : ℕ → ℕ → Ring
 ring c z = record { capacity = c; size = z; first = 0; count = 0 }
 
-pub effect-grows : (k : State) → Sound k → (n : ℕ) (c : Call) → Passed k (asked (k .uses) c) n → Grows k (next k c)
+-- the call gives up the slot s
+abbrev pub givesUp : Bool → Asked → ℕ → Bool
+givesUp true a s = is 2 a && eqb (a .task .0) s
+givesUp false a s = is 12 a && eqb (a .object .0) s
+
+unturned : (k j : State) (us : Uses) (a : Asked) → Stays k j → us ≡ k .uses → is 2 a ≡ false → is 12 a ≡ false → (b : Bool) (s : ℕ)
+    → Turn (givesUp b a s) (standsIn b k s) (keptUse b k s) (standsIn b (withUses j us) s) (keptUse b (withUses j us) s)
+unturned k j us a T e f g true s = stays (rw f) (T .tasks (task s)) (ap (λ (v : Uses). useIn (v .tasks) s) e)
+unturned k j us a T e f g false s = stays (rw g) (T .objects (object s)) (ap (λ (v : Uses). useIn (v .objects) s) e)
+
+pub effect-turns : (k : State) → Sound k → (n : ℕ) (c : Call) → Passed k (asked (k .uses) c) n → (b : Bool) (s : ℕ)
+    → Turn (givesUp b (asked (k .uses) c) s) (standsIn b k s) (keptUse b k s) (standsIn b (next k c) s) (keptUse b (next k c) s)
 unfolding effect asked usesAfter namesNone noneFree created deleted queueMade mutexMade removed toTail leaves
-effect-grows k S n (Create p) P true s = create-life k S n (P .slot) p s
-effect-grows k S n (Create p) P false s = omega arith
-effect-grows k S n (Delete t) P true s = delete-life k S n (taskSlot (k .uses) t) (P .named) s
-effect-grows k S n (Delete t) P false s = omega arith
-effect-grows k S n (Suspend t) P b s = stays-grow k _ (k .uses) refl (effect-stays k S n (Suspend t) refl P) b s
-effect-grows k S n (Resume t) P b s = stays-grow k _ (k .uses) refl (effect-stays k S n (Resume t) refl P) b s
-effect-grows k S n (SetPriority t p) P b s = stays-grow k _ (k .uses) refl (effect-stays k S n (SetPriority t p) refl P) b s
-effect-grows k S n (Delay d) P b s = stays-grow k _ (k .uses) refl (effect-stays k S n (Delay d) refl P) b s
-effect-grows k S n Yield P b s = stays-grow k _ (k .uses) refl (effect-stays k S n Yield refl P) b s
-effect-grows k S n Hold P b s = stays-grow k _ (k .uses) refl (effect-stays k S n Hold refl P) b s
-effect-grows k S n Release P b s = stays-grow k _ (k .uses) refl (effect-stays k S n Release refl P) b s
-effect-grows k S n (MakeQueue c z) P true s = omega arith
-effect-grows k S n (MakeQueue c z) P false s = make-life k S n (P .slot) (Queue (ring c z)) refl s
-effect-grows k S n MakeMutex P true s = omega arith
-effect-grows k S n MakeMutex P false s = make-life k S n (P .slot) (Mutex Nobody) refl s
-effect-grows k S n (Remove o) P true s = omega arith
-effect-grows k S n (Remove o) P false s = remove-life k S n (objSlot (k .uses) o) (P .named) s
-effect-grows k S n (Send o w) P b s = stays-grow k _ (k .uses) refl (effect-stays k S n (Send o w) refl P) b s
-effect-grows k S n (Receive o w) P b s = stays-grow k _ (k .uses) refl (effect-stays k S n (Receive o w) refl P) b s
-effect-grows k S n (Take o w) P b s = stays-grow k _ (k .uses) refl (effect-stays k S n (Take o w) refl P) b s
-effect-grows k S n (Give o) P b s = stays-grow k _ (k .uses) refl (effect-stays k S n (Give o) refl P) b s
-effect-grows k S n Tick P b s = stays-grow k _ (k .uses) refl (effect-stays k S n Tick refl P) b s
+effect-turns k S n (Create p) P true s = create-turn k S n (P .slot) p s
+effect-turns k S n (Create p) P false s = stays refl refl refl
+effect-turns k S n (Delete t) P true s = delete-turn k S n (taskSlot (k .uses) t) (P .named) s
+effect-turns k S n (Delete t) P false s = stays refl refl refl
+effect-turns k S n (Suspend t) P b s = unturned k _ _ _ (effect-stays k S n (Suspend t) refl P) refl refl refl b s
+effect-turns k S n (Resume t) P b s = unturned k _ _ _ (effect-stays k S n (Resume t) refl P) refl refl refl b s
+effect-turns k S n (SetPriority t p) P b s = unturned k _ _ _ (effect-stays k S n (SetPriority t p) refl P) refl refl refl b s
+effect-turns k S n (Delay d) P b s = unturned k _ _ _ (effect-stays k S n (Delay d) refl P) refl refl refl b s
+effect-turns k S n Yield P b s = unturned k _ _ _ (effect-stays k S n Yield refl P) refl refl refl b s
+effect-turns k S n Hold P b s = unturned k _ _ _ (effect-stays k S n Hold refl P) refl refl refl b s
+effect-turns k S n Release P b s = unturned k _ _ _ (effect-stays k S n Release refl P) refl refl refl b s
+effect-turns k S n (MakeQueue c z) P true s = stays refl refl refl
+effect-turns k S n (MakeQueue c z) P false s = make-turn k S n (P .slot) (Queue (ring c z)) refl s
+effect-turns k S n MakeMutex P true s = stays refl refl refl
+effect-turns k S n MakeMutex P false s = make-turn k S n (P .slot) (Mutex Nobody) refl s
+effect-turns k S n (Remove o) P true s = stays refl refl refl
+effect-turns k S n (Remove o) P false s = remove-turn k S n (objSlot (k .uses) o) (P .named) s
+effect-turns k S n (Send o w) P b s = unturned k _ _ _ (effect-stays k S n (Send o w) refl P) refl refl refl b s
+effect-turns k S n (Receive o w) P b s = unturned k _ _ _ (effect-stays k S n (Receive o w) refl P) refl refl refl b s
+effect-turns k S n (Take o w) P b s = unturned k _ _ _ (effect-stays k S n (Take o w) refl P) refl refl refl b s
+effect-turns k S n (Give o) P b s = unturned k _ _ _ (effect-stays k S n (Give o) refl P) refl refl refl b s
+effect-turns k S n Tick P b s = unturned k _ _ _ (effect-stays k S n Tick refl P) refl refl refl b s
+
+pub effect-grows : (k : State) → Sound k → (n : ℕ) (c : Call) → Passed k (asked (k .uses) c) n → Grows k (next k c)
+effect-grows k S n c P b s = turn-life _ _ _ _ _ (effect-turns k S n c P b s) (range b)
+  where
+    range : (b : Bool) → keptUse b k s ≤ 65535
+    range true = S .uses .tasks (task s)
+    range false = S .uses .objects (object s)
 
 -- a create or make takes the slot of the number that it answers
 pub effect-takes : (k : State) → Sound k → (n : ℕ) (c : Call) → Passed k (asked (k .uses) c) n → makes (asked (k .uses) c) ≡ true
     → let a = asked (k .uses) c in Takes (lifeOf (is 1 a) k) (lifeOf (is 1 a) (next k c)) (newNumber (k .uses) a (newSlot k a))
 unfolding effect asked usesAfter noneFree created queueMade mutexMade toTail
 effect-takes k S n (Create p) P x =
-    takes-number (taskLife k) (taskLife (next k (Create p))) (k .uses .tasks) (freeSlot (k .tasks)) (new-low k S n (P .slot))
+    takes-number (lifeOf true k) (lifeOf true (next k (Create p))) (k .uses .tasks) (freeSlot (k .tasks)) (new-low k S n (P .slot))
     (ap (λ i. lifeIn i (useIn (k .uses .tasks) (freeSlot (k .tasks)))) (new-stands k S n (P .slot)))
     (ap (λ i. lifeIn i (useIn (k .uses .tasks) (freeSlot (k .tasks)))) (now-stands k S n (P .slot) p))
 effect-takes k S n (MakeQueue c z) P x =
-    takes-number (objectLife k) (objectLife (next k (MakeQueue c z))) (k .uses .objects) (freeObject (k .objects)) (slot-low k S n (P .slot) (Queue (ring c z)) refl)
+    takes-number (lifeOf false k) (lifeOf false (next k (MakeQueue c z))) (k .uses .objects) (freeObject (k .objects)) (slot-low k S n (P .slot) (Queue (ring c z)) refl)
     (ap (λ i. lifeIn i (useIn (k .uses .objects) (freeObject (k .objects)))) (slot-stands k S n (P .slot) (Queue (ring c z)) refl))
     (ap (λ i. lifeIn i (useIn (k .uses .objects) (freeObject (k .objects)))) (slot-now k S n (P .slot) (Queue (ring c z)) refl))
 effect-takes k S n MakeMutex P x =
-    takes-number (objectLife k) (objectLife (next k MakeMutex)) (k .uses .objects) (freeObject (k .objects)) (slot-low k S n (P .slot) (Mutex Nobody) refl)
+    takes-number (lifeOf false k) (lifeOf false (next k MakeMutex)) (k .uses .objects) (freeObject (k .objects)) (slot-low k S n (P .slot) (Mutex Nobody) refl)
     (ap (λ i. lifeIn i (useIn (k .uses .objects) (freeObject (k .objects)))) (slot-stands k S n (P .slot) (Mutex Nobody) refl))
     (ap (λ i. lifeIn i (useIn (k .uses .objects) (freeObject (k .objects)))) (slot-now k S n (P .slot) (Mutex Nobody) refl))
 effect-takes k S n (Delete t) P x = absurd (false≢true x)
@@ -291,12 +309,13 @@ effect-takes k S n (Take o w) P x = absurd (false≢true x)
 effect-takes k S n (Give o) P x = absurd (false≢true x)
 effect-takes k S n Tick P x = absurd (false≢true x)
 
--- choose changes who runs, and no life
-pub chosen-life : (b : Bool) (j : State) (us : Uses) (s : ℕ) → lifeOf b (withUses (chosen j) us) s ≡ lifeOf b (withUses j us) s
+-- choose changes who runs, and no slot: so neither what is made of what stands in it and its use
+pub chosen-slot : (f : ℕ → ℕ → ℕ) (b : Bool) (j : State) (us : Uses) (s : ℕ)
+    → f (standsIn b (withUses (chosen j) us) s) (keptUse b (withUses (chosen j) us) s) ≡ f (standsIn b (withUses j us) s) (keptUse b (withUses j us) s)
 unfolding chosen
-chosen-life b j us s = go b (eqb (j .hold) 0) (first j AllReady)
+chosen-slot f b j us s = go b (eqb (j .hold) 0) (first j AllReady)
   where
-    go : (b c : Bool) (l : List TaskSlot) → lifeOf b (withUses (if c then runsIf j l else j) us) s ≡ lifeOf b (withUses j us) s
+    go : (b c : Bool) (l : List TaskSlot) → let i = if c then runsIf j l else j in f (standsIn b (withUses i us) s) (keptUse b (withUses i us) s) ≡ f (standsIn b (withUses j us) s) (keptUse b (withUses j us) s)
     go true true [] = refl
     go true true (u ∷ l) = refl
     go true false l = refl

@@ -34,7 +34,7 @@ use Rattle.promises.specs.History.{after, reached}
 use Rattle.promises.proofs.Histories.{reached-sound}
 use Rattle.histories.specs.Types.{Task, State}
 use Rattle.histories.specs.Again.{namesTask, namesObject, momentFrom, isMade, answersMade, madeTask, madeObject}
-use Rattle.histories.proofs.Lives.{lifeOf, Grows, life-names, names-life, Takes, effect-grows, effect-takes, chosen-life}
+use Rattle.histories.proofs.Lives.{lifeIn, lifeOf, Grows, life-names, names-life, Takes, effect-grows, effect-takes, chosen-slot}
 
 -- ── a step
 module _ (k : State) (e : sound k ≡ true) (m : CallMade) where
@@ -57,7 +57,7 @@ module _ (k : State) (e : sound k ≡ true) (m : CallMade) where
   unfolding accepted
   step-grows =
       step-cases (λ d. Grows k (d .kernel))
-      (λ P b s. subst (λ x. lifeOf b k s ≤ x) (sym (chosen-life b (effect k a) (usesAfter (k .uses) a) s)) (effect-grows k (sound-says k e) (length (m .store)) (m .call) P b s))
+      (λ P b s. subst (λ x. lifeOf b k s ≤ x) (sym (chosen-slot lifeIn b (effect k a) (usesAfter (k .uses) a) s)) (effect-grows k (sound-says k e) (length (m .store)) (m .call) P b s))
       (λ b s. omega arith)
 
   step-takes : (n : ℕ) → makes a ≡ true → answersMade (momentFrom k m) n ≡ true → Takes (lifeOf (is 1 a) k) (lifeOf (is 1 a) (stepMade k [] m .kernel)) n
@@ -71,7 +71,7 @@ module _ (k : State) (e : sound k ≡ true) (m : CallMade) where
       taken P q =
           let T = effect-takes k (sound-says k e) (length (m .store)) (m .call) P x in
           subst (λ i. Takes (lifeOf (is 1 a) k) (lifeOf (is 1 a) (accepted k a (m .item) (m .store) .kernel)) i) q
-          (record { was = T .was; now = chosen-life (is 1 a) (effect k a) (usesAfter (k .uses) a) _ ∙ T .now })
+          (record { was = T .was; now = chosen-slot lifeIn (is 1 a) (effect k a) (usesAfter (k .uses) a) _ ∙ T .now })
 
 -- ── any calls
 grows-refl : (k : State) → Grows k k

@@ -4,3 +4,4 @@ pub mod Borrowed
 pub mod Tales
 pub mod Again
 pub mod ByFullNumber
+pub mod Uses
