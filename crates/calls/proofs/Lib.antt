@@ -1,3 +1,4 @@
 pub mod OneAnswer
 pub mod Ranges
 pub mod CallAgain
+pub mod Doors

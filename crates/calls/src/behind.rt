@@ -1,6 +1,7 @@
 // A call behind the door.
 ghost use mathlib.Core.Path.{_≡_};
-ghost use Rattle.calls.specs.Door.{lastIn};
+ghost use Rattle.numbers.specs.Numbers.{task, object};
+ghost use Rattle.calls.specs.Door.{slotIn, lastIn};
 ghost use Rattle.calls.specs.Behind.{asked, nothing, onTask, onObject};
 ghost use Rattle.calls.specs.Words.{unnamed};
 use crate::Asked;
@@ -44,15 +45,16 @@ impl Asked {
         }
     }
 
-    fn on_task(number: u8, t: TaskSlot, uses: [u16; 16], priority: u32) -> Asked
-        ensures { λ r. ⌜ r ≡ onTask number t (lastIn uses (t .0)) priority ⌝ }
+    fn on_task(number: u8, n: u32, uses: [u16; 16], priority: u32) -> Asked
+        ensures { λ r. ⌜ r ≡ onTask number (task (slotIn uses n)) (lastIn uses (slotIn uses n)) priority ⌝ }
     {
+        let t = TaskNo(n).slot(uses);
         Asked {
             number,
             names: Names::Task,
             task: t,
             object: ObjSlot(16),
-            last: door::last(uses, t.0),
+            last: door::last(n, t.0),
             priority,
             ticks: 0,
             capacity: 1,
@@ -61,15 +63,16 @@ impl Asked {
         }
     }
 
-    fn on_object(number: u8, names: Names, o: ObjSlot, uses: [u16; 16], wait: u32) -> Asked
-        ensures { λ r. ⌜ r ≡ onObject number names o (lastIn uses (o .0)) wait ⌝ }
+    fn on_object(number: u8, names: Names, n: u32, uses: [u16; 16], wait: u32) -> Asked
+        ensures { λ r. ⌜ r ≡ onObject number names (object (slotIn uses n)) (lastIn uses (slotIn uses n)) wait ⌝ }
     {
+        let o = ObjNo(n).slot(uses);
         Asked {
             number,
             names,
             task: TaskSlot(16),
             object: o,
-            last: door::last(uses, o.0),
+            last: door::last(n, o.0),
             priority: 0,
             ticks: 0,
             capacity: 1,
@@ -92,28 +95,10 @@ impl Call {
         let objects = uses.objects;
         match names {
             Names::Nothing => Asked::unnamed(f.number, a, b),
-            Names::Task => Asked::on_task(f.number, TaskNo(a).slot(tasks), tasks, b),
-            Names::Object => Asked::on_object(
-                f.number,
-                Names::Object,
-                ObjNo(a).slot(objects),
-                objects,
-                b,
-            ),
-            Names::Queue => Asked::on_object(
-                f.number,
-                Names::Queue,
-                ObjNo(a).slot(objects),
-                objects,
-                b,
-            ),
-            Names::Mutex => Asked::on_object(
-                f.number,
-                Names::Mutex,
-                ObjNo(a).slot(objects),
-                objects,
-                b,
-            ),
+            Names::Task => Asked::on_task(f.number, a, tasks, b),
+            Names::Object => Asked::on_object(f.number, Names::Object, a, objects, b),
+            Names::Queue => Asked::on_object(f.number, Names::Queue, a, objects, b),
+            Names::Mutex => Asked::on_object(f.number, Names::Mutex, a, objects, b),
         }
     }
 }

@@ -1,10 +1,11 @@
 // The door: a number that a caller writes names the slot that has it now, or none; and a slot's number is what a caller reads.
-ghost use Prim.Native.Nat.{_+_, _*_};
+ghost use Prim.Native.Nat.{_+_, _*_, _/_};
 ghost use mathlib.Core.Path.{_≡_};
+ghost use mathlib.Core.Bool.{_&&_};
 ghost use Rattle.numbers.specs.Numbers.{task, object};
 ghost use Rattle.calls.specs.Named.{taskOf, objectOf};
-ghost use Rattle.calls.specs.Door.{slotIn, numberIn, lastIn, usesInRange, freshUses, usesFine};
-ghost use lib.Dec.{leb};
+ghost use Rattle.calls.specs.Door.{slotIn, numberIn, nextUse, givenUp, usesInRange, freshUses, usesFine, withoutTask, withoutObject};
+ghost use lib.Dec.{eqb, ltb, leb};
 use crate::ObjNo;
 use crate::TaskNo;
 use crate::Uses;
@@ -39,14 +40,29 @@ fn number(uses: [u16; 16], slot: u8) -> u32
     }
 }
 
-pub(crate) fn last(uses: [u16; 16], slot: u8) -> bool
-    ensures { λ r. ⌜ r ≡ lastIn uses slot ⌝ }
+// Whether `slot`, which the number `n` names, stands at its last use: what it names has the slot's use.
+pub(crate) fn last(n: u32, slot: u8) -> bool
+    ensures { λ r. ⌜ r ≡ (ltb slot 16 && eqb (n / 16) 65535) ⌝ }
+{
+    lists::both(slot < 16, n / 16 == 65535)
+}
+
+// A slot at its last use is spent, which its table says.
+fn next_use(times: u16) -> u16
+    ensures { λ r. ⌜ r ≡ nextUse times ⌝ }
+{
+    if times == 65535 { times } else { times + 1 }
+}
+
+fn given_up(uses: [u16; 16], slot: usize) -> [u16; 16]
+    ensures { λ r. ⌜ r ≡ givenUp uses slot ⌝ }
 {
     if slot < 16 {
-        uses[slot as usize] == 65535
-    } else {
-        false
+        let mut next = uses;
+        next[slot] = next_use(uses[slot]);
+        return next;
     }
+    uses
 }
 
 // What the type says already.
@@ -105,6 +121,29 @@ impl Uses {
         Uses {
             tasks: zeros,
             objects: zeros,
+        }
+    }
+
+    // What stands in the slot is given up.
+    pub fn without_task(self, t: TaskSlot) -> Uses
+        ensures { λ r. ⌜ r ≡ withoutTask self t ⌝ }
+    {
+        let tasks = self.tasks;
+        let objects = self.objects;
+        Uses {
+            tasks: given_up(tasks, t.slot()),
+            objects,
+        }
+    }
+
+    pub fn without_object(self, o: ObjSlot) -> Uses
+        ensures { λ r. ⌜ r ≡ withoutObject self o ⌝ }
+    {
+        let tasks = self.tasks;
+        let objects = self.objects;
+        Uses {
+            tasks,
+            objects: given_up(objects, o.slot()),
         }
     }
 

@@ -1,5 +1,4 @@
 // The kernel: a value that goes in with a call, and comes back with the next state, the running task and an answer.
-mod doors;
 mod effects;
 mod lines;
 mod loans;

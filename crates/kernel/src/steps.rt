@@ -1,22 +1,50 @@
 // The step: any kernel value, any call, an item and a store of whatever length.
 ghost use mathlib.Core.Path.{_≡_};
 ghost use mathlib.Core.Bool.{true};
+ghost use Rattle.calls.specs.Door.{taskNo};
 ghost use Rattle.calls.specs.Behind.{asked};
 ghost use Rattle.calls.specs.Said.{said};
 ghost use Rattle.rules.specs.Sound.{sound};
-ghost use Rattle.rules.specs.Steps.{newNumber};
+ghost use Rattle.rules.specs.Steps.{newNumber, usesAfter};
 ghost use Rattle.kernel.specs.Stands.{kernelOf, shown};
 ghost use Rattle.kernel.specs.Does.{Reads, answerOf};
 ghost use Rattle.kernel.specs.Promises.{SoundSteps, Steps};
 use crate::Core;
 use crate::Kernel;
 use crate::Step;
-use crate::doors;
 use calls::Answer;
 use calls::Asked;
 use calls::Call;
+use calls::ObjNo;
+use calls::TaskNo;
 use calls::Uses;
+use numbers::ObjSlot;
 use numbers::TaskSlot;
+
+// The number of the slot `n` that a create or make took.
+fn new_number(uses: Uses, a: Asked, n: u8) -> u32
+    ensures { λ r. ⌜ r ≡ newNumber uses a n ⌝ }
+{
+    if a.number == 1 {
+        let tasks = uses.tasks;
+        return TaskNo::of_slot(tasks, TaskSlot::of(n)).number();
+    }
+    let objects = uses.objects;
+    ObjNo::of_slot(objects, ObjSlot::of(n)).number()
+}
+
+// A delete or remove gives its slot up; no other call changes the uses.
+fn uses_after(uses: Uses, a: Asked) -> Uses
+    ensures { λ r. ⌜ r ≡ usesAfter uses a ⌝ }
+{
+    if a.number == 2 {
+        return uses.without_task(a.task);
+    }
+    if a.number == 12 {
+        return uses.without_object(a.object);
+    }
+    uses
+}
 
 impl Core {
     // A create or make answers with the number of its slot `n`; any other call waiting, exactly if the caller is now delayed or waits on an object.
@@ -24,7 +52,7 @@ impl Core {
         ensures { λ r. ⌜ Reads self (answerOf a (newNumber uses a n) caller) (said r) ⌝ }
     {
         if rows::makes(a) {
-            return Answer::Made(doors::new_number(uses, a, n));
+            return Answer::Made(new_number(uses, a, n));
         }
         let x = self.task(caller);
         let p = x.place;
@@ -37,6 +65,14 @@ impl Core {
 }
 
 impl Kernel {
+    // The number of the task that runs.
+    pub fn runs(self) -> TaskNo
+        ensures { λ r. ⌜ r ≡ taskNo (self .uses) (self .core .running) ⌝ }
+    {
+        let tasks = self.uses.tasks;
+        TaskNo::of_slot(tasks, self.core.running)
+    }
+
     // The step of a kernel that is known to be sound: what a session of many calls uses.
     pub(crate) fn step_sound(mut self, call: Call, item: &[u8], store: &mut [u8]) -> Step
         requires { ⌜ (sound (shown self) ≡ true) × (self ≡ kernelOf (shown self)) ⌝ }
@@ -55,7 +91,7 @@ impl Kernel {
         let next = self.core.served(a, s.new, item, store);
         let answer = next.answered(a, u, self.uses, s.new);
         self.core = next.chosen();
-        self.uses = doors::uses_after(self.uses, a);
+        self.uses = uses_after(self.uses, a);
         Step {
             kernel: self,
             answer,

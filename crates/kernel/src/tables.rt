@@ -3,9 +3,11 @@ ghost use mathlib.Core.Path.{_≡_};
 ghost use Rattle.slots.specs.Values.{taskAt, placed, ranked};
 ghost use Rattle.slots.specs.Kinds.{kindAt};
 ghost use Rattle.rules.specs.Tables.{fresh, holds, withTask, withObject, withTick, withHold};
-ghost use Rattle.kernel.specs.Stands.{coreOf};
+ghost use Rattle.kernel.specs.Stands.{coreOf, kernelOf};
 ghost use Rattle.kernel.specs.Does.{Reads, Does};
 use crate::Core;
+use crate::Kernel;
+use calls::Uses;
 use numbers::ObjSlot;
 use numbers::TaskSlot;
 use objects::Objects;
@@ -91,5 +93,17 @@ impl Core {
         ensures { λ r. ⌜ Reads self (λ s. holds (s .objects) t) r ⌝ }
     {
         self.objects.holds(t)
+    }
+}
+
+impl Kernel {
+    // Idle alone, tick 0, hold 0, no objects, nothing given up yet.
+    pub fn fresh() -> Kernel
+        ensures { λ r. ⌜ r ≡ kernelOf fresh ⌝ }
+    {
+        Kernel {
+            core: Core::fresh(),
+            uses: Uses::fresh(),
+        }
     }
 }

@@ -3,8 +3,8 @@ use native.Mathlib.Omega.{arith}
 use lib.ListN.{length, set}
 use lib.Seq.{set-out}
 use borrow.Author.Needs.{needs}
-use Rattle.kernel.proofs.doors.given_up.Statement.{statement}
-use Rattle.kernel.proofs.doors.given_up.Tie as tie
+use Rattle.calls.proofs.door.given_up.Statement.{statement}
+use Rattle.calls.proofs.door.given_up.Tie as tie
 
 returns : tie.Need-returns
 returns c = let a = c .before .before .args in ap (set (a .t1) (a .slot)) (c .next-use .ensures)

@@ -1,8 +1,8 @@
 use mathlib.Core.Path.{_∙_}
 use borrow.Author.Needs.{needs}
 use borrow.Author.Tests.{ne-eqb}
-use Rattle.kernel.proofs.doors.new_number.Statement.{statement}
-use Rattle.kernel.proofs.doors.new_number.Tie as tie
+use Rattle.kernel.proofs.steps.new_number.Statement.{statement}
+use Rattle.kernel.proofs.steps.new_number.Tie as tie
 
 returns : tie.Need-returns
 returns c =

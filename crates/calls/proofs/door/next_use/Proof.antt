@@ -1,7 +1,7 @@
 use native.Mathlib.Omega.{arith}
 use borrow.Author.Tests.{eq-eqb, ne-eqb}
-use Rattle.kernel.proofs.doors.next_use.Statement.{statement}
-use Rattle.kernel.proofs.doors.next_use.Tie as tie
+use Rattle.calls.proofs.door.next_use.Statement.{statement}
+use Rattle.calls.proofs.door.next_use.Tie as tie
 
 add-result : tie.Need-add-result
 add-result c = omega (arith, c .if1 .left)

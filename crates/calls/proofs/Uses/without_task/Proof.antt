@@ -1,0 +1,9 @@
+use borrow.Author.Needs.{needs}
+use Rattle.calls.proofs.Uses.without_task.Statement.{statement}
+use Rattle.calls.proofs.Uses.without_task.Tie as tie
+
+returns : tie.Need-returns
+returns c = rw (c .given-up .ensures, c .before .slot .ensures)
+
+pub without-task-spec : {M : Type 1} → statement M
+without-task-spec = tie.close (tie.spec (λ c κs. search needs) (λ c κs. search needs) returns)
