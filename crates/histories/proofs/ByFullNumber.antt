@@ -120,7 +120,8 @@ unfolding effect asked usesAfter
 use-kept k S i t (Create p) P f = refl
 use-kept k S i t (Delete u) P f =
     let old = taskSlot (k .uses) u in
-    that-or-other old t (λ (v : TaskSlot). isFree (taskAt (deleted k old (lastIn (k .uses .tasks) (old .0)) .tasks) v .place) ≡ false → useIn (givenUp (k .uses .tasks) (old .0)) (v .0) ≡ useIn (k .uses .tasks) (v .0))
+    that-or-other old t (λ (v : TaskSlot). isFree (taskAt (deleted k old (lastIn (k .uses .tasks) (old .0)) .tasks) v .place) ≡ false
+    → useIn (givenUp (k .uses .tasks) (old .0)) (v .0) ≡ useIn (k .uses .tasks) (v .0))
     (λ g. absurd (false≢true (sym g ∙ now-gone k S i (says done 0) u P)))
     (λ d g. up-other (k .uses .tasks) (old .0) (t .0) (λ q. d (sym q)))
     f
@@ -154,9 +155,12 @@ module _ (k : State) (S : Sound k) (i p : ℕ) (P : Passed k (asked (k .uses) (C
   unfolding asked
   create-same t h =
       that-or-other new t
-      (λ (v : TaskSlot). n ≡ numberIn (k .uses .tasks) (v .0) → isFree (taskAt (created k p .tasks) v .place) ≡ false → eqb (numberIn (k .uses .tasks) (freeSlot (k .tasks))) n ≡ not (not (isFree (taskAt (k .tasks) v .place))))
+      (λ (v : TaskSlot). n ≡ numberIn (k .uses .tasks) (v .0) → isFree (taskAt (created k p .tasks) v .place) ≡ false
+      → eqb (numberIn (k .uses .tasks) (freeSlot (k .tasks))) n ≡ not (not (isFree (taskAt (k .tasks) v .place))))
       (λ e f. eq-eqb (numberIn (k .uses .tasks) (freeSlot (k .tasks))) n (sym e) ∙ sym (ap (λ b. not (not b)) (is-free k S i p P)))
-      (λ d e f. ne-eqb (numberIn (k .uses .tasks) (freeSlot (k .tasks))) n (λ q. d (sym (number-slot-in (k .uses .tasks) (freeSlot (k .tasks)) new-low) ∙ number-names (k .uses .tasks) (t .0) _ h (q ∙ e))) ∙ sym (ap (λ b. not (not b)) (sym (others k S i (says done 0) p P t d .there) ∙ f)))
+      (λ d e f. ne-eqb (numberIn (k .uses .tasks) (freeSlot (k .tasks))) n
+      (λ q. d (sym (number-slot-in (k .uses .tasks) (freeSlot (k .tasks)) new-low) ∙ number-names (k .uses .tasks) (t .0) _ h (q ∙ e)))
+      ∙ sym (ap (λ b. not (not b)) (sym (others k S i (says done 0) p P t d .there) ∙ f)))
 
 created-same : (k : State) → Sound k → (i : ℕ) (t : TaskSlot) (n : ℕ) → t .0 < 16 → n ≡ numberIn (k .uses .tasks) (t .0) → (j : State) (c : Call) → Passed k (asked (k .uses) c) i
     → isFree (taskAt (effect k (asked (k .uses) c) .tasks) t .place) ≡ false
@@ -212,7 +216,8 @@ module _ (k : State) (e : sound k ≡ true) (s : List ℕ) (m : CallMade) (t : T
         slot = number-names (k .uses .tasks) (t .0) n low num;
         given =
             given-same _ t n
-            (created-same k (sound-says k e) (length (m .store)) t n low num (chosen (effect k a)) (m .call) P g ∙ sym (ap (λ b. is 1 a && (not b && not (not (isFree (taskAt (k .tasks) t .place))))) f))
+            (created-same k (sound-says k e) (length (m .store)) t n low num (chosen (effect k a)) (m .call) P g
+            ∙ sym (ap (λ b. is 1 a && (not b && not (not (isFree (taskAt (k .tasks) t .place))))) f))
             (changed-same (k .uses) t n low num _ (m .call));
       }
 
@@ -284,7 +289,8 @@ module _ (k : State) (past : List (Moment CallMade)) (s : List ℕ) (m : CallMad
         ∙ go (hasMutex k t) refl
       where
         go : (b : Bool) → hasMutex k t ≡ b
-            → (if b then givenTo n now ++ (lentAt t now ++ countedSinceOf n past) else level (k .tasks) t ∷ []) ≡ (if b then givenAt t now ++ (lentAt t now ++ countedSince t past) else level (k .tasks) t ∷ [])
+            → (if b then givenTo n now ++ (lentAt t now ++ countedSinceOf n past) else level (k .tasks) t ∷ [])
+            ≡ (if b then givenAt t now ++ (lentAt t now ++ countedSince t past) else level (k .tasks) t ∷ [])
         go true q =
             ap (λ (g : List ℕ). g ++ (lentAt t now ++ countedSinceOf n past)) (alike .given)
             ∙ ap (λ (c : List ℕ). givenAt t now ++ (lentAt t now ++ c))

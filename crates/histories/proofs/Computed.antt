@@ -51,11 +51,11 @@ pub record TalesFit : Type 0 where
 pub tales-fit : TalesFit
 unfolding trace shownAfter twoGives setWithLoan timeRunsOut handedWithWaiter lendsBorrowed refusedChange slotUsedAgain tasksBelow largest givenAt
     lastGiven lentAt countedSince due every allBelow foldl upTo index any kept asked ordered without count tidy putAt created deleted suspended
-    resumed yielded delayed queueMade mutexMade removed taken handedOn given effect itemAt outlet sent storeSent received storeReceived line
-    those highest leader first chosen toTail toHead leaves moved movedIf prioritized newPriority lent ownAgain outOfRange namesNone wrongSize
-    notForIdle notWithHold noneFree heldOrWaited inUse notHis hisAlready notSuspended mustWait noDepth noTick table laterRow refusal noHigher
-    runsFine tablesFine levelsFine listingFine clockFine usesFine sound stored answered usesAfter accepted step fresh freshUses taskAt kindAt holds freeSlot freeObject wokenIfDue wakes byNumber oneTick turned ticked
-    ticks released held arrives waitFor
+    resumed yielded delayed queueMade mutexMade removed taken handedOn given effect itemAt outlet sent storeSent received storeReceived line those
+    highest leader first chosen toTail toHead leaves moved movedIf prioritized newPriority lent ownAgain outOfRange namesNone wrongSize notForIdle
+    notWithHold noneFree heldOrWaited inUse notHis hisAlready notSuspended mustWait noDepth noTick table laterRow refusal noHigher runsFine tablesFine
+    levelsFine listingFine clockFine usesFine sound stored answered usesAfter accepted step fresh freshUses taskAt kindAt holds freeSlot freeObject
+    wokenIfDue wakes byNumber oneTick turned ticked ticks released held arrives waitFor
 tales-fit = record {
   kept-over-first-give = refl;
   set-below-loan = refl;
@@ -81,12 +81,12 @@ pub record AgainFits : Type 0 where
   pub second-given : map (givenTo 17) (trace stepMade fresh [] (map unlent usedAgain)) ≡ [] ∷ [] ∷ (5 ∷ []) ∷ [] ∷ [] ∷ [] ∷ []
 
 pub again-fits : AgainFits
-unfolding trace usedAgain givenTo every allBelow foldl upTo index any kept asked ordered without count tidy putAt created deleted suspended
-    resumed yielded delayed queueMade mutexMade removed taken handedOn given effect itemAt outlet sent storeSent received storeReceived line
-    those highest leader first chosen toTail toHead leaves moved movedIf prioritized newPriority lent ownAgain outOfRange namesNone wrongSize
-    notForIdle notWithHold noneFree heldOrWaited inUse notHis hisAlready notSuspended mustWait noDepth noTick table laterRow refusal noHigher
-    runsFine tablesFine levelsFine listingFine clockFine usesFine sound stored answered usesAfter accepted step fresh freshUses taskAt kindAt holds freeSlot freeObject wokenIfDue wakes byNumber oneTick turned ticked
-    ticks released held arrives waitFor
+unfolding trace usedAgain givenTo every allBelow foldl upTo index any kept asked ordered without count tidy putAt created deleted suspended resumed
+    yielded delayed queueMade mutexMade removed taken handedOn given effect itemAt outlet sent storeSent received storeReceived line those highest
+    leader first chosen toTail toHead leaves moved movedIf prioritized newPriority lent ownAgain outOfRange namesNone wrongSize notForIdle notWithHold
+    noneFree heldOrWaited inUse notHis hisAlready notSuspended mustWait noDepth noTick table laterRow refusal noHigher runsFine tablesFine levelsFine
+    listingFine clockFine usesFine sound stored answered usesAfter accepted step fresh freshUses taskAt kindAt holds freeSlot freeObject wokenIfDue
+    wakes byNumber oneTick turned ticked ticks released held arrives waitFor
 again-fits = record {
   first-made = refl;
   first-named = refl;

@@ -38,7 +38,8 @@ use Rattle.histories.proofs.Fair.{Fair, none-given, quiet-fair}
 use Rattle.histories.proofs.FairTasks.{moment, create-fair, delete-fair, change-fair}
 use Rattle.histories.proofs.FairMutexes.{take-fair, give-fair}
 
-effect-fair : (k : State) → Sound k → (n : ℕ) (a : Saying) → isRefusal (a .word) ≡ false → (t : TaskSlot) (c : Call) → Passed k (asked (k .uses) c) n → Fair (moment k c a (effect k (asked (k .uses) c))) t
+effect-fair : (k : State) → Sound k → (n : ℕ) (a : Saying) → isRefusal (a .word) ≡ false → (t : TaskSlot) (c : Call) → Passed k (asked (k .uses) c) n
+    → Fair (moment k c a (effect k (asked (k .uses) c))) t
 unfolding effect asked namesNone resumed yielded held queueMade mutexMade removed toTail
 effect-fair k S n a ok t (Create p) P = create-fair k S n a p P t
 effect-fair k S n a ok t (Delete u) P = delete-fair k S n a u P t

@@ -148,7 +148,8 @@ module _ (k : State) (S : Sound k) (n : ℕ) (a : Saying) where
     delete-fair t =
         that-or-other old t (λ v. Fair deletion v)
         (bare-fair deletion old held-none (λ e. absurd (false≢true (sym e ∙ now-gone))) (λ e g. absurd (false≢true (sym e ∙ now-gone))))
-        (λ d. quiet-fair deletion t (none-given t deletion refl refl) (slot-quiet t (k .objects) (k .tasks) old (left last) (λ e. absurd (d e)) (λ o h w. absurd (false≢true (sym (left-waits o last) ∙ w)))))
+        (λ d. quiet-fair deletion t (none-given t deletion refl refl)
+        (slot-quiet t (k .objects) (k .tasks) old (left last) (λ e. absurd (d e)) (λ o h w. absurd (false≢true (sym (left-waits o last) ∙ w)))))
 
   -- 5: set priority
   module _ (ok : isRefusal (a .word) ≡ false) (num : TaskNo) (p : ℕ) (P : Passed k (asked (k .uses) (SetPriority num p)) n) where

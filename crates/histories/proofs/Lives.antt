@@ -193,7 +193,8 @@ module _ (k : State) (S : Sound k) (n : ℕ) where
         go : (b : Bool) → eqb (t .0) s ≡ b → Turn b (standsIn true k s) (keptUse true k s) (stands (taskAt fewer (task s) .place)) (useIn (givenUp (k .uses .tasks) (t .0)) s)
         go true q =
             rw (sym (eqb-true (t .0) s q))
-            (gone refl (there-stands (taskAt (k .tasks) t .place) there) last refl gone-stands (getD-set-same (k .uses .tasks) (t .0) (nextUse (useIn (k .uses .tasks) (t .0))) 0 (omega (arith, low, S .uses .task-slots))))
+            (gone refl (there-stands (taskAt (k .tasks) t .place) there) last refl gone-stands
+            (getD-set-same (k .uses .tasks) (t .0) (nextUse (useIn (k .uses .tasks) (t .0))) 0 (omega (arith, low, S .uses .task-slots))))
         go false q =
             let d : s ≡ t .0 → ⊥ = λ e. eqb-false (t .0) s q (sym e) in
             stays refl (ap (λ (x : Task). stands (x .place)) (at-other (k .tasks) t (if last then spentTask else freeTask) (task s) d)) (up-other (k .uses .tasks) (t .0) s d)
@@ -221,7 +222,8 @@ module _ (k : State) (S : Sound k) (n : ℕ) where
         go : (b : Bool) → eqb (o .0) s ≡ b → Turn b (standsIn false k s) (keptUse false k s) (standsAs (kindAt others (object s))) (useIn (givenUp (k .uses .objects) (o .0)) s)
         go true q =
             rw (sym (eqb-true (o .0) s q))
-            (gone refl (used-stands (kindAt (k .objects) o) there) ends refl gone-as (getD-set-same (k .uses .objects) (o .0) (nextUse (useIn (k .uses .objects) (o .0))) 0 (omega (arith, o-low, S .uses .object-slots))))
+            (gone refl (used-stands (kindAt (k .objects) o) there) ends refl gone-as
+            (getD-set-same (k .uses .objects) (o .0) (nextUse (useIn (k .uses .objects) (o .0))) 0 (omega (arith, o-low, S .uses .object-slots))))
         go false q =
             let d : s ≡ o .0 → ⊥ = λ e. eqb-false (o .0) s q (sym e) in
             stays refl (ap standsAs (kind-other (k .objects) o (if ends then SpentObject else Unused) (object s) d)) (up-other (k .uses .objects) (o .0) s d)
@@ -315,7 +317,8 @@ pub chosen-slot : (f : ℕ → ℕ → ℕ) (b : Bool) (j : State) (us : Uses) (
 unfolding chosen
 chosen-slot f b j us s = go b (eqb (j .hold) 0) (first j AllReady)
   where
-    go : (b c : Bool) (l : List TaskSlot) → let i = if c then runsIf j l else j in f (standsIn b (withUses i us) s) (keptUse b (withUses i us) s) ≡ f (standsIn b (withUses j us) s) (keptUse b (withUses j us) s)
+    go : (b c : Bool) (l : List TaskSlot)
+        → let i = if c then runsIf j l else j in f (standsIn b (withUses i us) s) (keptUse b (withUses i us) s) ≡ f (standsIn b (withUses j us) s) (keptUse b (withUses j us) s)
     go true true [] = refl
     go true true (u ∷ l) = refl
     go true false l = refl

@@ -82,7 +82,8 @@ grows-on k j i f g b s = omega (arith, f b s, g b s)
 
 after-grows : (k : State) → sound k ≡ true → (ms : List CallMade) → Grows k (after k ms)
 after-grows k e ms =
-    trace-keeps stepMade (λ j. (sound j ≡ true) × Grows k j) (λ j s m p. (step-kept j (m .call) (m .item) (m .store) (p .0), grows-on k j (stepMade j s m .kernel) (p .1) (step-grows j (p .0) m))) k [] ms
+    trace-keeps stepMade (λ j. (sound j ≡ true) × Grows k j)
+    (λ j s m p. (step-kept j (m .call) (m .item) (m .store) (p .0), grows-on k j (stepMade j s m .kernel) (p .1) (step-grows j (p .0) m))) k [] ms
     (e, grows-refl k) .1
 
 -- from one history to a longer one

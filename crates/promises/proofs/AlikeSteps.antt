@@ -55,8 +55,10 @@ effect-too k j Release item store e w = released-too w
 effect-too k j (MakeQueue c z) item store e w = queue-made-too c z w
 effect-too k j MakeMutex item store e w = mutex-made-too w
 effect-too k j (Remove o) item store e w = removed-too (objSlot (k .uses) o) (lastIn (k .uses .objects) (objSlot (k .uses) o .0)) w
-effect-too k j (Send o n) item store e w = twice (λ z. sentTo z (objSlot (k .uses) o) (kindAt (z .objects) (objSlot (k .uses) o)) n) w (λ m v. sent-to-too (objSlot (k .uses) o) (kindAt (k .objects) (objSlot (k .uses) o)) n v)
-effect-too k j (Receive o n) item store e w = twice (λ z. receivedFrom z (objSlot (k .uses) o) (kindAt (z .objects) (objSlot (k .uses) o)) n) w (λ m v. received-from-too (objSlot (k .uses) o) (kindAt (k .objects) (objSlot (k .uses) o)) n v)
+effect-too k j (Send o n) item store e w = twice (λ z. sentTo z (objSlot (k .uses) o) (kindAt (z .objects) (objSlot (k .uses) o)) n) w
+    (λ m v. sent-to-too (objSlot (k .uses) o) (kindAt (k .objects) (objSlot (k .uses) o)) n v)
+effect-too k j (Receive o n) item store e w = twice (λ z. receivedFrom z (objSlot (k .uses) o) (kindAt (z .objects) (objSlot (k .uses) o)) n) w
+    (λ m v. received-from-too (objSlot (k .uses) o) (kindAt (k .objects) (objSlot (k .uses) o)) n v)
 effect-too k j (Take o n) item store e w = taken-too (objSlot (k .uses) o) n w
 effect-too k j (Give o) item store e w = given-too (objSlot (k .uses) o) w
 effect-too k j Tick item store e w = ticked-too w
@@ -109,11 +111,16 @@ answered-too : {k j next after : State} (a : Asked) → Alike k j → Alike next
 unfolding answered
 answered-too a b c = rw (b .tasks, b .objects, b .running, b .uses, c .tasks)
 
-accepted-too : (k j : State) (c : Call) (item s : List ℕ) → laterRow k (asked (k .uses) c) (length item) (length s) ≡ 0 → Twins k j → AlikeSteps (accepted k (asked (k .uses) c) item s) (accepted j (asked (k .uses) c) item s)
+accepted-too : (k j : State) (c : Call) (item s : List ℕ) → laterRow k (asked (k .uses) c) (length item) (length s) ≡ 0 → Twins k j
+    → AlikeSteps (accepted k (asked (k .uses) c) item s) (accepted j (asked (k .uses) c) item s)
 unfolding accepted
 accepted-too k j c item s e w =
     let next = chosen-too (effect k (asked (k .uses) c)) (effect j (asked (k .uses) c)) (effect-too k j c (length item) (length s) e w) in
-    record { answer = answered-too (asked (k .uses) c) (w .alike) next; store = stored-too k j (asked (k .uses) c) item s w; kernel = uses-too next (ap (λ us. usesAfter us (asked (k .uses) c)) (w .alike .uses)) }
+    record {
+      answer = answered-too (asked (k .uses) c) (w .alike) next;
+      store = stored-too k j (asked (k .uses) c) item s w;
+      kernel = uses-too next (ap (λ us. usesAfter us (asked (k .uses) c)) (w .alike .uses));
+    }
 
 -- ── every call
 not-refused : (k : State) (a : Asked) (item store : ℕ) → refusal k a item store ≡ 0 → (sound k ≡ true) × (laterRow k a item store ≡ 0)

@@ -30,8 +30,8 @@ use Rattle.promises.specs.Cases.{Case, ran, p1, p2, p3, p4, p5, p6, p7, 
 pub both-sides-of-the-gate : map ran cases ≡ map (λ (c : Case). c .expected) cases
 unfolding cases p1 p2 p3 p4 p5 p6 p7 p8 p9 p10 p11 p12 trace every allBelow foldl upTo index any kept asked ordered without count tidy putAt created
     deleted suspended resumed yielded delayed queueMade mutexMade removed taken handedOn given effect itemAt outlet sent storeSent received
-    storeReceived line those highest leader first chosen toTail toHead leaves moved movedIf prioritized newPriority lent ownAgain outOfRange
-    namesNone wrongSize notForIdle notWithHold noneFree heldOrWaited inUse notHis hisAlready notSuspended mustWait noDepth noTick table laterRow
-    refusal noHigher runsFine tablesFine levelsFine listingFine clockFine usesFine sound stored answered usesAfter accepted step fresh freshUses taskAt kindAt holds freeSlot freeObject wokenIfDue wakes byNumber
-    oneTick turned ticked ticks released held arrives waitFor
+    storeReceived line those highest leader first chosen toTail toHead leaves moved movedIf prioritized newPriority lent ownAgain outOfRange namesNone
+    wrongSize notForIdle notWithHold noneFree heldOrWaited inUse notHis hisAlready notSuspended mustWait noDepth noTick table laterRow refusal
+    noHigher runsFine tablesFine levelsFine listingFine clockFine usesFine sound stored answered usesAfter accepted step fresh freshUses taskAt kindAt
+    holds freeSlot freeObject wokenIfDue wakes byNumber oneTick turned ticked ticks released held arrives waitFor
 both-sides-of-the-gate = refl

@@ -34,10 +34,10 @@ use Rattle.promises.proofs.LineForLine.{session-is-the-program}
 
 pub p1-as-bytes : answersTo typed ≡ written
 unfolding asBytes typed written linesOf readLine stepOfLine trace answering flatten digits dec among grow callOf shapeOf nums readOf reply every
-    allBelow foldl upTo index any kept asked ordered without count tidy created mutexMade taken handedOn given effect line those highest leader
-    first chosen toTail toHead leaves moved movedIf prioritized lent ownAgain outOfRange namesNone wrongSize notForIdle notWithHold noneFree inUse
-    notHis hisAlready notSuspended mustWait noDepth noTick table laterRow refusal noHigher runsFine tablesFine levelsFine listingFine clockFine usesFine sound stored answered usesAfter accepted step fresh freshUses
-    taskAt kindAt holds freeSlot freeObject arrives waitFor
+    allBelow foldl upTo index any kept asked ordered without count tidy created mutexMade taken handedOn given effect line those highest leader first
+    chosen toTail toHead leaves moved movedIf prioritized lent ownAgain outOfRange namesNone wrongSize notForIdle notWithHold noneFree inUse notHis
+    hisAlready notSuspended mustWait noDepth noTick table laterRow refusal noHigher runsFine tablesFine levelsFine listingFine clockFine usesFine
+    sound stored answered usesAfter accepted step fresh freshUses taskAt kindAt holds freeSlot freeObject arrives waitFor
 p1-as-bytes = refl
 
 pub p1-in-any-blocks : (ts : List Turn) → cameIn ts ≡ typed → afterTurns atStart ts .waits ≡ [] → (n : ℕ) → 256 ≤ n → afterEnd (afterTurns atStart ts) n .answers ≡ written

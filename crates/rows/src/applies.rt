@@ -1,6 +1,7 @@
 // The table: a method for each row, and the first row that applies. A row that speaks of one call looks at the call's number first.
 ghost use mathlib.Core.Path.{_≡_};
-ghost use Rattle.rows.specs.Applies.{outOfRange, namesNone, sizeDiffers, wrongSize, notForIdle, notWithHold, notHis, hisAlready, notSuspended, isFull, isEmpty, stopsAt, mustWait, noDepth, noTick};
+ghost use Rattle.rows.specs.Applies.{outOfRange, namesNone, sizeDiffers, wrongSize, notForIdle, notWithHold, notHis};
+ghost use Rattle.rows.specs.Applies.{hisAlready, notSuspended, isFull, isEmpty, stopsAt, mustWait, noDepth, noTick};
 ghost use Rattle.rows.specs.Applies.{firstRow, orRow, row, table};
 use crate::Seen;
 use crate::asking;

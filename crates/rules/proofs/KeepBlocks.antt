@@ -45,7 +45,14 @@ pub to-wait : {w : Owing} {k : State} {t : TaskSlot} {p : Place} → isBlocked p
     → ((o : ObjSlot) (v : Wake) → p ≡ Waiting o v → MayWait t (kindAt (k .objects) o)) → w .due t p ≡ true → Arrival w k t p 0
 to-wait {p = p} b busy W D =
     record {
-      fits = record { waits = W; outcome-range = omega arith; delay-outcome = λ v e. refl; wait-outcome = λ o v e. refl; free = λ e. absurd (true-not-false (sym b ∙ ap isBlocked e)); spent = λ e. absurd (true-not-false (sym b ∙ ap isBlocked e)) };
+      fits = record {
+        waits = W;
+        outcome-range = omega arith;
+        delay-outcome = λ v e. refl;
+        wait-outcome = λ o v e. refl;
+        free = λ e. absurd (true-not-false (sym b ∙ ap isBlocked e));
+        spent = λ e. absurd (true-not-false (sym b ∙ ap isBlocked e));
+      };
       due = D;
       stands = or-right (isReady p) _ b;
       idle-ready = λ z. absurd (busy z);
@@ -84,7 +91,14 @@ module _ {w : Owing} (k : State) (N : Nearly w k) (t : TaskSlot) (low : t .0 < 1
   ranked-fine =
       let F = N .tables .tasks t in
       record {
-        fits = record { waits = F .waits; outcome-range = F .outcome-range; delay-outcome = F .delay-outcome; wait-outcome = F .wait-outcome; free = λ e. absurd (false≢true (sym X ∙ ap isFree e)); spent = λ e. absurd (false≢true (sym X ∙ ap isFree e)) };
+        fits = record {
+          waits = F .waits;
+          outcome-range = F .outcome-range;
+          delay-outcome = F .delay-outcome;
+          wait-outcome = F .wait-outcome;
+          free = λ e. absurd (false≢true (sym X ∙ ap isFree e));
+          spent = λ e. absurd (false≢true (sym X ∙ ap isFree e));
+        };
         levels = record { at-least = least; equal = P; range = high };
         due = N .due t;
       }

@@ -135,7 +135,8 @@ module _ (k : State) (S : Sound k) (store : ℕ) where
 
     pub take-keeps : Keeps (effect k (onObject 15 AMutex o l w))
     unfolding effect taken
-    take-keeps = by-kind (kindAt (k .objects) o) (λ x. isMutex x ≡ true → Keeps (takenFrom k o x w)) (λ m. absurd (false≢true m)) (λ m. absurd (false≢true m)) (λ q e m. absurd (false≢true m)) (λ e m. free-taken e)
+    take-keeps = by-kind (kindAt (k .objects) o) (λ x. isMutex x ≡ true → Keeps (takenFrom k o x w)) (λ m. absurd (false≢true m)) (λ m. absurd (false≢true m))
+        (λ q e m. absurd (false≢true m)) (λ e m. free-taken e)
         (λ h e m. held-waited h e) is-mutex
 
   -- 16: give. On the way the giver may have a priority that it has to pay back

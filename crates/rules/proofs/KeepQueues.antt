@@ -173,7 +173,8 @@ module _ (k : State) (S : Sound k) (store : ℕ) (o : ObjSlot) (w : ℕ) where
     queue-keeps : (does : Kind → State) → ((q : Ring) → kindAt (k .objects) o ≡ Queue q → Keeps (does (Queue q))) → Keeps (does (kindAt (k .objects) o))
     unfolding namesNone
     queue-keeps does f =
-        by-kind (kindAt (k .objects) o) (λ x. isQueue x ≡ true → Keeps (does x)) (λ m. absurd (false≢true m)) (λ m. absurd (false≢true m)) (λ q e m. f q e) (λ e m. absurd (false≢true m)) (λ t e m. absurd (false≢true m))
+        by-kind (kindAt (k .objects) o) (λ x. isQueue x ≡ true → Keeps (does x)) (λ m. absurd (false≢true m)) (λ m. absurd (false≢true m)) (λ q e m. f q e) (λ e m. absurd (false≢true m))
+        (λ t e m. absurd (false≢true m))
         (on (isQueue (kindAt (k .objects) o)) (P .named))
 
   module _ {l : Bool} (P : Passed k (onObject 13 AQueue o l w) store) where

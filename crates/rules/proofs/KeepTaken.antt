@@ -18,7 +18,8 @@ use Rattle.order.specs.Order.{listed}
 use Rattle.slots.specs.Places.{isFree, isListed, waitsOn, wakesAt, outcomeDue}
 use Rattle.slots.specs.Values.{placed, brokenOff, ranked, taskAt}
 use Rattle.slots.specs.Kinds.{isUnused, isMutex, kindAt}
-use Rattle.rules.specs.Types.{TaskSlot, ObjSlot, Place, Free, Ready, Delayed, Waiting, Suspended, Spent, Task, Ring, Kind, Unused, SpentObject, Queue, Mutex, By, Object, WaitersOf, Call, Create, Delete, Suspend, Resume, SetPriority, Delay, Yield, Hold, Release, MakeQueue, MakeMutex, Remove, Send, Receive, Take, Give, Tick, State}
+use Rattle.rules.specs.Types.{TaskSlot, ObjSlot, Place, Free, Ready, Delayed, Waiting, Suspended, Spent, Task, Ring, Kind, Unused, SpentObject, Queue, Mutex, By, Object, WaitersOf}
+use Rattle.rules.specs.Types.{Call, Create, Delete, Suspend, Resume, SetPriority, Delay, Yield, Hold, Release, MakeQueue, MakeMutex, Remove, Send, Receive, Take, Give, Tick, State}
 use Rattle.rules.specs.Tables.{holds, withTask, withObject, withTick, withHold}
 use Rattle.rules.specs.Lines.{level, first, toTail, leaves}
 use Rattle.rules.specs.Sound.{noHigher}
@@ -130,7 +131,9 @@ object-stays k o y e =
 
 pub arrives-stays : (k : State) (t : TaskSlot) (p : Place) (n : ℕ) → isFree p ≡ false → isFree (taskAt (k .tasks) t .place) ≡ false → Stays k (arrives k t p n)
 unfolding arrives toTail
-arrives-stays k t p n a b = let s = task-stays k t (placed (taskAt (k .tasks) t) p n) (there-stands p a ∙ sym (there-stands (taskAt (k .tasks) t .place) b)) in record { tasks = s .tasks; objects = λ o. refl }
+arrives-stays k t p n a b =
+    let s = task-stays k t (placed (taskAt (k .tasks) t) p n) (there-stands p a ∙ sym (there-stands (taskAt (k .tasks) t .place) b)) in
+    record { tasks = s .tasks; objects = λ o. refl }
 
 wait-stays : (k : State) (o : ObjSlot) (w : ℕ) → isFree (taskAt (k .tasks) (k .running) .place) ≡ false → Stays k (waitFor k o w)
 unfolding waitFor
@@ -259,7 +262,8 @@ module _ (k : State) (S : Sound k) where
       waits h =
           let s = prioritized-stays k h (taskAt (k .tasks) h .own) (eff h) in
           onward s (wait-stays (lent k h) o w
-          (stands-there (taskAt (lent k h .tasks) (lent k h .running) .place) (s .tasks (lent k h .running) ∙ ap (λ v. stands (taskAt (k .tasks) v .place)) (prioritized-same k h (taskAt (k .tasks) h .own) (eff h) .running) ∙ there-stands (taskAt (k .tasks) (k .running) .place) caller-there)))
+          (stands-there (taskAt (lent k h .tasks) (lent k h .running) .place) (s .tasks (lent k h .running)
+          ∙ ap (λ v. stands (taskAt (k .tasks) v .place)) (prioritized-same k h (taskAt (k .tasks) h .own) (eff h) .running) ∙ there-stands (taskAt (k .tasks) (k .running) .place) caller-there)))
 
   pub give-stays : (o : ObjSlot) → isUnused (kindAt (k .objects) o) ≡ false → Stays k (given k o)
   unfolding given ownAgain handedOn
@@ -275,7 +279,8 @@ module _ (k : State) (S : Sound k) where
           go [] q = mutex-stays k _ stays refl
           go (t ∷ l) q = mutex-stays (arrives k t Ready 1) _ (arrives-stays k t Ready 1 refl (first-there o t l q)) refl
 
-      back : (b : Bool) → Stays (handedOn k o) (if b then handedOn k o else prioritized (handedOn k o) (k .running) (taskAt (handedOn k o .tasks) (k .running) .own) (taskAt (handedOn k o .tasks) (k .running) .own))
+      back : (b : Bool) → Stays (handedOn k o)
+          (if b then handedOn k o else prioritized (handedOn k o) (k .running) (taskAt (handedOn k o .tasks) (k .running) .own) (taskAt (handedOn k o .tasks) (k .running) .own))
       back true = stays
       back false = prioritized-stays (handedOn k o) (k .running) _ _
 

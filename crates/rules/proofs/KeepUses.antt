@@ -44,7 +44,8 @@ used-after k a U I = go (is 2 a) refl (is 12 a)
     us = k .uses
 
     go : (b : Bool) → is 2 a ≡ b → (c : Bool)
-        → Used (if b then record { tasks = givenUp (us .tasks) (a .task .0); objects = us .objects } else if c then record { tasks = us .tasks; objects = givenUp (us .objects) (a .object .0) } else us)
+        → Used (if b then record { tasks = givenUp (us .tasks) (a .task .0); objects = us .objects }
+        else if c then record { tasks = us .tasks; objects = givenUp (us .objects) (a .object .0) } else us)
     go true e c =
         record {
           tasks = λ t. up-range (us .tasks) (a .task .0) (λ n. U .tasks (record { 0 = n })) (t .0);

@@ -67,7 +67,8 @@ takes-free Suspended e = absurd (false≢true e)
 takes-free Spent e = refl
 
 -- by the kind of an object
-pub by-kind : (x : Kind) (P : Kind → Type 0) → P Unused → P SpentObject → ((q : Ring) → x ≡ Queue q → P (Queue q)) → (x ≡ Mutex Nobody → P (Mutex Nobody)) → ((t : TaskSlot) → x ≡ Mutex (By t) → P (Mutex (By t)))
+pub by-kind : (x : Kind) (P : Kind → Type 0) → P Unused → P SpentObject → ((q : Ring) → x ≡ Queue q → P (Queue q)) → (x ≡ Mutex Nobody → P (Mutex Nobody))
+    → ((t : TaskSlot) → x ≡ Mutex (By t) → P (Mutex (By t)))
     → P x
 by-kind Unused P none spent queue free held = none
 by-kind SpentObject P none spent queue free held = spent

@@ -32,7 +32,9 @@ abbrev pub withTask : State → TaskSlot → Task → State
 withTask k t x = record { tasks = set (k .tasks) (t .0) x; objects = k .objects; order = k .order; running = k .running; tick = k .tick; hold = k .hold; pended = k .pended; uses = k .uses }
 
 abbrev pub withObject : State → ObjSlot → Kind → State
-withObject k o x = record { tasks = k .tasks; objects = set (k .objects) (o .0) (record { kind = x }); order = k .order; running = k .running; tick = k .tick; hold = k .hold; pended = k .pended; uses = k .uses }
+withObject k o x =
+    let os = set (k .objects) (o .0) (record { kind = x }) in
+    record { tasks = k .tasks; objects = os; order = k .order; running = k .running; tick = k .tick; hold = k .hold; pended = k .pended; uses = k .uses }
 
 abbrev pub withOrder : State → Order → State
 withOrder k o = record { tasks = k .tasks; objects = k .objects; order = o; running = k .running; tick = k .tick; hold = k .hold; pended = k .pended; uses = k .uses }

@@ -32,7 +32,15 @@ module _ (o w own level outcome n : ℕ) (held : Bool) where
   unfolding rowFine placeOf
   row-is s =
       by-state Same refl refl refl refl refl refl
-      (λ m h. rw (is-suspended m o w h, ne-eqb m 0 (λ e. omega arith), ne-eqb m 1 (λ e. omega arith), ne-eqb m 2 (λ e. omega arith), ne-eqb m 3 (λ e. omega arith), ne-eqb m 4 (λ e. omega arith), ne-eqb m 5 (λ e. omega arith)))
+      (λ m h. rw (
+        is-suspended m o w h,
+        ne-eqb m 0 (λ e. omega arith),
+        ne-eqb m 1 (λ e. omega arith),
+        ne-eqb m 2 (λ e. omega arith),
+        ne-eqb m 3 (λ e. omega arith),
+        ne-eqb m 4 (λ e. omega arith),
+        ne-eqb m 5 (λ e. omega arith),
+      ))
       s
 
 module _ (o w tick : ℕ) where
@@ -102,7 +110,8 @@ module _ (states objects : List ℕ) (opens takes : List Bool) (holder : List �
   pub wait-past : waitsState (getD states i 0) ≡ true → 16 ≤ o → false ≡ (ok && wait)
   wait-past e l = and-off ok wait (rw (e, ← same, le-ltb o 16 l))
 
-pub wait-not : (states objects : List ℕ) (opens takes : List Bool) (holder : List ℕ) (i : ℕ) (ok : Bool) → waitsState (getD states i 0) ≡ false → ok ≡ (ok && waitNumber states objects opens takes holder i)
+pub wait-not : (states objects : List ℕ) (opens takes : List Bool) (holder : List ℕ) (i : ℕ) (ok : Bool) → waitsState (getD states i 0) ≡ false
+    → ok ≡ (ok && waitNumber states objects opens takes holder i)
 wait-not states objects opens takes holder i ok e = and-on ok (waitNumber states objects opens takes holder i) (rw e)
 
 module _ (ts : Tasks) (opens takes : List Bool) (holder : List ℕ) where

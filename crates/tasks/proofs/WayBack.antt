@@ -28,7 +28,8 @@ cells-back (suc (suc (suc zero))) o w a b = refl
 cells-back (suc (suc (suc (suc zero)))) o w a b = rw (eqb-true w 0 b)
 cells-back (suc (suc (suc (suc (suc zero))))) o w a b = rw (eqb-true o 0 a, eqb-true w 0 b)
 cells-back (suc (suc (suc (suc (suc (suc zero)))))) o w a b = rw (eqb-true o 0 a, eqb-true w 0 b)
-cells-back (suc (suc (suc (suc (suc (suc (suc n))))))) o w a b = absurd (omega (arith, leb-true (suc (suc (suc (suc (suc (suc (suc n))))))) 6 (and-left (leb (suc (suc (suc (suc (suc (suc (suc n))))))) 6) _ a)))
+cells-back (suc (suc (suc (suc (suc (suc (suc n))))))) o w a b = absurd
+    (omega (arith, leb-true (suc (suc (suc (suc (suc (suc (suc n))))))) 6 (and-left (leb (suc (suc (suc (suc (suc (suc (suc n))))))) 6) _ a)))
 
 module _ (ts : Tasks) (full : Full ts) where
   -- a column is what the rows say of it

@@ -13,14 +13,16 @@ unfolding prioritized movedIf
 returns c = λ s h.
     let x = sym (c .before .before .before .before .before .task .ensures s h) in
     rw (ap (λ (y : Task). isReady (y .place)) x ∙ sym (c .before .before .before .is-ready .ensures) ∙ c .before .before .if1 .taken)
-    (rw (ap (λ (y : Task). eqb (y .effective) (c .before .before .before .before .before .before .args .effective)) x ∙ eq-eqb _ _ (c .if2 .taken)) (c .before .before .before .before .ranked .ensures s h))
+    (rw (ap (λ (y : Task). eqb (y .effective) (c .before .before .before .before .before .before .args .effective)) x ∙ eq-eqb _ _ (c .if2 .taken))
+    (c .before .before .before .before .ranked .ensures s h))
 
 returns-2 : tie.Need-returns-2
 unfolding prioritized movedIf
 returns-2 c = λ s h.
     let x = sym (c .before .before .before .before .before .before .task .ensures s h) in
     rw (ap (λ (y : Task). isReady (y .place)) x ∙ sym (c .before .before .before .before .is-ready .ensures) ∙ c .before .before .before .if1 .taken)
-    (rw (ap (λ (y : Task). eqb (y .effective) (c .before .before .before .before .before .before .before .args .effective)) x ∙ ne-eqb _ _ (c .before .if2 .left)) (c .moved .ensures _ (c .before .before .before .before .before .ranked .ensures s h)))
+    (rw (ap (λ (y : Task). eqb (y .effective) (c .before .before .before .before .before .before .before .args .effective)) x ∙ ne-eqb _ _ (c .before .if2 .left))
+    (c .moved .ensures _ (c .before .before .before .before .before .ranked .ensures s h)))
 
 returns-3 : tie.Need-returns-3
 unfolding prioritized movedIf

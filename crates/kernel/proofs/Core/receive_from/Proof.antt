@@ -16,15 +16,23 @@ to-slip-requires : tie.Need-to-slip-requires
 to-slip-requires c κs = (c .before .before .before .before .before .before .before .before .before .before .before .pre .2 .runs, omega arith, search needs)
 
 refilled-requires : tie.Need-refilled-requires
-refilled-requires c κs = let s = c .before .before .before .before .before .before .before .before .before .before .before .before .before .before .before in
-    (rw (c .before .before .before .before .before .before .before .before .before .one-less .ensures) (less-fits (s .args .q) (s .pre .1)), s .pre .0, c .before .before .before .before .before .before .before .before .before .before .waiter .ensures .1, search needs)
+refilled-requires c κs =
+    let less = c .before .before .before .before .before .before .before .before .before in
+    let s = less .before .before .before .before .before .before in
+    (rw (less .one-less .ensures) (less-fits (s .args .q) (s .pre .1)), s .pre .0, less .before .waiter .ensures .1, search needs)
 
 returns-2 : tie.Need-returns-2
 unfolding received storeReceived
-returns-2 c = let less = c .before .before .before .before .before .before .before .before .before .before .before .before .one-less .ensures in
-    let who = c .before .before .before .before .before .before .before .before .before .before .before .before .before .waiter .ensures .0 in (
-      λ s h. rw (ne-eqb _ _ (c .before .before .before .before .before .before .before .before .before .before .before .before .before .before .before .if1 .left)) (c .before .before .refilled .ensures .0 s h ∙ rw (less, who s h)),
-      λ s h. rw (ne-eqb _ _ (c .before .before .before .before .before .before .before .before .before .before .before .before .before .before .before .if1 .left)) (c .before .before .refilled .ensures .1 ∙ rw (c .before .before .before .before .before .before .to-slip .ensures, c .before .before .before .before .before .before .before .before .before .before .of-ring .ensures, less, who s h, same-running _ s h)),
+returns-2 c =
+    let slip = c .before .before .before .before .before .before in
+    let got = slip .before .before .before .before in
+    let less = got .before .before in
+    let who = less .before .waiter .ensures .0 in
+    let some = ne-eqb _ _ (less .before .before .before .if1 .left) in (
+      λ s h. rw some (c .before .before .refilled .ensures .0 s h ∙ rw (less .one-less .ensures, who s h)),
+      λ s h. rw some
+          (c .before .before .refilled .ensures .1
+          ∙ rw (slip .to-slip .ensures, got .of-ring .ensures, less .one-less .ensures, who s h, same-running _ s h)),
     )
 
 pub receive-from-spec : {M : Type 1} → statement M

@@ -15,7 +15,13 @@ returns : tie.Need-returns
 returns c = (λ s h. rw (c .before .enum-told .given .1) (c .with-object .ensures s h), rw (c .before .enum-told .given .1))
 
 returns-2 : tie.Need-returns-2
-returns-2 c = (λ s h. rw (c .before .before .before .before .before .before .before .before .before .before .before .before .f .given .1) (c .arrives .ensures _ (c .before .with-object2 .ensures s h ∙ rw (c .before .before .one-more .ensures))), rw (c .before .before .before .before .before .before .before .before .before .before .before .before .f .given .1) (c .before .before .before .before .before .to-ring .ensures ∙ rw (c .before .before .before .before .before .before .before .before .of-slip .ensures)))
+returns-2 c =
+    let put = c .before .before .before .before .before in
+    let got = put .before .before .before in
+    let someone = got .before .before .before .before .f .given .1 in (
+      λ s h. rw someone (c .arrives .ensures _ (c .before .with-object2 .ensures s h ∙ rw (c .before .before .one-more .ensures))),
+      rw someone (put .to-ring .ensures ∙ rw (got .of-slip .ensures)),
+    )
 
 pub refilled-spec : {M : Type 1} → statement M
 refilled-spec =

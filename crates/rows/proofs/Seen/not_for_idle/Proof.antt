@@ -9,13 +9,18 @@ returns c = rw (← c .before .before .before .is-idle .ensures, ← c .before .
 
 returns-2 : tie.Need-returns-2
 unfolding notForIdle
-returns-2 c = rw (← c .before .before .before .before .before .before .before .before .is-idle .ensures, ← c .before .before .before .before .before .before .before .stops .ensures, ← c .before .before .before .before .before .before .both .ensures, c .before .before .before .before .before .if1 .left)
+returns-2 c =
+    let one = c .before .before .before .before .before in
+    rw (← one .before .before .before .is-idle .ensures, ← one .before .before .stops .ensures, ← one .before .both .ensures, one .if1 .left)
     (rw (← c .before .before .both2 .ensures, ← c .before .both3 .ensures, c .if2 .taken))
 
 returns-3 : tie.Need-returns-3
 unfolding notForIdle
-returns-3 c = rw (← c .before .before .before .before .before .before .before .before .before .before .before .is-idle .ensures, ← c .before .before .before .before .before .before .before .before .before .before .stops .ensures, ← c .before .before .before .before .before .before .before .before .before .both .ensures, c .before .before .before .before .before .before .before .before .if1 .left)
-    (rw (← c .before .before .before .before .before .both2 .ensures, ← c .before .before .before .before .both3 .ensures, c .before .before .before .if2 .left)
+returns-3 c =
+    let two = c .before .before .before in
+    let one = two .before .before .before .before .before in
+    rw (← one .before .before .before .is-idle .ensures, ← one .before .before .stops .ensures, ← one .before .both .ensures, one .if1 .left)
+    (rw (← two .before .before .both2 .ensures, ← two .before .both3 .ensures, two .if2 .left)
     (rw (← c .before .before .blocks2 .ensures, ← c .before .is-idle2 .ensures) (c .both4 .ensures)))
 
 pub not-for-idle-spec : {M : Type 1} → statement M

@@ -12,8 +12,12 @@ returns c = rw (c .if1 .taken)
 
 returns-2 : tie.Need-returns-2
 unfolding notWithHold
-returns-2 c = rw (lt-ltb 0 (c .before .before .before .before .before .before .before .before .before .before .before .before .before .args .self .hold) (omega (arith, c .before .before .before .before .before .before .before .before .before .before .before .if1 .left)))
-    (c .either3 .ensures ∙ rw (c .before .either2 .ensures, c .before .before .before .before .either .ensures, c .before .before .before .before .before .before .both .ensures, c .before .before .before .before .before .before .before .same .ensures, c .before .before .before .before .before .before .before .before .stops .ensures))
+returns-2 c =
+    let own = c .before .before .before .before .before .before in
+    let held = own .before .before .before .before .before in
+    rw (lt-ltb 0 (held .before .before .args .self .hold) (omega (arith, held .if1 .left)))
+    (c .either3 .ensures
+    ∙ rw (c .before .either2 .ensures, c .before .before .before .before .either .ensures, own .both .ensures, own .before .same .ensures, own .before .before .stops .ensures))
 
 pub not-with-hold-spec : {M : Type 1} → statement M
 not-with-hold-spec =

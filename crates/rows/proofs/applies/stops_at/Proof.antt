@@ -14,7 +14,9 @@ returns-3 : tie.Need-returns-3
 returns-3 c = rw (c .before .if3 .taken) (c .is-held .ensures)
 
 returns-4 : tie.Need-returns-4
-returns-4 c = let n = c .before .before .before .before .before .before .args .a .number in rw (ne-eqb n 13 (c .before .before .before .before .if1 .left), ne-eqb n 14 (c .before .before .if2 .left), ne-eqb n 15 (c .if3 .left))
+returns-4 c =
+    let n = c .before .before .before .before .before .before .args .a .number in
+    rw (ne-eqb n 13 (c .before .before .before .before .if1 .left), ne-eqb n 14 (c .before .before .if2 .left), ne-eqb n 15 (c .if3 .left))
 
 pub stops-at-spec : {M : Type 1} → statement M
 stops-at-spec =
