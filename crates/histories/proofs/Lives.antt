@@ -82,16 +82,16 @@ pub record Takes (before after : ℕ → ℕ) (n : ℕ) : Type 0 where
 
 -- ── one slot
 -- what becomes of what stands in a slot and of the use that is kept; g says that it is given up
-pub data Turn (g : Bool) (st u st' u' : ℕ) : Type 0 where
-  stays : g ≡ false → st' ≡ st → u' ≡ u → Turn g st u st' u'
-  taken : g ≡ false → st ≡ 0 → st' ≡ 1 → u' ≡ u → Turn g st u st' u'
-  gone : g ≡ true → st ≡ 1 → (last : Bool) → eqb u 65535 ≡ last → st' ≡ (if last then 2 else 0) → u' ≡ (if last then u else u + 1) → Turn g st u st' u'
+pub data Becomes (g : Bool) (st u st' u' : ℕ) : Type 0 where
+  as-it-was : g ≡ false → st' ≡ st → u' ≡ u → Becomes g st u st' u'
+  now-taken : g ≡ false → st ≡ 0 → st' ≡ 1 → u' ≡ u → Becomes g st u st' u'
+  now-empty : g ≡ true → st ≡ 1 → (last : Bool) → eqb u 65535 ≡ last → st' ≡ (if last then 2 else 0) → u' ≡ (if last then u else u + 1) → Becomes g st u st' u'
 
-turn-life : (g : Bool) (st u st' u' : ℕ) → Turn g st u st' u' → u ≤ 65535 → lifeIn st u ≤ lifeIn st' u'
-turn-life g st u st' u' (stays n e f) h = rw (e, f) (omega arith)
-turn-life g st u st' u' (taken n e f q) h = rw (e, f, q) (omega arith)
-turn-life g st u st' u' (gone n e true l f q) h = rw (e, f) (omega (arith, h))
-turn-life g st u st' u' (gone n e false l f q) h = rw (e, f, q) (omega arith)
+becomes-life : (g : Bool) (st u st' u' : ℕ) → Becomes g st u st' u' → u ≤ 65535 → lifeIn st u ≤ lifeIn st' u'
+becomes-life g st u st' u' (as-it-was n e f) h = rw (e, f) (omega arith)
+becomes-life g st u st' u' (now-taken n e f q) h = rw (e, f, q) (omega arith)
+becomes-life g st u st' u' (now-empty n e true l f q) h = rw (e, f) (omega (arith, h))
+becomes-life g st u st' u' (now-empty n e false l f q) h = rw (e, f, q) (omega arith)
 
 takes-stands : (p : Place) → takesTask p ≡ true → stands p ≡ 0
 takes-stands Free e = refl
@@ -138,12 +138,12 @@ module _ (k : State) (S : Sound k) (n : ℕ) where
     now-stands : (p : ℕ) → stands (taskAt (more p) new .place) ≡ 1
     now-stands p = ap (λ (x : Task). stands (x .place)) (at-same (k .tasks) new (readyAt p) (omega (arith, new-low, S .tables .task-slots)))
 
-    create-turn : (p s : ℕ) → Turn false (standsIn true k s) (keptUse true k s) (stands (taskAt (more p) (task s) .place)) (keptUse true k s)
-    create-turn p s = go (eqb s (new .0)) refl
+    create-becomes : (p s : ℕ) → Becomes false (standsIn true k s) (keptUse true k s) (stands (taskAt (more p) (task s) .place)) (keptUse true k s)
+    create-becomes p s = go (eqb s (new .0)) refl
       where
-        go : (b : Bool) → eqb s (new .0) ≡ b → Turn false (standsIn true k s) (keptUse true k s) (stands (taskAt (more p) (task s) .place)) (keptUse true k s)
-        go true q = rw (eqb-true s (new .0) q) (taken refl new-stands (now-stands p) refl)
-        go false q = stays refl (ap (λ (x : Task). stands (x .place)) (at-other (k .tasks) new (readyAt p) (task s) (eqb-false s (new .0) q))) refl
+        go : (b : Bool) → eqb s (new .0) ≡ b → Becomes false (standsIn true k s) (keptUse true k s) (stands (taskAt (more p) (task s) .place)) (keptUse true k s)
+        go true q = rw (eqb-true s (new .0) q) (now-taken refl new-stands (now-stands p) refl)
+        go false q = as-it-was refl (ap (λ (x : Task). stands (x .place)) (at-other (k .tasks) new (readyAt p) (task s) (eqb-false s (new .0) q))) refl
 
   module _ (e : eqb (freeObject (k .objects)) 16 ≡ false) (y : Kind) (made : standsAs y ≡ 1) where
     abbrev slot : ObjSlot
@@ -160,12 +160,12 @@ module _ (k : State) (S : Sound k) (n : ℕ) where
     slot-now : standsAs (kindAt (kinds (k .objects) slot y) slot) ≡ 1
     slot-now = ap standsAs (kind-same (k .objects) slot y (omega (arith, slot-low, S .tables .object-slots))) ∙ made
 
-    make-turn : (s : ℕ) → Turn false (standsIn false k s) (keptUse false k s) (standsAs (kindAt (kinds (k .objects) slot y) (object s))) (keptUse false k s)
-    make-turn s = go (eqb s (slot .0)) refl
+    make-becomes : (s : ℕ) → Becomes false (standsIn false k s) (keptUse false k s) (standsAs (kindAt (kinds (k .objects) slot y) (object s))) (keptUse false k s)
+    make-becomes s = go (eqb s (slot .0)) refl
       where
-        go : (b : Bool) → eqb s (slot .0) ≡ b → Turn false (standsIn false k s) (keptUse false k s) (standsAs (kindAt (kinds (k .objects) slot y) (object s))) (keptUse false k s)
-        go true q = rw (eqb-true s (slot .0) q) (taken refl slot-stands slot-now refl)
-        go false q = stays refl (ap standsAs (kind-other (k .objects) slot y (object s) (eqb-false s (slot .0) q))) refl
+        go : (b : Bool) → eqb s (slot .0) ≡ b → Becomes false (standsIn false k s) (keptUse false k s) (standsAs (kindAt (kinds (k .objects) slot y) (object s))) (keptUse false k s)
+        go true q = rw (eqb-true s (slot .0) q) (now-taken refl slot-stands slot-now refl)
+        go false q = as-it-was refl (ap standsAs (kind-other (k .objects) slot y (object s) (eqb-false s (slot .0) q))) refl
 
   -- ── the slot that is given up
   module _ (t : TaskSlot) (there : isFree (taskAt (k .tasks) t .place) ≡ false) where
@@ -187,17 +187,17 @@ module _ (k : State) (S : Sound k) (n : ℕ) where
         ap (λ (x : Task). stands (x .place)) (at-same (k .tasks) t (if last then spentTask else freeTask) (omega (arith, low, S .tables .task-slots)))
         ∙ left-stands last
 
-    delete-turn : (s : ℕ) → Turn (eqb (t .0) s) (standsIn true k s) (keptUse true k s) (stands (taskAt fewer (task s) .place)) (useIn (givenUp (k .uses .tasks) (t .0)) s)
-    delete-turn s = go (eqb (t .0) s) refl
+    delete-becomes : (s : ℕ) → Becomes (eqb (t .0) s) (standsIn true k s) (keptUse true k s) (stands (taskAt fewer (task s) .place)) (useIn (givenUp (k .uses .tasks) (t .0)) s)
+    delete-becomes s = go (eqb (t .0) s) refl
       where
-        go : (b : Bool) → eqb (t .0) s ≡ b → Turn b (standsIn true k s) (keptUse true k s) (stands (taskAt fewer (task s) .place)) (useIn (givenUp (k .uses .tasks) (t .0)) s)
+        go : (b : Bool) → eqb (t .0) s ≡ b → Becomes b (standsIn true k s) (keptUse true k s) (stands (taskAt fewer (task s) .place)) (useIn (givenUp (k .uses .tasks) (t .0)) s)
         go true q =
             rw (sym (eqb-true (t .0) s q))
-            (gone refl (there-stands (taskAt (k .tasks) t .place) there) last refl gone-stands
+            (now-empty refl (there-stands (taskAt (k .tasks) t .place) there) last refl gone-stands
             (getD-set-same (k .uses .tasks) (t .0) (nextUse (useIn (k .uses .tasks) (t .0))) 0 (omega (arith, low, S .uses .task-slots))))
         go false q =
             let d : s ≡ t .0 → ⊥ = λ e. eqb-false (t .0) s q (sym e) in
-            stays refl (ap (λ (x : Task). stands (x .place)) (at-other (k .tasks) t (if last then spentTask else freeTask) (task s) d)) (up-other (k .uses .tasks) (t .0) s d)
+            as-it-was refl (ap (λ (x : Task). stands (x .place)) (at-other (k .tasks) t (if last then spentTask else freeTask) (task s) d)) (up-other (k .uses .tasks) (t .0) s d)
 
   module _ (o : ObjSlot) (there : isUnused (kindAt (k .objects) o) ≡ false) where
     abbrev ends : Bool
@@ -216,17 +216,17 @@ module _ (k : State) (S : Sound k) (n : ℕ) where
     gone-as : standsAs (kindAt others o) ≡ (if ends then 2 else 0)
     gone-as = ap standsAs (kind-same (k .objects) o (if ends then SpentObject else Unused) (omega (arith, o-low, S .tables .object-slots))) ∙ left-as ends
 
-    remove-turn : (s : ℕ) → Turn (eqb (o .0) s) (standsIn false k s) (keptUse false k s) (standsAs (kindAt others (object s))) (useIn (givenUp (k .uses .objects) (o .0)) s)
-    remove-turn s = go (eqb (o .0) s) refl
+    remove-becomes : (s : ℕ) → Becomes (eqb (o .0) s) (standsIn false k s) (keptUse false k s) (standsAs (kindAt others (object s))) (useIn (givenUp (k .uses .objects) (o .0)) s)
+    remove-becomes s = go (eqb (o .0) s) refl
       where
-        go : (b : Bool) → eqb (o .0) s ≡ b → Turn b (standsIn false k s) (keptUse false k s) (standsAs (kindAt others (object s))) (useIn (givenUp (k .uses .objects) (o .0)) s)
+        go : (b : Bool) → eqb (o .0) s ≡ b → Becomes b (standsIn false k s) (keptUse false k s) (standsAs (kindAt others (object s))) (useIn (givenUp (k .uses .objects) (o .0)) s)
         go true q =
             rw (sym (eqb-true (o .0) s q))
-            (gone refl (used-stands (kindAt (k .objects) o) there) ends refl gone-as
+            (now-empty refl (used-stands (kindAt (k .objects) o) there) ends refl gone-as
             (getD-set-same (k .uses .objects) (o .0) (nextUse (useIn (k .uses .objects) (o .0))) 0 (omega (arith, o-low, S .uses .object-slots))))
         go false q =
             let d : s ≡ o .0 → ⊥ = λ e. eqb-false (o .0) s q (sym e) in
-            stays refl (ap standsAs (kind-other (k .objects) o (if ends then SpentObject else Unused) (object s) d)) (up-other (k .uses .objects) (o .0) s d)
+            as-it-was refl (ap standsAs (kind-other (k .objects) o (if ends then SpentObject else Unused) (object s) d)) (up-other (k .uses .objects) (o .0) s d)
 
 -- ── every call
 -- after the effect, with the uses that go with it
@@ -242,39 +242,39 @@ abbrev pub givesUp : Bool → Asked → ℕ → Bool
 givesUp true a s = is 2 a && eqb (a .task .0) s
 givesUp false a s = is 12 a && eqb (a .object .0) s
 
-unturned : (k j : State) (us : Uses) (a : Asked) → Stays k j → us ≡ k .uses → is 2 a ≡ false → is 12 a ≡ false → (b : Bool) (s : ℕ)
-    → Turn (givesUp b a s) (standsIn b k s) (keptUse b k s) (standsIn b (withUses j us) s) (keptUse b (withUses j us) s)
-unturned k j us a T e f g true s = stays (rw f) (T .tasks (task s)) (ap (λ (v : Uses). useIn (v .tasks) s) e)
-unturned k j us a T e f g false s = stays (rw g) (T .objects (object s)) (ap (λ (v : Uses). useIn (v .objects) s) e)
+left-alone : (k j : State) (us : Uses) (a : Asked) → Stays k j → us ≡ k .uses → is 2 a ≡ false → is 12 a ≡ false → (b : Bool) (s : ℕ)
+    → Becomes (givesUp b a s) (standsIn b k s) (keptUse b k s) (standsIn b (withUses j us) s) (keptUse b (withUses j us) s)
+left-alone k j us a T e f g true s = as-it-was (rw f) (T .tasks (task s)) (ap (λ (v : Uses). useIn (v .tasks) s) e)
+left-alone k j us a T e f g false s = as-it-was (rw g) (T .objects (object s)) (ap (λ (v : Uses). useIn (v .objects) s) e)
 
-pub effect-turns : (k : State) → Sound k → (n : ℕ) (c : Call) → Passed k (asked (k .uses) c) n → (b : Bool) (s : ℕ)
-    → Turn (givesUp b (asked (k .uses) c) s) (standsIn b k s) (keptUse b k s) (standsIn b (next k c) s) (keptUse b (next k c) s)
+pub effect-becomes : (k : State) → Sound k → (n : ℕ) (c : Call) → Passed k (asked (k .uses) c) n → (b : Bool) (s : ℕ)
+    → Becomes (givesUp b (asked (k .uses) c) s) (standsIn b k s) (keptUse b k s) (standsIn b (next k c) s) (keptUse b (next k c) s)
 unfolding effect asked usesAfter namesNone noneFree created deleted queueMade mutexMade removed toTail leaves
-effect-turns k S n (Create p) P true s = create-turn k S n (P .slot) p s
-effect-turns k S n (Create p) P false s = stays refl refl refl
-effect-turns k S n (Delete t) P true s = delete-turn k S n (taskSlot (k .uses) t) (P .named) s
-effect-turns k S n (Delete t) P false s = stays refl refl refl
-effect-turns k S n (Suspend t) P b s = unturned k _ _ _ (effect-stays k S n (Suspend t) refl P) refl refl refl b s
-effect-turns k S n (Resume t) P b s = unturned k _ _ _ (effect-stays k S n (Resume t) refl P) refl refl refl b s
-effect-turns k S n (SetPriority t p) P b s = unturned k _ _ _ (effect-stays k S n (SetPriority t p) refl P) refl refl refl b s
-effect-turns k S n (Delay d) P b s = unturned k _ _ _ (effect-stays k S n (Delay d) refl P) refl refl refl b s
-effect-turns k S n Yield P b s = unturned k _ _ _ (effect-stays k S n Yield refl P) refl refl refl b s
-effect-turns k S n Hold P b s = unturned k _ _ _ (effect-stays k S n Hold refl P) refl refl refl b s
-effect-turns k S n Release P b s = unturned k _ _ _ (effect-stays k S n Release refl P) refl refl refl b s
-effect-turns k S n (MakeQueue c z) P true s = stays refl refl refl
-effect-turns k S n (MakeQueue c z) P false s = make-turn k S n (P .slot) (Queue (ring c z)) refl s
-effect-turns k S n MakeMutex P true s = stays refl refl refl
-effect-turns k S n MakeMutex P false s = make-turn k S n (P .slot) (Mutex Nobody) refl s
-effect-turns k S n (Remove o) P true s = stays refl refl refl
-effect-turns k S n (Remove o) P false s = remove-turn k S n (objSlot (k .uses) o) (P .named) s
-effect-turns k S n (Send o w) P b s = unturned k _ _ _ (effect-stays k S n (Send o w) refl P) refl refl refl b s
-effect-turns k S n (Receive o w) P b s = unturned k _ _ _ (effect-stays k S n (Receive o w) refl P) refl refl refl b s
-effect-turns k S n (Take o w) P b s = unturned k _ _ _ (effect-stays k S n (Take o w) refl P) refl refl refl b s
-effect-turns k S n (Give o) P b s = unturned k _ _ _ (effect-stays k S n (Give o) refl P) refl refl refl b s
-effect-turns k S n Tick P b s = unturned k _ _ _ (effect-stays k S n Tick refl P) refl refl refl b s
+effect-becomes k S n (Create p) P true s = create-becomes k S n (P .slot) p s
+effect-becomes k S n (Create p) P false s = as-it-was refl refl refl
+effect-becomes k S n (Delete t) P true s = delete-becomes k S n (taskSlot (k .uses) t) (P .named) s
+effect-becomes k S n (Delete t) P false s = as-it-was refl refl refl
+effect-becomes k S n (Suspend t) P b s = left-alone k _ _ _ (effect-stays k S n (Suspend t) refl P) refl refl refl b s
+effect-becomes k S n (Resume t) P b s = left-alone k _ _ _ (effect-stays k S n (Resume t) refl P) refl refl refl b s
+effect-becomes k S n (SetPriority t p) P b s = left-alone k _ _ _ (effect-stays k S n (SetPriority t p) refl P) refl refl refl b s
+effect-becomes k S n (Delay d) P b s = left-alone k _ _ _ (effect-stays k S n (Delay d) refl P) refl refl refl b s
+effect-becomes k S n Yield P b s = left-alone k _ _ _ (effect-stays k S n Yield refl P) refl refl refl b s
+effect-becomes k S n Hold P b s = left-alone k _ _ _ (effect-stays k S n Hold refl P) refl refl refl b s
+effect-becomes k S n Release P b s = left-alone k _ _ _ (effect-stays k S n Release refl P) refl refl refl b s
+effect-becomes k S n (MakeQueue c z) P true s = as-it-was refl refl refl
+effect-becomes k S n (MakeQueue c z) P false s = make-becomes k S n (P .slot) (Queue (ring c z)) refl s
+effect-becomes k S n MakeMutex P true s = as-it-was refl refl refl
+effect-becomes k S n MakeMutex P false s = make-becomes k S n (P .slot) (Mutex Nobody) refl s
+effect-becomes k S n (Remove o) P true s = as-it-was refl refl refl
+effect-becomes k S n (Remove o) P false s = remove-becomes k S n (objSlot (k .uses) o) (P .named) s
+effect-becomes k S n (Send o w) P b s = left-alone k _ _ _ (effect-stays k S n (Send o w) refl P) refl refl refl b s
+effect-becomes k S n (Receive o w) P b s = left-alone k _ _ _ (effect-stays k S n (Receive o w) refl P) refl refl refl b s
+effect-becomes k S n (Take o w) P b s = left-alone k _ _ _ (effect-stays k S n (Take o w) refl P) refl refl refl b s
+effect-becomes k S n (Give o) P b s = left-alone k _ _ _ (effect-stays k S n (Give o) refl P) refl refl refl b s
+effect-becomes k S n Tick P b s = left-alone k _ _ _ (effect-stays k S n Tick refl P) refl refl refl b s
 
 pub effect-grows : (k : State) → Sound k → (n : ℕ) (c : Call) → Passed k (asked (k .uses) c) n → Grows k (next k c)
-effect-grows k S n c P b s = turn-life _ _ _ _ _ (effect-turns k S n c P b s) (range b)
+effect-grows k S n c P b s = becomes-life _ _ _ _ _ (effect-becomes k S n c P b s) (range b)
   where
     range : (b : Bool) → keptUse b k s ≤ 65535
     range true = S .uses .tasks (task s)
@@ -311,7 +311,7 @@ effect-takes k S n (Take o w) P x = absurd (false≢true x)
 effect-takes k S n (Give o) P x = absurd (false≢true x)
 effect-takes k S n Tick P x = absurd (false≢true x)
 
--- choose changes who runs, and no slot: so neither what is made of what stands in it and its use
+-- choose changes who runs, and no slot
 pub chosen-slot : (f : ℕ → ℕ → ℕ) (b : Bool) (j : State) (us : Uses) (s : ℕ)
     → f (standsIn b (withUses (chosen j) us) s) (keptUse b (withUses (chosen j) us) s) ≡ f (standsIn b (withUses j us) s) (keptUse b (withUses j us) s)
 unfolding chosen

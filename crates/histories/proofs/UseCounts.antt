@@ -30,7 +30,7 @@ use Rattle.promises.proofs.Histories.{reached-sound}
 use Rattle.histories.specs.Types.{TaskSlot, ObjSlot, Place, Free, Ready, Delayed, Waiting, Suspended, Spent, Kind, Unused, SpentObject, Queue, Mutex, State}
 use Rattle.histories.specs.Moments.{onto, moments, isRefusal}
 use Rattle.histories.specs.Uses.{useOf, taskUse, objectUse, times, UsesCount}
-use Rattle.histories.proofs.Lives.{standsIn, keptUse, Turn, stays, taken, gone, givesUp, effect-turns, chosen-slot}
+use Rattle.histories.proofs.Lives.{standsIn, keptUse, Becomes, as-it-was, now-taken, now-empty, givesUp, effect-becomes, chosen-slot}
 use Rattle.histories.proofs.FairSteps.{answered-accepts}
 use Rattle.histories.proofs.NeverAgain.{step-cases}
 
@@ -57,11 +57,11 @@ object-by (Mutex h) u = refl
 abbrev one : Bool → ℕ
 one b = if b then 1 else 0
 
-turn-use : (g : Bool) (st u st' u' : ℕ) → Turn g st u st' u' → useBy st' u' ≡ one g + useBy st u
-turn-use g st u st' u' (stays n e f) = rw (n, e, f) (omega arith)
-turn-use g st u st' u' (taken n e f q) = rw (n, e, f, q) (omega arith)
-turn-use g st u st' u' (gone n e true l f q) = rw (n, e, f) (omega (arith, eqb-true u 65535 l))
-turn-use g st u st' u' (gone n e false l f q) = rw (n, e, f, q) (omega arith)
+becomes-use : (g : Bool) (st u st' u' : ℕ) → Becomes g st u st' u' → useBy st' u' ≡ one g + useBy st u
+becomes-use g st u st' u' (as-it-was n e f) = rw (n, e, f) (omega arith)
+becomes-use g st u st' u' (now-taken n e f q) = rw (n, e, f, q) (omega arith)
+becomes-use g st u st' u' (now-empty n e true l f q) = rw (n, e, f) (omega (arith, eqb-true u 65535 l))
+becomes-use g st u st' u' (now-empty n e false l f q) = rw (n, e, f, q) (omega arith)
 
 -- ── a step: true for a task slot, false for an object slot
 abbrev useAt : Bool → State → ℕ → ℕ
@@ -76,7 +76,7 @@ step-use k e m b s =
     step-cases k e m (λ d. useAt b (d .kernel) s ≡ one (not (isRefusal (d .answer .word)) && givesUp b (asked (k .uses) (m .call)) s) + useAt b k s)
     (λ P.
     chosen-slot useBy b (effect k (asked (k .uses) (m .call))) (usesAfter (k .uses) (asked (k .uses) (m .call))) s
-    ∙ turn-use _ _ _ _ _ (effect-turns k (sound-says k e) (length (m .store)) (m .call) P b s)
+    ∙ becomes-use _ _ _ _ _ (effect-becomes k (sound-says k e) (length (m .store)) (m .call) P b s)
     ∙ ap (λ r. one (not r && givesUp b (asked (k .uses) (m .call)) s) + useAt b k s) (sym (answered-accepts k (m .call) (chosen (effect k (asked (k .uses) (m .call)))))))
     (omega arith)
 

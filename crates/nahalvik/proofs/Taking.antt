@@ -7,7 +7,7 @@ use native.Mathlib.Omega.{arith}
 use borrow.Author.Tests.{ltb-true}
 use lib.Dec.{eqb, ltb}
 use lib.ListN.{length, take, drop, replicate, length-append}
-use lib.Seq.{length-take-le, take-append-seam}
+use lib.Seq.{take-append-seam}
 use Rattle.lists.specs.Choice.{if_then_else_}
 use Rattle.lists.specs.Lists.{foldl}
 use Rattle.lists.proofs.Bools.{and-right}
@@ -33,9 +33,6 @@ use Rattle.nahalvik.specs.Blocks.{fedAll, onward, roomFor, fromStart, Br
 -- the answers stand in the output
 pub fits : (k : Kernel) (d : Run) (lent : List ℕ) (r : Served) (s o : List ℕ) → Ran k d lent r s o → r .written ≤ length o
 fits k d lent r s o h = omega (arith, h .written, ap length (h .output), length-append (d .answers) (drop (length (d .answers)) lent))
-
-pub fits-take : (k : Kernel) (d : Run) (lent : List ℕ) (r : Served) (s o : List ℕ) → Ran k d lent r s o → r .written ≡ length (take (r .written) o)
-fits-take k d lent r s o h = sym (length-take-le (r .written) o (fits k d lent r s o h))
 
 pub none-brought : (n : Session) (buffer s lent : List ℕ) → Brought n buffer s lent record { session = n; taken = 0; written = 0 } s lent
 unfolding foldl

@@ -21,6 +21,10 @@ abbrev pub onward : Session → List ℕ → List ℕ → Kernel
 onward n s [] = n .kernel
 onward n s (b ∷ bytes) = standing (n .kernel) (fedAll n s (b ∷ bytes) .kernel)
 
+-- no byte has come
+abbrev pub unserved : Session → Served
+unserved n = record { session = n; taken = 0; written = 0 }
+
 -- the room that the answers to a block can take: an answer has at most 64 bytes, and each byte may end a line; none is begun without 256 bytes
 abbrev pub roomFor : List ℕ → ℕ
 roomFor block = 64 * length block + 256

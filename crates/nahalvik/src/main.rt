@@ -3,7 +3,7 @@ ghost use Prim.Native.Nat.{_≤_};
 ghost use mathlib.Core.Path.{_≡_};
 ghost use lib.ListN.{length, replicate};
 ghost use Rattle.kernel.specs.Promises.{Closes};
-ghost use Rattle.nahalvik.specs.Blocks.{roomFor, Brought, Came};
+ghost use Rattle.nahalvik.specs.Blocks.{unserved, roomFor, Brought, Came};
 use kernel::Served;
 use kernel::Session;
 use libc::STDIN_FILENO;
@@ -16,9 +16,11 @@ struct Turn {
     fine: bool,
 }
 
-// Writes some answers. Where that fails, it says so, with the system's reason.
-fn tell(answers: &[u8]) -> bool {
-    if io::write_all(STDOUT_FILENO, answers) {
+// Writes the first `n` bytes, which are answers. Where that fails, it says so, with the system's reason.
+fn tell(out: &[u8], n: usize) -> bool
+    requires { ⌜ n ≤ length (now out) ⌝ }
+{
+    if io::write_all(STDOUT_FILENO, &out[..n]) {
         return true;
     }
     os::fail(b"nahalvik: standard output");
@@ -34,6 +36,21 @@ fn ended(got: isize) -> bool {
     false
 }
 
+// Nothing came: the input has ended, or a read failed.
+fn none_came(session: Session, got: isize) -> Turn
+    ensures { λ r. ⌜ r .served ≡ unserved session ⌝ }
+{
+    Turn {
+        served: Served {
+            session,
+            taken: 0,
+            written: 0,
+        },
+        more: false,
+        fine: ended(got),
+    }
+}
+
 // Reads once, answers all that came at once, since the output has room for that, and writes the answers. A line that a failed read cuts gets no answer.
 fn read_block(session: Session, block: &mut [u8], store: &mut [u8], out: &mut [u8]) -> Turn
     requires { ⌜ roomFor (now block) ≤ length (now out) ⌝ }
@@ -42,19 +59,11 @@ fn read_block(session: Session, block: &mut [u8], store: &mut [u8], out: &mut [u
     let got = libc::read(STDIN_FILENO, block);
     let n = io::count(got, block);
     if n == 0 {
-        return Turn {
-            served: Served {
-                session,
-                taken: 0,
-                written: 0,
-            },
-            more: false,
-            fine: ended(got),
-        };
+        return none_came(session, got);
     }
     let served = session.answer(&block[..n], store, out);
     let written = served.written;
-    let fine = tell(&out[..written]);
+    let fine = tell(out, written);
     Turn {
         served,
         more: fine,
@@ -92,7 +101,7 @@ fn end_input(session: Session, store: &[u8], out: &mut [u8]) -> Served
 {
     let served = session.end(store, out);
     let n = served.written;
-    tell(&out[..n]);
+    tell(out, n);
     served
 }
 

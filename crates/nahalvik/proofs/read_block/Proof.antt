@@ -1,17 +1,16 @@
 use borrow.Author.Needs.{needs}
-use Rattle.nahalvik.proofs.Taking.{fits, fits-take, none-brought, some-brought}
+use Rattle.nahalvik.proofs.Taking.{fits, none-brought, some-brought}
 use native.Mathlib.Omega.{arith}
 use Rattle.nahalvik.proofs.read_block.Statement.{statement}
 use Rattle.nahalvik.proofs.read_block.Tie as tie
 
 returns : tie.Need-returns
-returns c = none-brought _ _ _ _
+returns c = rw (c .none-came .ensures) (none-brought _ _ _ _)
 
-slice-reshare-prefix-tell : tie.Need-slice-reshare-prefix-tell
-slice-reshare-prefix-tell c = fits _ _ _ (c .before .before .before .before .answer .result) _ _ (c .before .before .before .before .answer .ensures)
-
-slice-aggregate-tell : tie.Need-slice-aggregate-tell
-slice-aggregate-tell c = fits-take _ _ _ (c .before .before .before .before .before .answer .result) _ _ (c .before .before .before .before .before .answer .ensures)
+tell-requires : tie.Need-tell-requires
+tell-requires c κs =
+    let a = c .before .before .before .before .before in
+    fits _ _ _ (a .answer .result) _ _ (a .answer .ensures)
 
 returns-2 : tie.Need-returns-2
 returns-2 c =
@@ -34,9 +33,7 @@ read-block-spec =
     (λ c. search needs)
     (λ c. search needs)
     (λ c κs. search needs)
-    slice-reshare-prefix-tell
-    slice-aggregate-tell
-    (λ c κs. search needs)
+    tell-requires
     (λ c. search needs)
     (λ c. search needs)
     (λ c. search needs)
