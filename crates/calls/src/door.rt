@@ -40,7 +40,7 @@ fn number(uses: [u16; 16], slot: u8) -> u32
     }
 }
 
-// Whether `slot`, which the number `n` names, stands at its last use: what it names has the slot's use.
+// Whether `slot`, which the number `n` names, stands at its last use: a number that names a slot has the slot's use.
 pub(crate) fn last(n: u32, slot: u8) -> bool
     ensures { λ r. ⌜ r ≡ (ltb slot 16 && eqb (n / 16) 65535) ⌝ }
 {
