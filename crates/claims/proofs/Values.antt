@@ -8,7 +8,7 @@ use Rattle.tasks.proofs.WayBack.{tasks-back}
 use Rattle.objects.proofs.WayBack.{objects-back}
 use Rattle.rules.specs.Sound.{sound}
 use Rattle.rules.proofs.SoundSays.{sound-says, says-sound}
-use Rattle.kernel.specs.Stands.{kernelOf, plain, asRows, withoutTables, shown, coreOf, shownWith}
+use Rattle.kernel.specs.Stands.{plain, asRows, withoutTables, shown, coreOf, shownWith}
 use Rattle.kernel.proofs.Shown.{no-tables}
 use Rattle.claims.specs.Types.{Kernel}
 use Rattle.claims.specs.Values.{SoundValue, Full, Stands}

@@ -31,7 +31,7 @@ use Rattle.rules.proofs.KeepBlocks.{prioritized-same, prioritized-tasks}
 use Rattle.rules.proofs.Keeps.{there-low}
 use Rattle.rules.proofs.KeepTasks.{has-slot, is-free}
 use Rattle.rules.specs.Trace.{Moment, CallMade}
-use Rattle.histories.specs.Types.{TaskNo, TaskSlot, ObjSlot, Place, Free, Ready, Delayed, Waiting, Suspended, Task, State, Call, Create, Delete, SetPriority}
+use Rattle.histories.specs.Types.{TaskNo, TaskSlot, ObjSlot, Task, State, Call, Create, Delete, SetPriority}
 use Rattle.histories.specs.Moments.{isRefusal}
 use Rattle.histories.specs.Borrowed.{largest, givenAt}
 use Rattle.histories.proofs.Quiet.{Quiet, each, slot-quiet, ranked-quiet}

@@ -7,12 +7,13 @@ use lib.Dec.{eqb}
 use Rattle.lists.specs.Choice.{if_then_else_}
 use Rattle.calls.specs.Named.{taskOf, objectOf}
 use Rattle.calls.specs.Door.{taskSlot, objSlot, taskNo, objNo}
+use Rattle.calls.specs.Table.{word}
+use Rattle.calls.specs.Words.{frameOf}
 use Rattle.calls.specs.Behind.{asked}
 use Rattle.rules.specs.Lines.{level}
 use Rattle.rules.specs.Trace.{Moment, CallMade}
 use Rattle.slots.specs.Kinds.{isUnused, kindAt}
-use Rattle.histories.specs.Types.{TaskSlot, ObjSlot, State}
-use Rattle.histories.specs.Types.{Call, Create, Delete, Suspend, Resume, SetPriority, Delay, Yield, Hold, Release, MakeQueue, MakeMutex, Remove, Send, Receive, Take, Give, Tick}
+use Rattle.histories.specs.Types.{TaskSlot, ObjSlot, Call, State}
 use Rattle.histories.specs.Moments.{moments, exists, hasMutex, notRefused}
 use Rattle.histories.specs.Borrowed.{largest, lastOf, lentAt}
 use Rattle.histories.specs.Again.{namesTask, namesObject, madeTask}
@@ -30,23 +31,7 @@ pub record Numbered (k : State) : Type 0 where
 
 -- a set priority whose call says the number n itself
 abbrev pub setsPriorityOf : ℕ → Call → Bool
-setsPriorityOf n (Create p) = false
-setsPriorityOf n (Delete t) = false
-setsPriorityOf n (Suspend t) = false
-setsPriorityOf n (Resume t) = false
-setsPriorityOf n (SetPriority t p) = eqb (t .0) n
-setsPriorityOf n (Delay d) = false
-setsPriorityOf n Yield = false
-setsPriorityOf n Hold = false
-setsPriorityOf n Release = false
-setsPriorityOf n (MakeQueue c z) = false
-setsPriorityOf n MakeMutex = false
-setsPriorityOf n (Remove o) = false
-setsPriorityOf n (Send o w) = false
-setsPriorityOf n (Receive o w) = false
-setsPriorityOf n (Take o w) = false
-setsPriorityOf n (Give o) = false
-setsPriorityOf n Tick = false
+setsPriorityOf n c = eqb (frameOf c .number) 5 && eqb (word (frameOf c .words) 0) n
 
 -- "by its creation or an accepted change": by the create that answered made n, or by an accepted set priority of n
 unfoldable pub givenTo : ℕ → Moment CallMade → List ℕ

@@ -10,7 +10,6 @@ use lib.Seq.{sets-eq, take-length}
 use borrow.Author.Tests.{lt-ltb, le-ltb, ltb-true, ltb-false}
 use Rattle.lists.proofs.Bools.{or-off}
 use Rattle.lists.specs.Choice.{if_then_else_}
-use Rattle.numbers.specs.declared.TaskSlot.{TaskSlot}
 use Rattle.calls.specs.declared.Call.{Call}
 use Rattle.calls.specs.declared.Answer.the-variants.{Refused as NotDone}
 use Rattle.calls.specs.Behind.{asked}

@@ -4,7 +4,6 @@ use mathlib.Core.Path.{_≡_, refl, sym, ap, _∙_}
 use mathlib.Core.Bool.{Bool, true, false, _&&_}
 use mathlib.Core.List.{List}
 use native.Mathlib.Omega.{arith}
-use lib.Dec.{eqb, leb}
 use Rattle.lists.specs.Choice.{if_then_else_}
 use Rattle.lists.specs.Lists.{every, allBelow}
 use Rattle.lists.proofs.Bools.{and-left, and-right, and-intro, same-test}
@@ -19,7 +18,7 @@ use Rattle.rules.specs.State.{State}
 use Rattle.rules.specs.Tables.{withUses}
 use Rattle.rules.specs.Sound.{sound}
 use Rattle.rules.specs.Steps.{Stepped}
-use Rattle.rules.proofs.SoundSays.{Tested, sound-tested, tested-sound, sound-says}
+use Rattle.rules.proofs.SoundSays.{sound-tested, tested-sound, sound-says}
 use Rattle.kernel.specs.Types.{Core, Kernel, Uses, Step}
 use Rattle.kernel.specs.Stands.{coreOf, kernelOf, plain, asRows, withoutTables, shownWith, shown, shownCore, standing}
 use Rattle.kernel.specs.Promises.{Is}

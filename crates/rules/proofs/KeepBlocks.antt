@@ -14,7 +14,7 @@ use Rattle.order.specs.Order.{listed, without}
 use Rattle.order.proofs.Passing.{one-number}
 use Rattle.slots.specs.Places.{isFree, isReady, isBlocked, isListed}
 use Rattle.slots.specs.Values.{placed, ranked, inLine, taskAt}
-use Rattle.rules.specs.Types.{TaskSlot, ObjSlot, Wake, Place, Free, Ready, Waiting, Task, State}
+use Rattle.rules.specs.Types.{TaskSlot, ObjSlot, Wake, Place, Ready, Waiting, Task, State}
 use Rattle.slots.specs.Kinds.{kindAt}
 use Rattle.rules.specs.Tables.{withTask}
 use Rattle.rules.specs.Lines.{level, toTail, toHead}

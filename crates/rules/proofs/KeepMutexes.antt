@@ -17,7 +17,7 @@ use Rattle.slots.specs.Places.{isFree, waitsOn}
 use Rattle.slots.specs.Values.{ranked, taskAt}
 use Rattle.slots.specs.Kinds.{isUnused, isMutex, heldBy, isHeld, kindAt}
 use Rattle.slots.specs.SoundSlots.{notDue}
-use Rattle.rules.specs.Types.{TaskSlot, ObjSlot, Wake, Place, Free, Ready, Waiting, Task, Nobody, By, Kind, Unused, SpentObject, Queue, Mutex, WaitersOf, State, AMutex}
+use Rattle.rules.specs.Types.{TaskSlot, ObjSlot, Wake, Place, Ready, Waiting, Task, Nobody, By, Kind, Unused, SpentObject, Queue, Mutex, WaitersOf, State, AMutex}
 use Rattle.rules.specs.Tables.{holds, withObject}
 use Rattle.rules.specs.Lines.{level, first, toTail}
 use Rattle.rules.specs.Sentences.{Holds, HoldsNothing, Exists, MayWait, taker, Sound}

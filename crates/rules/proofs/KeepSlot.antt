@@ -16,7 +16,7 @@ use Rattle.order.proofs.Passing.{one-number}
 use Rattle.order.proofs.Counts.{count-append, count-one, count-other, count-gone, count-stays}
 use Rattle.slots.specs.Places.{isFree, isListed}
 use Rattle.slots.specs.Values.{freeTask, taskAt}
-use Rattle.rules.specs.Types.{TaskSlot, ObjSlot, Order, Free, Task, State}
+use Rattle.rules.specs.Types.{TaskSlot, ObjSlot, Order, Task, State}
 use Rattle.rules.specs.Tables.{withTask, withOrder}
 use Rattle.rules.specs.Lines.{toTail, toHead, leaves}
 use Rattle.rules.specs.Sentences.{Holds, AsIdle, TaskFits, LevelFits, Tables, Listing}

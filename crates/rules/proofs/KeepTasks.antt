@@ -15,10 +15,10 @@ use Rattle.calls.specs.Behind.{nothing, onTask}
 use Rattle.order.proofs.Passing.{one-number}
 use Rattle.slots.specs.Places.{isFree, takesTask, isSuspended, isBlocked, isListed}
 use Rattle.slots.specs.Values.{freeTask, spentTask, readyAt, brokenOff, taskAt}
-use Rattle.rules.specs.Types.{TaskSlot, ObjSlot, Free, Ready, Delayed, Suspended, Task, State}
+use Rattle.rules.specs.Types.{TaskSlot, ObjSlot, Wake, Free, Ready, Delayed, Waiting, Spent, Task, State}
 use Rattle.rules.specs.Tables.{holds, freeSlot, withTask}
 use Rattle.rules.specs.Lines.{level, toTail, leaves}
-use Rattle.rules.specs.Sentences.{Holds, HoldsNothing, AsIdle, Sound}
+use Rattle.rules.specs.Sentences.{Holds, HoldsNothing, AsIdle, TaskFits, Sound}
 use Rattle.rows.specs.Applies.{outOfRange, namesNone, notForIdle, notWithHold, noneFree, notSuspended}
 use Rattle.rules.specs.Refusals.{inUse}
 use Rattle.rules.specs.Waits.{later, arrives}
@@ -119,30 +119,21 @@ module _ (k : State) (S : Sound k) (store : ℕ) where
         go true = a
         go false = b
 
+    nobody-fits : (x : Task) → x .outcome ≡ 0 → ((o : ObjSlot) (v : Wake) → x .place ≡ Waiting o v → ⊥) → (x .place ≡ Free → x ≡ freeTask) → (x .place ≡ Spent → x ≡ spentTask)
+        → TaskFits (k .objects) t x
+    nobody-fits x n w f s =
+        record { waits = λ o v e. absurd (w o v e); outcome-range = omega (arith, n); delay-outcome = λ v e. n; wait-outcome = λ o v e. n; free = f; spent = s }
+
     gone : TaskFine (settled (k .tick)) (k .objects) t (if l then spentTask else freeTask)
     gone =
         left (TaskFine (settled (k .tick)) (k .objects) t)
         (record {
-          fits = record {
-            waits = λ o v e. absurd (let z : _≡_ {A = ℕ} 0 1 = cc in omega arith);
-            outcome-range = omega arith;
-            delay-outcome = λ v e. refl;
-            wait-outcome = λ o v e. refl;
-            free = λ e. absurd (let z : _≡_ {A = ℕ} 0 1 = cc in omega arith);
-            spent = λ e. refl;
-          };
+          fits = nobody-fits spentTask refl (λ o v e. let z : _≡_ {A = ℕ} 0 1 = cc in omega arith) (λ e. absurd (let z : _≡_ {A = ℕ} 0 1 = cc in omega arith)) (λ e. refl);
           levels = record { at-least = omega arith; equal = λ c. refl; range = omega arith };
           due = refl;
         })
         (record {
-          fits = record {
-            waits = λ o v e. absurd (let z : _≡_ {A = ℕ} 0 1 = cc in omega arith);
-            outcome-range = omega arith;
-            delay-outcome = λ v e. refl;
-            wait-outcome = λ o v e. refl;
-            free = λ e. refl;
-            spent = λ e. absurd (let z : _≡_ {A = ℕ} 0 1 = cc in omega arith);
-          };
+          fits = nobody-fits freeTask refl (λ o v e. let z : _≡_ {A = ℕ} 0 1 = cc in omega arith) (λ e. refl) (λ e. absurd (let z : _≡_ {A = ℕ} 0 1 = cc in omega arith));
           levels = record { at-least = omega arith; equal = λ c. refl; range = omega arith };
           due = refl;
         })

@@ -9,7 +9,7 @@ use borrow.Author.Tests.{eqb-true, eqb-false, eq-eqb, ne-eqb, ltb-true, lt-ltb, 
 use Rattle.lists.proofs.Bools.{and-left, and-right, and-intro, or-left, or-right, or-second, off, not-off, at, also, none, below-all}
 use Rattle.numbers.specs.Numbers.{task, object, idle, sameTask}
 use Rattle.slots.specs.Places.{isFree, isReady, isBlocked}
-use Rattle.slots.specs.Values.{freeTask, taskAt}
+use Rattle.slots.specs.Values.{taskAt}
 use Rattle.slots.specs.Kinds.{kindAt}
 use Rattle.slots.specs.SoundSlots.{idleFine, mayWait, waitsFine, holderThere, ringFine, ringInRange, outcomeFine, freshIfFree}
 use Rattle.rules.specs.Types.{TaskSlot, ObjSlot, Place, Free, Ready, Delayed, Waiting, Suspended, Spent, Task, Ring, Nobody, By, Kind, Unused, SpentObject, Queue, Mutex, Object}

@@ -4,7 +4,7 @@ use borrow.Author.Tests.{ne-eqb}
 use lib.ListN.{length}
 use mathlib.Core.Path.{_∙_}
 use native.Mathlib.Omega.{arith}
-use Rattle.rules.specs.Effects.{effect, yielded, removed}
+use Rattle.rules.specs.Effects.{effect, yielded}
 use Rattle.rules.specs.Steps.{stored}
 use Rattle.kernel.proofs.RowPassed.{in-range, whole, right-size, may-hold, may-release, may-tick, task-slot, queue-slot, mutex-slot}
 use Rattle.kernel.proofs.Core.served.Statement.{statement}
