@@ -1,27 +1,27 @@
 -- The test of the code, one pass over each table's columns, is the plain one of the state that is shownCore.
 use Prim.Native.Nat.{ℕ, _<_, _≤_}
 use mathlib.Core.Path.{_≡_, refl, sym, ap, _∙_}
-use mathlib.Core.Bool.{Bool, true, false, false≢true, not, _&&_, _||_}
+use mathlib.Core.Bool.{Bool, true, false, false≢true, not, _&&_, _||_, and-assoc}
 use mathlib.Core.List.{List, [], _∷_}
 use native.Mathlib.Omega.{arith}
-use lib.Dec.{eqb, ltb}
+use lib.Dec.{eqb, ltb, leb}
 use lib.ListN.{length, getD, List·getD-eq-default}
-use borrow.Author.Tests.{ltb-true, ltb-false, eqb-true}
+use borrow.Author.Tests.{ltb-true, ltb-false}
 use Rattle.lists.specs.Choice.{if_then_else_}
-use Rattle.lists.specs.Lists.{kept, isNone, allBelow}
-use Rattle.lists.proofs.Bools.{and-left, and-right, and-intro, off, not-off, untrue, same-test, all-below, below-all}
-use Rattle.lists.proofs.Tests.{any-at, any-none}
+use Rattle.lists.specs.Lists.{kept, allBelow}
+use Rattle.lists.proofs.Bools.{and-left, and-right, and-intro, same-test, all-below, below-all}
 use Rattle.numbers.specs.declared.TaskSlot.{TaskSlot}
 use Rattle.numbers.specs.Numbers.{task, object}
 use Rattle.order.specs.Order.{listed}
 use Rattle.order.specs.Tidy.{count, tidy, talliesOf}
-use Rattle.order.proofs.CountPassing.{count-kept}
 use Rattle.order.proofs.Tallies.{tallies-count}
 use Rattle.slots.specs.declared.Place.{Place}
 use Rattle.slots.specs.declared.Place.the-variants.{Free, Ready, Delayed, Waiting, Suspended}
+use Rattle.heights.proofs.Counts.{largest-same}
 use Rattle.slots.specs.declared.Task.{Task}
+use Rattle.slots.specs.Who.{AllReady}
 use Rattle.slots.specs.Places.{isReady}
-use Rattle.slots.specs.Values.{freeTask, taskAt, inLine, inHigher}
+use Rattle.slots.specs.Values.{freeTask, taskAt, inLine}
 use Rattle.slots.specs.Kinds.{kindAt, marksOf}
 use Rattle.slots.specs.SoundSlots.{idleFine, standsFine, ordersFine, mayWait, mayWaitOn, waitsFine, prioritiesFine, holderSlot, freeHolds, notDue, ringInRange, outcomeFine, freshIfFree}
 use Rattle.slots.proofs.Marks.{marks-hold}
@@ -30,8 +30,8 @@ use Rattle.tasks.specs.declared.Tasks.{Tasks}
 use Rattle.tasks.specs.Numbering.{placeOf}
 use Rattle.tasks.specs.Columns.{rowAt, rowsOf}
 use Rattle.tasks.specs.Known.{known, wakeKnown, canonical}
-use Rattle.tasks.specs.Walks.{outrankedIn, lineIn}
-use Rattle.tasks.specs.Fine.{aloneFine, rowsFine, wakesFine, idleAlone, waitsBy, waitsAt, runsAt, runsIn, Fine}
+use Rattle.tasks.specs.Walks.{lineIn, levelAt, topIn}
+use Rattle.tasks.specs.Fine.{aloneFine, rowsFine, wakesFine, idleAlone, waitsBy, waitsAt, headed, headsIn, runsIn, Fine}
 use Rattle.tasks.proofs.Columns.{row-at, rows-many}
 use Rattle.objects.specs.declared.Objects.{Objects}
 use Rattle.objects.specs.declared.Holdings.{Holdings}
@@ -42,9 +42,11 @@ use Rattle.objects.proofs.Fines.{fine-canonical}
 use Rattle.objects.proofs.Plain.{ranges-of, fine-of}
 use Rattle.rules.specs.State.{State}
 use Rattle.rules.specs.Tables.{holds}
-use Rattle.rules.specs.Lines.{line, level}
+use Rattle.rules.specs.Lines.{line, those, level, highest}
 use Rattle.rules.specs.Sound.{slotTask, slotKind, levelsFine, heads, noHigher, runsFine, counted, pendsFine, sound}
-use Rattle.rules.proofs.TableSlots.{past-tasks, past-objects, is-ready}
+use Rattle.rules.proofs.LineLeads.{no-higher-by}
+use Rattle.rules.proofs.LineHeights.{largest-highest}
+use Rattle.rules.proofs.TableSlots.{past-tasks, past-objects}
 use Rattle.rules.proofs.SoundTables.{TablesTested, tables-tested, tested-tables}
 use Rattle.rules.proofs.SoundListing.{ListingTested, listing-tested, tested-listing}
 use Rattle.rules.proofs.SoundClock.{ClockTested, clock-tested, tested-clock}
@@ -56,24 +58,8 @@ use Rattle.kernel.proofs.Shown.{fresh-fine, no-tables}
 use Rattle.slots.specs.declared.Place.the-variants.{Spent}
 
 -- ── small laws
-ready-once : (n : ℕ) (p : Place) → isReady p ≡ true → standsFine n p ≡ true → n ≡ 1
-ready-once n p e h = eqb-true n 1 (rw (is-ready p e) at h)
-
 off-left : (a b : Bool) → a ≡ false → (a && b) ≡ false
 off-left a b e = ap (λ (c : Bool). c && b) e
-
-none-counts : (n : ℕ) (l : List TaskSlot) → l ≡ [] → count n l ≡ 1 → ⊥
-unfolding count
-none-counts n l e h = let z : _≡_ {A = ℕ} 0 1 = sym (ap (count n) e) ∙ h in omega arith
-
-none-kept : (l : List TaskSlot) → isNone l ≡ true → l ≡ []
-none-kept [] e = refl
-none-kept (t ∷ l) e = absurd (false≢true e)
-
-kept-none-at : (p : TaskSlot → Bool) (l : List TaskSlot) → ((t : TaskSlot) → p t ≡ false) → kept p l ≡ []
-unfolding kept
-kept-none-at p [] f = refl
-kept-none-at p (t ∷ l) f = rw (f t, kept-none-at p l f)
 
 -- the tests of one row by their names
 record AloneTested (n : ℕ) (held : Bool) (x : Task) : Type 0 where
@@ -136,44 +122,36 @@ module _ (ts : Tasks) (many : length (rowsOf ts) ≡ 16) where
   same-kept f free (t ∷ l) = rw (same-row f free t, same-kept f free l)
 
   -- ── who runs
-  module _ (l : List TaskSlot) (once : (n : ℕ) → n < 16 → standsFine (count n l) (rowAt ts n .place) ≡ true) where
-    abbrev higher : ℕ → TaskSlot → Bool
-    higher p t = inHigher p (taskAt (rowsOf ts) t)
+  same-top : (l : List TaskSlot) → topIn ts l ≡ highest (rowsOf ts) (those (rowsOf ts) AllReady l)
+  unfolding topIn those
+  same-top l =
+      rw (same-kept (λ (x : Task). isReady (x .place)) (λ x e. ap isReady e) l)
+      (largest-same (levelAt ts) (level (rowsOf ts)) (λ t. isReady (taskAt (rowsOf ts) t .place)) same-level l ∙ largest-highest (rowsOf ts) _)
+    where
+      same-level : (t : TaskSlot) → isReady (taskAt (rowsOf ts) t .place) ≡ true → levelAt ts t ≡ level (rowsOf ts) t
+      same-level t r = go (ltb (t .0) 16) refl
+        where
+          go : (b : Bool) → ltb (t .0) 16 ≡ b → levelAt ts t ≡ level (rowsOf ts) t
+          go true q = ap (λ (x : Task). x .effective) (sym (at-row (t .0) (ltb-true (t .0) 16 q)))
+          go false q = absurd (false≢true (sym (ap (λ (x : Task). isReady (x .place)) (past-tasks (rowsOf ts) t (omega (arith, many, ltb-false (t .0) 16 q)))) ∙ r))
 
-    -- a row that stands higher is listed, so its line is occupied
-    row-listed : (p n : ℕ) → kept (higher p) l ≡ [] → inHigher p (taskAt (rowsOf ts) (task n)) ≡ true → ⊥
-    row-listed p n e h = go (ltb n 16) refl
-      where
-        go : (b : Bool) → ltb n 16 ≡ b → ⊥
-        go false q = false≢true (sym (ap (inHigher p) (past-tasks (rowsOf ts) (task n) (omega (arith, many, ltb-false n 16 q)))) ∙ h)
-        go true q =
-            let low = ltb-true n 16 q in
-            let ready = and-left (isReady (taskAt (rowsOf ts) (task n) .place)) _ h in
-            let one = ready-once (count n l) (taskAt (rowsOf ts) (task n) .place) ready (rw (at-row n low) (once n low)) in
-            let counted = count-kept (higher p) n l in
-            none-counts n (kept (higher p) l) e (counted ∙ ap (λ (b : Bool). if b then count n l else 0) h ∙ one)
+  pub runs-is : (l : List TaskSlot) (u : TaskSlot) (hold : ℕ) → runsIn ts l u (ltb 0 hold) ≡ runsFine (rowsOf ts) l u hold
+  unfolding headsIn runsFine lineIn line
+  runs-is l u hold = go (ltb (u .0) 16) refl
+    where
+      same : (p : ℕ) (x : Task) → x .place ≡ Free → inLine p x ≡ false
+      same p x e = ap (λ (q : Place). isReady q && eqb (x .effective) p) e
 
-    no-higher : (p : ℕ) → noHigher (rowsOf ts) p l ≡ not (outrankedIn ts p)
-    unfolding noHigher outrankedIn taskAt
-    no-higher p = same-test _ _
-        (λ e. not-off _ (any-none (inHigher p) (rowsOf ts) freeTask (λ i. untrue _ (row-listed p i (none-kept _ e)))))
-        (λ e. ap isNone (kept-none-at (higher p) l (λ t. untrue _ (λ h. false≢true (sym (off _ e) ∙ any-at (inHigher p) (rowsOf ts) (t .0) freeTask refl h)))))
-
-    pub runs-is : (u : TaskSlot) (hold : ℕ) → runsIn ts l u (ltb 0 hold) ≡ runsFine (rowsOf ts) l u hold
-    unfolding runsIn runsFine lineIn line
-    runs-is u hold = go (ltb (u .0) 16) refl
-      where
-        same : (p : ℕ) (x : Task) → x .place ≡ Free → inLine p x ≡ false
-        same p x e = ap (λ (q : Place). isReady q && eqb (x .effective) p) e
-
-        go : (b : Bool) → ltb (u .0) 16 ≡ b → runsAt ts l u (ltb 0 hold) (rowAt ts (u .0))
-            ≡ (isReady (taskAt (rowsOf ts) u .place) && (heads (line (rowsOf ts) (level (rowsOf ts) u) l) u && (ltb 0 hold || noHigher (rowsOf ts) (level (rowsOf ts) u) l)))
-        go true q =
-            let low = ltb-true (u .0) 16 q in
-            rw (← at-row (u .0) low, same-kept (inLine (level (rowsOf ts) u)) (same (level (rowsOf ts) u)) l, no-higher (level (rowsOf ts) u))
-        go false q =
-            off-left _ _ (ap isReady (past-free (u .0) (ltb-false (u .0) 16 q)))
-            ∙ sym (off-left _ _ (ap (λ (x : Task). isReady (x .place)) (past-tasks (rowsOf ts) u (omega (arith, many, ltb-false (u .0) 16 q)))))
+      go : (b : Bool) → ltb (u .0) 16 ≡ b → runsIn ts l u (ltb 0 hold)
+          ≡ (isReady (taskAt (rowsOf ts) u .place) && (heads (line (rowsOf ts) (level (rowsOf ts) u) l) u && (ltb 0 hold || noHigher (rowsOf ts) (level (rowsOf ts) u) l)))
+      go true q =
+          let low = ltb-true (u .0) 16 q in
+          ap (λ (x : Task). (isReady (x .place) && headed (kept (λ t. inLine (x .effective) (rowAt ts (t .0))) l) u) && (ltb 0 hold || leb (topIn ts l) (x .effective))) (sym (at-row (u .0) low))
+          ∙ rw (same-kept (inLine (level (rowsOf ts) u)) (same (level (rowsOf ts) u)) l, same-top l, no-higher-by (rowsOf ts) (level (rowsOf ts) u) l)
+          (and-assoc (isReady (taskAt (rowsOf ts) u .place)) (heads (line (rowsOf ts) (level (rowsOf ts) u) l) u) _)
+      go false q =
+          off-left _ _ (off-left _ _ (ap isReady (past-free (u .0) (ltb-false (u .0) 16 q))))
+          ∙ sym (off-left _ _ (ap (λ (x : Task). isReady (x .place)) (past-tasks (rowsOf ts) u (omega (arith, many, ltb-false (u .0) 16 q)))))
 
 -- ── waits
 module _ (os : Objects) (hs : Holdings) (H : HoldingsAre os hs) where
@@ -309,7 +287,7 @@ module _ (k : Core) (stands : List ℕ) (hs : Holdings) (fine : Bool) (F : Fine 
             ranges = ranges;
             pends = and-right (tidy (k .order)) pends orders;
           };
-          runs = sym (runs-is ts (F .many) (listed (k .order)) (λ n l. rw (← row n l) (once n l)) (k .running) (k .hold)) ∙ and-left runs _ last;
+          runs = sym (runs-is ts (F .many) (listed (k .order)) (k .running) (k .hold)) ∙ and-left runs _ last;
           uses = fresh-fine;
         }
 
@@ -332,7 +310,7 @@ module _ (k : Core) (stands : List ℕ) (hs : Holdings) (fine : Bool) (F : Fine 
     from-plain =
         and-intro _ _ (and-intro fine _ (F .said ∙ and-intro _ _ idles (and-intro _ _ (below-all 16 _ each-row) (below-all 16 _ each-wake)))
         (and-intro waits _ (below-all 16 _ each-wait) (H .said ∙ below-all 16 _ each-kind)))
-        (and-intro runs _ (runs-is ts (F .many) (listed (k .order)) once-too (k .running) (k .hold) ∙ E .runs) (and-intro (tidy (k .order)) pends (L .tidied) (C .pends)))
+        (and-intro runs _ (runs-is ts (F .many) (listed (k .order)) (k .running) (k .hold) ∙ E .runs) (and-intro (tidy (k .order)) pends (L .tidied) (C .pends)))
       where
         cells : (n : ℕ) → n < 16 → (known (getD (ts .state) n 0) (getD (ts .object) n 0) && wakeKnown (getD (ts .state) n 0) (getD (ts .wake) n 0)) ≡ true
         cells n l =
@@ -347,9 +325,6 @@ module _ (k : Core) (stands : List ℕ) (hs : Holdings) (fine : Bool) (F : Fine 
 
         halves : (slotted && unheld) ≡ true
         halves = holders-exist (s .tasks) (s .objects) (F .many) (H .many) ∙ T .holders
-
-        once-too : (n : ℕ) → n < 16 → standsFine (count n (listed (k .order))) (rowAt ts n .place) ≡ true
-        once-too n l = rw (← row n l) (all-below 16 _ (L .stands) n l)
 
         idles : idleAlone (getD (hs .held) 0 false) (rowAt ts 0) ≡ true
         idles = and-intro (idleFine (rowAt ts 0)) (not (getD (hs .held) 0 false)) (rw (← row 0 (omega arith)) (T .as-idle)) (rw (holding-at 0 (omega arith)) (T .idle-holds))

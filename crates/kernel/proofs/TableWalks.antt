@@ -1,35 +1,36 @@
 -- What the walks of the tables find is what the rules say of the state.
+use Prim.Native.Nat.{ℕ, _<_, _≤_}
 use mathlib.Core.Path.{_≡_, refl, sym, ap, _∙_}
-use mathlib.Core.Bool.{Bool, true, false, not, _||_}
+use mathlib.Core.Bool.{Bool, true, false}
 use mathlib.Core.List.{List, [], _∷_}
 use lib.ListN.{set}
-use borrow.Author.Tests.{eq-eqb, ne-eqb}
+use lib.Dec.{leb}
+use borrow.Author.Tests.{eq-eqb, ne-eqb, lt-leb, le-leb}
 use Rattle.lists.specs.Choice.{if_then_else_}
-use Rattle.lists.specs.Lists.{foldl, any, kept, isNone}
+use Rattle.lists.specs.Lists.{foldl, kept, head}
 use Rattle.numbers.specs.declared.TaskSlot.{TaskSlot}
 use Rattle.order.specs.Order.{listed}
 use Rattle.slots.specs.declared.Task.{Task}
 use Rattle.slots.specs.declared.Place.the-variants.{Ready}
-use Rattle.slots.specs.declared.Who.{Who}
-use Rattle.slots.specs.declared.Who.the-variants.{AllReady}
-use Rattle.slots.specs.declared.Lead.{Lead}
-use Rattle.slots.specs.declared.Lead.the-variants.{Open, Best}
-use Rattle.slots.specs.Places.{wakesAt, outcomeDue}
-use Rattle.slots.specs.Values.{taskAt, inHigher}
-use Rattle.slots.specs.Leads.{leads, leadsOr}
+use Rattle.slots.specs.Who.{Who, AllReady}
+use Rattle.slots.specs.Places.{isReady, wakesAt, outcomeDue}
+use Rattle.slots.specs.Values.{taskAt}
+use Rattle.slots.specs.Leads.{leads}
 use Rattle.tasks.specs.declared.Woken.{Woken}
 use Rattle.tasks.specs.Columns.{tasksOf}
 use Rattle.objects.specs.Columns.{objectsOf}
-use Rattle.tasks.specs.Walks.{leadIn, higherIn}
+use Rattle.tasks.specs.Walks.{leadIn, lineIn, headOr, linesIn, topIn}
 use Rattle.tasks.specs.Dues.{woken, readyOf, tailed, wakesIn}
-use Rattle.tasks.proofs.ByList.{lead-of, higher-of, wakes-by}
+use Rattle.tasks.proofs.ByList.{lead-of, line-of, lines-of, top-of, wakes-by}
 use Rattle.rules.specs.State.{State}
 use Rattle.rules.specs.Tables.{withRunning}
-use Rattle.rules.specs.Lines.{level, first, runsIf, chosen, toTail}
+use Rattle.rules.specs.Lines.{line, those, level, highest, first, runsIf, chosen, toTail}
 use Rattle.rules.specs.Sound.{noHigher}
 use Rattle.rules.specs.Waits.{arrives}
 use Rattle.rules.specs.Ticks.{wokenIfDue, wakes, turned}
-use Rattle.rules.proofs.LineLeads.{finds}
+use Rattle.rules.specs.Occupied.{linesOf}
+use Rattle.rules.proofs.LineLeads.{finds, first-heads-highest, no-higher-by}
+use Rattle.rules.proofs.LineHeights.{largest-highest}
 use Rattle.kernel.specs.Types.{Core}
 use Rattle.kernel.specs.Stands.{coreOf}
 use Rattle.kernel.proofs.Stands.{same-running}
@@ -39,50 +40,50 @@ pub first-of : (s : State) (w : Who) → leads (leadIn (tasksOf (s .tasks)) w (l
 unfolding first
 first-of s w = ap leads (lead-of (s .tasks) w (listed (s .order))) ∙ finds (s .tasks) w (listed (s .order))
 
--- who is found runs
-leads-run : (s : State) (b : Lead) → withRunning s (leadsOr b (s .running)) ≡ runsIf s (leads b)
-leads-run s Open = refl
-leads-run s (Best t p) = refl
+-- the lines that are occupied, and the highest
+pub lines-are : (s : State) → linesIn (tasksOf (s .tasks)) (listed (s .order)) ≡ linesOf s
+unfolding linesOf
+lines-are s = lines-of (s .tasks) (listed (s .order))
 
-pub chosen-by : (s : State) → s .hold ≡ 0 → withRunning s (leadsOr (leadIn (tasksOf (s .tasks)) AllReady (listed (s .order))) (s .running)) ≡ chosen s
-unfolding chosen
+top-highest : (ts : List Task) (l : List TaskSlot) → topIn (tasksOf ts) l ≡ highest ts (those ts AllReady l)
+unfolding those
+top-highest ts l = top-of ts l ∙ largest-highest ts (kept (λ t. isReady (taskAt ts t .place)) l)
+
+-- who is found runs
+head-runs : (s : State) (l : List TaskSlot) → withRunning s (headOr l (s .running)) ≡ runsIf s (head l)
+head-runs s [] = refl
+head-runs s (t ∷ l) = refl
+
+pub chosen-by : (s : State) → s .hold ≡ 0
+    → withRunning s (headOr (lineIn (tasksOf (s .tasks)) (topIn (tasksOf (s .tasks)) (listed (s .order))) (listed (s .order))) (s .running)) ≡ chosen s
+unfolding chosen line
 chosen-by s h =
-    leads-run s (leadIn (tasksOf (s .tasks)) AllReady (listed (s .order)))
-    ∙ rw (eq-eqb (s .hold) 0 h, first-of s AllReady)
+    rw (top-highest (s .tasks) (listed (s .order)), line-of (s .tasks) (highest (s .tasks) (those (s .tasks) AllReady (listed (s .order)))) (listed (s .order)))
+    (head-runs s (line (s .tasks) (highest (s .tasks) (those (s .tasks) AllReady (listed (s .order)))) (listed (s .order)))
+    ∙ rw (eq-eqb (s .hold) 0 h, first-heads-highest s))
 
 pub stays-running : (s : State) → (s .hold ≡ 0 → ⊥) → s ≡ chosen s
 unfolding chosen
 stays-running s h = rw (ne-eqb (s .hold) 0 h)
 
 -- whether a higher line is occupied
-pub none-any : (p : TaskSlot → Bool) (l : List TaskSlot) → isNone (kept p l) ≡ not (any p l)
-unfolding kept any
-none-any p [] = refl
-none-any p (t ∷ l) = go (p t) (none-any p l)
-  where
-    go : (b : Bool) → isNone (kept p l) ≡ not (any p l) → isNone (if b then t ∷ kept p l else kept p l) ≡ not (b || any p l)
-    go true e = refl
-    go false e = e
-
-module _ (k : Core) (s : State) (y : Task) (b : Bool) (h : k ≡ coreOf s) (q : y ≡ taskAt (s .tasks) (k .running)) (e : b ≡ higherIn (k .tasks) (y .effective) (listed (k .order))) where
-  no-higher-of : noHigher (s .tasks) (level (s .tasks) (s .running)) (listed (s .order)) ≡ not b
-  unfolding noHigher coreOf
+module _ (k : Core) (s : State) (y : Task) (n : ℕ) (h : k ≡ coreOf s) (q : y ≡ taskAt (s .tasks) (k .running)) (e : n ≡ topIn (k .tasks) (listed (k .order))) where
+  no-higher-of : noHigher (s .tasks) (level (s .tasks) (s .running)) (listed (s .order)) ≡ leb n (y .effective)
+  unfolding coreOf
   no-higher-of =
-      none-any (λ t. inHigher (level (s .tasks) (s .running)) (taskAt (s .tasks) t)) (listed (s .order))
-      ∙ ap not (sym (e
-      ∙ ap (λ (n : Core). higherIn (n .tasks) (y .effective) (listed (n .order))) h
-      ∙ ap (λ (x : Task). higherIn (tasksOf (s .tasks)) (x .effective) (listed (s .order))) (q ∙ ap (taskAt (s .tasks)) (same-running k s h))
-      ∙ higher-of (s .tasks) (level (s .tasks) (s .running)) (listed (s .order))))
+      no-higher-by (s .tasks) (level (s .tasks) (s .running)) (listed (s .order))
+      ∙ ap (λ (m : ℕ). leb m (level (s .tasks) (s .running))) (sym (e ∙ ap (λ (j : Core). topIn (j .tasks) (listed (j .order))) h ∙ top-highest (s .tasks) (listed (s .order))))
+      ∙ ap (λ (x : Task). leb n (x .effective)) (sym (q ∙ ap (taskAt (s .tasks)) (same-running k s h)))
 
   -- one is: nothing moves
-  pub no-turn : b ≡ true → s ≡ turned s
+  pub no-turn : y .effective < n → s ≡ turned s
   unfolding turned
-  no-turn f = sym (ap (λ c. if c then toTail s (s .running) else s) (no-higher-of ∙ ap not f))
+  no-turn f = sym (ap (λ c. if c then toTail s (s .running) else s) (no-higher-of ∙ lt-leb n (y .effective) f))
 
   -- none is
-  pub turn-goes : b ≡ false → toTail s (s .running) ≡ turned s
+  pub turn-goes : n ≤ y .effective → toTail s (s .running) ≡ turned s
   unfolding turned
-  turn-goes f = sym (ap (λ c. if c then toTail s (s .running) else s) (no-higher-of ∙ ap not f))
+  turn-goes f = sym (ap (λ c. if c then toTail s (s .running) else s) (no-higher-of ∙ le-leb n (y .effective) f))
 
 -- the wakes: they change tasks and order, and nothing else
 module _ {A : Type 0} (f : State → A) (same : (s : State) (t : TaskSlot) → f (wokenIfDue s t) ≡ f s) where

@@ -1,5 +1,5 @@
 // Who stands first, who runs, and moves within the order.
-ghost use Rattle.slots.specs.declared.Who.the-variants.{WaitersOf};
+ghost use Rattle.slots.specs.Who.{WaitersOf};
 ghost use Rattle.slots.specs.Leads.{whom};
 ghost use Rattle.rules.specs.Lines.{first, chosen, toTail, toHead, leaves};
 ghost use Rattle.kernel.specs.Does.{Reads, Does};

@@ -5,7 +5,7 @@ ghost use mathlib.Core.List.{[], _∷_};
 ghost use lib.ListN.{length};
 ghost use Rattle.slots.specs.Leads.{whom};
 ghost use Rattle.numbers.specs.declared.TaskSlot.{TaskSlot};
-ghost use Rattle.slots.specs.declared.Who.the-variants.{WaitersOf};
+ghost use Rattle.slots.specs.Who.{WaitersOf};
 ghost use Rattle.rules.specs.Lines.{first};
 ghost use Rattle.rules.specs.Queues.{outlet, sent, storeSent, refilledBy, storeRefilledBy, received, storeReceived};
 ghost use Rattle.rules.specs.Sentences.{RingFits};

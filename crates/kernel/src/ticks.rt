@@ -65,7 +65,7 @@ impl Core {
     {
         let u = self.running;
         let y = self.task(u);
-        if self.tasks.higher(self.order, y.effective) {
+        if y.effective < self.tasks.top(self.order) {
             self
         } else {
             self.to_tail(u)

@@ -21,8 +21,7 @@ use Rattle.slots.specs.declared.Ring.{Ring}
 use Rattle.slots.specs.declared.Holder.the-variants.{Nobody, By}
 use Rattle.slots.specs.declared.Kind.{Kind}
 use Rattle.slots.specs.declared.Kind.the-variants.{Unused, Queue, Mutex}
-use Rattle.slots.specs.declared.Who.{Who}
-use Rattle.slots.specs.declared.Who.the-variants.{AllReady, WaitersOf}
+use Rattle.slots.specs.Who.{Who, AllReady, WaitersOf}
 use Rattle.slots.specs.Places.{isReady, isListed, wakesAt, outcomeDue}
 use Rattle.slots.specs.Values.{freeTask, spentTask, readyAt, placed, ranked, brokenOff, taskAt}
 use Rattle.rules.specs.State.{State}

@@ -1,19 +1,19 @@
 -- The lines alone tell who is first of the ready, and whether a higher line is occupied.
 use Prim.Native.Nat.{ℕ, _<_, _≤_}
 use mathlib.Core.Path.{_≡_, refl, sym, ap, _∙_}
-use mathlib.Core.Bool.{Bool, true, false, not, false≢true}
+use mathlib.Core.Bool.{Bool, true, false, false≢true}
 use mathlib.Core.List.{List, [], _∷_}
 use native.Mathlib.Omega.{arith}
 use lib.Dec.{eqb, ltb}
-use borrow.Author.Tests.{ltb-true, ltb-false, lt-ltb, le-ltb, ne-eqb}
+use borrow.Author.Tests.{ltb-true, ltb-false, ne-eqb}
 use Rattle.lists.specs.Choice.{if_then_else_}
 use Rattle.lists.specs.Lists.{kept, head, isNone}
 use Rattle.numbers.specs.declared.TaskSlot.{TaskSlot}
 use Rattle.slots.specs.declared.Task.{Task}
-use Rattle.slots.specs.declared.Who.the-variants.{AllReady}
+use Rattle.slots.specs.Who.{AllReady}
 use Rattle.rules.specs.Lines.{line, those, level, highest, leader}
 use Rattle.rules.specs.Sound.{noHigher}
-use Rattle.rules.proofs.LineLeads.{kept-kept, leader-none}
+use Rattle.rules.proofs.LineLeads.{kept-kept, leader-none, no-higher-by}
 
 module _ (ts : List Task) where
   none-level : (l : List TaskSlot) → isNone l ≡ true → highest ts l ≤ 0
@@ -32,18 +32,6 @@ module _ (ts : List Task) where
       go true e g ih = rw (ne-eqb (level ts t) p (λ q. omega (arith, ltb-true (level ts t) (highest ts l) e))) (ih g)
       go false e g ih = rw (ne-eqb (level ts t) p (λ q. omega arith)) (ih (omega (arith, ltb-false (level ts t) (highest ts l) e)))
 
-  above-none : (p : ℕ) (l : List TaskSlot) → isNone (kept (λ t. ltb p (level ts t)) l) ≡ not (ltb p (highest ts l))
-  unfolding kept highest
-  above-none p [] = rw (le-ltb p 0 (omega arith))
-  above-none p (t ∷ l) = go (ltb p (level ts t)) refl (ltb (level ts t) (highest ts l)) refl (above-none p l)
-    where
-      go : (b : Bool) → ltb p (level ts t) ≡ b → (c : Bool) → ltb (level ts t) (highest ts l) ≡ c → isNone (kept (λ u. ltb p (level ts u)) l) ≡ not (ltb p (highest ts l))
-          → isNone (if b then t ∷ kept (λ u. ltb p (level ts u)) l else kept (λ u. ltb p (level ts u)) l) ≡ not (ltb p (if c then highest ts l else level ts t))
-      go true e true f ih = rw (lt-ltb p (highest ts l) (omega (arith, ltb-true p (level ts t) e, ltb-true (level ts t) (highest ts l) f)))
-      go true e false f ih = rw e
-      go false e true f ih = ih
-      go false e false f ih = ih ∙ rw (le-ltb p (highest ts l) (omega (arith, ltb-false p (level ts t) e, ltb-false (level ts t) (highest ts l) f)), e)
-
   -- a line is a level of the ready
   line-ready : (p : ℕ) (l : List TaskSlot) → line ts p l ≡ kept (λ t. eqb (level ts t) p) (those ts AllReady l)
   unfolding line those
@@ -52,10 +40,6 @@ module _ (ts : List Task) where
   leader-ready : (l : List TaskSlot) → leader ts (those ts AllReady l) ≡ head (line ts (highest ts (those ts AllReady l)) l)
   unfolding leader
   leader-ready l = ap head (sym (line-ready (highest ts (those ts AllReady l)) l))
-
-  higher-ready : (p : ℕ) (l : List TaskSlot) → noHigher ts p l ≡ not (ltb p (highest ts (those ts AllReady l)))
-  unfolding noHigher those
-  higher-ready p l = ap isNone (sym (kept-kept _ _ l)) ∙ above-none p (those ts AllReady l)
 
   -- the highest line of m is occupied in l too
   no-higher-line : (l m : List TaskSlot) → ((p : ℕ) → line ts p l ≡ line ts p m) → highest ts (those ts AllReady m) ≤ highest ts (those ts AllReady l)
@@ -82,4 +66,4 @@ module _ (ts : List Task) where
     same-leader = leader-ready l ∙ rw (same-highest, same (highest ts (those ts AllReady m))) (sym (leader-ready m))
 
     pub same-higher : (p : ℕ) → noHigher ts p l ≡ noHigher ts p m
-    same-higher p = higher-ready p l ∙ rw same-highest (sym (higher-ready p m))
+    same-higher p = no-higher-by ts p l ∙ rw same-highest (sym (no-higher-by ts p m))

@@ -19,7 +19,7 @@ use Rattle.calls.specs.Behind.{asked}
 use Rattle.order.specs.declared.Order.{Order}
 use Rattle.slots.specs.declared.Kind.{Kind}
 use Rattle.slots.specs.declared.Kind.the-variants.{Unused, Queue, Mutex}
-use Rattle.slots.specs.declared.Who.the-variants.{AllReady, WaitersOf}
+use Rattle.slots.specs.Who.{AllReady, WaitersOf}
 use Rattle.rules.specs.State.{State}
 use Rattle.slots.specs.Kinds.{kindAt}
 use Rattle.rules.specs.Tables.{withOrder, withRunning, withUses}

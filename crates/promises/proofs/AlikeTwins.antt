@@ -15,7 +15,7 @@ use Rattle.order.specs.Order.{listed, ordered, without}
 use Rattle.order.proofs.Passing.{one-number}
 use Rattle.slots.specs.declared.Task.{Task}
 use Rattle.slots.specs.declared.Object.{Object}
-use Rattle.slots.specs.declared.Who.the-variants.{WaitersOf}
+use Rattle.slots.specs.Who.{WaitersOf}
 use Rattle.slots.specs.Places.{waitsOn}
 use Rattle.slots.specs.Values.{freeTask, inLine, taskAt}
 use Rattle.rules.specs.State.{State}

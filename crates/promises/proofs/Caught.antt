@@ -1,9 +1,11 @@
--- The idle programs, the easy mistakes and the mistakes of numbers are caught: one claim over the whole list, computed; so none of them is the step.
+-- The idle programs, the easy mistakes, the mistakes of numbers and of the highest line are caught: one claim over the whole list, computed; so none of them is the step.
 use Prim.Native.Nat.{ℕ, zero, suc}
 use mathlib.Core.Path.{_≡_, refl, ap, sym, _∙_}
 use mathlib.Core.Bool.{true, not, false≢true}
 use mathlib.Core.List.{List, [], _∷_, map, List·Memᴰ, List·Memᴰ·head, List·Memᴰ·tail, List·Memᴰ·cases-cons, List·Memᴰ·not-nil}
 use mathlib.Core.Logic.{⊎-elim}
+use lib.Count.{leadingZeros, trailingZeros}
+use Rattle.heights.specs.Heights.{lit, top, height, occupied}
 use Rattle.lists.specs.Lists.{every, allBelow, foldl, upTo, index, any, kept}
 use Rattle.calls.specs.Door.{freshUses, usesFine}
 use Rattle.calls.specs.Behind.{asked}
@@ -13,11 +15,14 @@ use Rattle.items.specs.Bytes.{putAt}
 use Rattle.promises.specs.Types.{Call, State}
 use Rattle.promises.specs.Cases.{View}
 use Rattle.promises.specs.Wrong.{Stepping, raised, stepOf, stepBy, Numbers, turnsAllAway, alwaysDone, changesNothing, madeUp, Wrong, showsBy, ofWord, sameNumber, sameList, sameView}
-use Rattle.promises.specs.Wrong.{Verdict, found, verdict, idlePrograms, easyMistakes, numberMistakes, wrongs}
+use Rattle.promises.specs.Wrong.{Verdict, found, verdict, idlePrograms, easyMistakes, numberMistakes, chosenBy, lineMistakes, wrongs}
 use Rattle.rules.specs.Effects.{created, deleted, suspended, resumed, yielded, delayed, queueMade, mutexMade, removed, taken, handedOn, given, effect}
 use Rattle.rules.specs.Parts.{itemAt}
 use Rattle.rules.specs.Queues.{outlet, sent, storeSent, received, storeReceived}
 use Rattle.rules.specs.Lines.{line, those, highest, leader, first, chosen, toTail, toHead, leaves}
+use Rattle.rules.specs.Occupied.{linesOf}
+use Rattle.rules.proofs.LineHeights.{height-highest}
+use Rattle.rules.proofs.LineLeads.{first-heads-highest}
 use Rattle.rules.specs.Loans.{moved, movedIf, prioritized, newPriority, lent, ownAgain}
 use Rattle.rows.specs.Applies.{outOfRange, namesNone, wrongSize, notForIdle, notWithHold, noneFree, notHis, hisAlready, notSuspended, mustWait, noDepth}
 use Rattle.rules.specs.Refusals.{heldOrWaited, inUse}
@@ -38,14 +43,19 @@ pub frame : (k : State) (c : Call) (i s : List ℕ) → stepOf asked refusal eff
 unfolding stepOf step accepted
 frame k c i s = refl
 
+-- with the right line, and whoever stands first in it, it is choose
+pub chosen-by-height : (k : State) → chosenBy (λ j. height (linesOf j)) k ≡ chosen k
+unfolding chosen
+chosen-by-height k = rw (height-highest k, first-heads-highest k)
+
 pub caught : (number : Numbers) (n : ℕ) → map found (wrongs number n) ≡ map verdict (wrongs number n)
-unfolding wrongs idlePrograms easyMistakes numberMistakes stepOf turnsAllAway alwaysDone changesNothing trace showsBy sameNumber sameList sameView
-    every allBelow foldl upTo index any kept asked ordered without count tidy putAt created deleted suspended resumed yielded delayed queueMade
-    mutexMade removed taken handedOn given effect itemAt outlet sent storeSent received storeReceived line those highest leader first chosen toTail
-    toHead leaves moved movedIf prioritized newPriority lent ownAgain outOfRange namesNone wrongSize notForIdle notWithHold noneFree heldOrWaited
-    inUse notHis hisAlready notSuspended mustWait noDepth noTick table laterRow refusal noHigher runsFine tablesFine levelsFine listingFine clockFine
-    usesFine sound stored answered usesAfter accepted step fresh freshUses taskAt kindAt holds freeSlot freeObject wokenIfDue wakes byNumber oneTick
-    turned ticked ticks released held arrives waitFor
+unfolding wrongs idlePrograms easyMistakes numberMistakes lineMistakes linesOf occupied lit top leadingZeros trailingZeros stepOf turnsAllAway
+    alwaysDone changesNothing trace showsBy sameNumber sameList sameView every allBelow foldl upTo index any kept asked ordered without count tidy
+    putAt created deleted suspended resumed yielded delayed queueMade mutexMade removed taken handedOn given effect itemAt outlet sent storeSent
+    received storeReceived line those highest leader first chosen toTail toHead leaves moved movedIf prioritized newPriority lent ownAgain outOfRange
+    namesNone wrongSize notForIdle notWithHold noneFree heldOrWaited inUse notHis hisAlready notSuspended mustWait noDepth noTick table laterRow
+    refusal noHigher runsFine tablesFine levelsFine listingFine clockFine usesFine sound stored answered usesAfter accepted step fresh freshUses
+    taskAt kindAt holds freeSlot freeObject wokenIfDue wakes byNumber oneTick turned ticked ticks released held arrives waitFor
 caught number n = refl
 
 same-number : (n : ℕ) → sameNumber n n ≡ true

@@ -8,7 +8,7 @@ use Rattle.numbers.specs.declared.ObjSlot.{ObjSlot}
 use Rattle.numbers.specs.Numbers.{task, idle}
 use Rattle.calls.specs.Door.{freshUses}
 use Rattle.order.specs.Order.{listed, ordered}
-use Rattle.slots.specs.declared.Who.the-variants.{WaitersOf}
+use Rattle.slots.specs.Who.{WaitersOf}
 use Rattle.slots.specs.Values.{freeTask, readyAt}
 use Rattle.slots.specs.Kinds.{unused}
 use Rattle.rules.specs.State.{State}

@@ -13,7 +13,7 @@ use Rattle.order.specs.Order.{listed, ordered}
 use Rattle.order.specs.Tidy.{count}
 use Rattle.slots.specs.declared.Place.{Place}
 use Rattle.slots.specs.declared.Place.the-variants.{Ready}
-use Rattle.slots.specs.declared.Who.the-variants.{WaitersOf}
+use Rattle.slots.specs.Who.{WaitersOf}
 use Rattle.slots.specs.Places.{isFree, isReady, isDelayed, isWaiting, isSuspended, isListed, waitsOn}
 use Rattle.slots.specs.Values.{freeTask, readyAt, brokenOff, inLine, taskAt}
 use Rattle.slots.specs.Kinds.{unused}

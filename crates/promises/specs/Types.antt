@@ -11,5 +11,5 @@ pub use Rattle.slots.specs.declared.Task.{Task}
 pub use Rattle.slots.specs.declared.Holder.the-variants.{Nobody, By}
 pub use Rattle.slots.specs.declared.Kind.{Kind}
 pub use Rattle.slots.specs.declared.Kind.the-variants.{Unused, Spent as SpentObject, Queue, Mutex}
-pub use Rattle.slots.specs.declared.Who.the-variants.{AllReady, WaitersOf}
+pub use Rattle.slots.specs.Who.{AllReady, WaitersOf}
 pub use Rattle.rules.specs.State.{State}

@@ -1,11 +1,12 @@
--- The idle programs, the easy mistakes of document 01 and the mistakes of numbers: each is the step with one mistake made, with a few calls that tell the two apart.
-use Prim.Native.Nat.{ℕ, zero, suc, _+_, _%_}
+-- The idle programs, the easy mistakes of document 01, those of numbers and of the highest line: each is the step with one mistake made, with a few calls that tell the two apart.
+use Prim.Native.Nat.{ℕ, zero, suc, _+_, _-_, _%_}
 use mathlib.Core.Bool.{Bool, true, false, not, _&&_, _||_}
 use mathlib.Core.List.{List, [], _∷_, _++_, map}
+use lib.Count.{leadingZeros, trailingZeros}
 use lib.Dec.{eqb, ltb, leb}
 use lib.ListN.{length, getD, set, replicate}
 use Rattle.lists.specs.Choice.{if_then_else_}
-use Rattle.lists.specs.Lists.{index, upTo, kept}
+use Rattle.lists.specs.Lists.{index, upTo, kept, head}
 use Rattle.numbers.specs.Numbers.{task, object, sameTask}
 use Rattle.calls.specs.declared.Uses.{Uses}
 use Rattle.calls.specs.declared.TaskNo.{TaskNo}
@@ -16,6 +17,7 @@ use Rattle.calls.specs.Table.{Argument, aTask, anObject, aQueue, aMutex, aPrior
 use Rattle.calls.specs.Behind.{nothing, putAll, asked}
 use Rattle.calls.specs.Said.{Word, done, made, waiting, refused, says}
 use Rattle.order.specs.Order.{listed}
+use Rattle.heights.specs.Heights.{top, occupied}
 use Rattle.items.specs.Bytes.{putAt}
 use Rattle.slots.specs.Places.{isReady, isWaiting, isSuspended, waitsOn, ofWake, wakesAt, outcomeDue}
 use Rattle.slots.specs.Values.{brokenOff, taskAt}
@@ -24,7 +26,8 @@ use Rattle.promises.specs.Types.{TaskSlot, ObjSlot, Asked, Call, Create,
 use Rattle.promises.specs.Types.{Task, State}
 use Rattle.promises.specs.Cases.{View, view, viewOf}
 use Rattle.rules.specs.Tables.{fresh, freeSlot, withTask, withTick, withHold, withUses}
-use Rattle.rules.specs.Lines.{level, leader, chosen, toTail}
+use Rattle.rules.specs.Lines.{line, level, leader, runsIf, chosen, toTail}
+use Rattle.rules.specs.Occupied.{linesOf}
 use Rattle.rules.specs.Waits.{later, arrives}
 use Rattle.rules.specs.Loans.{prioritized}
 use Rattle.rules.specs.Ticks.{wokenIfDue, oneTick, turned, ticked, released}
@@ -205,6 +208,26 @@ usedAgain = changed 2 (λ k a. deleted k (a .task) false)
 abbrev pub atLastUse : State
 atLastUse = withUses fresh (record { tasks = set (freshUses .tasks) 1 65535; objects = freshUses .objects })
 
+-- "Form the 32-bit word of occupied lines and find the highest with the processor's count of leading zeros.": a choose by the line that another word or count finds
+abbrev pub chosenBy : (State → ℕ) → State → State
+chosenBy number k = if eqb (k .hold) 0 then runsIf k (head (line (k .tasks) (number k) (listed (k .order)))) else k
+
+-- every bit one too high
+abbrev pub bitOff : State → ℕ
+bitOff k = top (occupied (λ t. isReady (taskAt (k .tasks) t .place)) (λ t. suc (level (k .tasks) t)) (listed (k .order)) .word)
+
+-- tasks that are not ready counted
+abbrev pub countsBlocked : State → ℕ
+countsBlocked k = top (occupied (λ t. true) (level (k .tasks)) (listed (k .order)) .word)
+
+-- 32 instead of 31
+abbrev pub from32 : State → ℕ
+from32 k = 32 - leadingZeros 32 (linesOf k .word)
+
+-- the zeros counted at the other end
+abbrev pub lowestLine : State → ℕ
+lowestLine k = trailingZeros 32 (linesOf k .word)
+
 -- a wrong step; a start, and calls from there; what is looked at; and what the right step and the wrong one show after the last call
 pub record Wrong : Type 0 where
   pub step : Stepping
@@ -353,5 +376,16 @@ numberMistakes =
     }
     ∷ []
 
+unfoldable pub lineMistakes : List Wrong
+lineMistakes =
+    -- nobody stands in line 4, so idle goes on
+    fails (stepBy effect (chosenBy bitOff)) (Create 3 ∷ []) saysNothing (view made 1 1 []) (view made 1 0 [])
+    ∷ fails (stepBy effect (chosenBy from32)) (Create 3 ∷ []) saysNothing (view made 1 1 []) (view made 1 0 [])
+    -- task 1 is delayed, and goes on
+    ∷ fails (stepBy effect (chosenBy countsBlocked)) (Create 3 ∷ Delay 5 ∷ []) saysNothing (view waiting 0 0 []) (view waiting 0 1 [])
+    -- idle's line is the lowest
+    ∷ fails (stepBy effect (chosenBy lowestLine)) (Create 3 ∷ []) saysNothing (view made 1 1 []) (view made 1 0 [])
+    ∷ []
+
 unfoldable pub wrongs : Numbers → ℕ → List Wrong
-wrongs number n = idlePrograms number n ++ (easyMistakes ++ numberMistakes)
+wrongs number n = idlePrograms number n ++ (easyMistakes ++ (numberMistakes ++ lineMistakes))

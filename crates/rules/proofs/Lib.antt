@@ -1,6 +1,7 @@
 pub mod TableSlots
 pub mod TableHolds
 pub mod LineLeads
+pub mod LineHeights
 pub mod LineMoves
 pub mod SoundLists
 pub mod SoundTables

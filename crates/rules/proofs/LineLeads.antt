@@ -4,8 +4,8 @@ use mathlib.Core.Path.{_≡_, refl, sym, ap, _∙_}
 use mathlib.Core.Bool.{Bool, true, false, _&&_}
 use mathlib.Core.List.{List, [], _∷_}
 use native.Mathlib.Omega.{arith}
-use lib.Dec.{eqb, ltb}
-use borrow.Author.Tests.{ltb-true, ltb-false, lt-ltb, le-ltb, eq-eqb, ne-eqb}
+use lib.Dec.{eqb, ltb, leb}
+use borrow.Author.Tests.{ltb-true, ltb-false, lt-ltb, le-ltb, lt-leb, le-leb, eq-eqb, ne-eqb}
 use Rattle.lists.specs.Choice.{if_then_else_}
 use Rattle.lists.specs.Lists.{foldl, kept, head, isNone}
 use Rattle.order.specs.Order.{listed}
@@ -13,6 +13,7 @@ use Rattle.slots.specs.Leads.{isWho, better, leads}
 use Rattle.rules.specs.Types.{TaskSlot, Task, Who, AllReady, Lead, Open, Best, State}
 use Rattle.slots.specs.Values.{taskAt}
 use Rattle.rules.specs.Lines.{line, those, level, highest, leader, first}
+use Rattle.rules.specs.Sound.{noHigher}
 
 module _ (ts : List Task) where
   none-highest : highest ts [] ≤ 0
@@ -97,3 +98,23 @@ kept-kept p q (x ∷ l) = go (p x) (q x) refl (kept-kept p q l)
 pub first-heads-highest : (k : State) → first k AllReady ≡ head (line (k .tasks) (highest (k .tasks) (those (k .tasks) AllReady (listed (k .order)))) (listed (k .order)))
 unfolding first leader those line
 first-heads-highest k = ap head (kept-kept _ _ (listed (k .order)))
+
+-- "no higher line is occupied": the highest one is no higher
+module _ (ts : List Task) where
+  none-above : (p : ℕ) (l : List TaskSlot) → isNone (kept (λ t. ltb p (level ts t)) l) ≡ leb (highest ts l) p
+  unfolding kept highest
+  none-above p [] = sym (le-leb 0 p (omega arith))
+  none-above p (t ∷ l) = go (ltb p (level ts t)) refl (ltb (level ts t) (highest ts l)) refl (none-above p l)
+    where
+      go : (b : Bool) → ltb p (level ts t) ≡ b → (c : Bool) → ltb (level ts t) (highest ts l) ≡ c → isNone (kept (λ u. ltb p (level ts u)) l) ≡ leb (highest ts l) p
+          → isNone (if b then t ∷ kept (λ u. ltb p (level ts u)) l else kept (λ u. ltb p (level ts u)) l) ≡ leb (if c then highest ts l else level ts t) p
+      go true e true f ih = sym (lt-leb (highest ts l) p (omega (arith, ltb-true p (level ts t) e, ltb-true (level ts t) (highest ts l) f)))
+      go true e false f ih = sym (lt-leb (level ts t) p (ltb-true p (level ts t) e))
+      go false e true f ih = ih
+      go false e false f ih =
+          let low = ltb-false p (level ts t) e in
+          ih ∙ le-leb (highest ts l) p (omega (arith, low, ltb-false (level ts t) (highest ts l) f)) ∙ sym (le-leb (level ts t) p low)
+
+  pub no-higher-by : (p : ℕ) (l : List TaskSlot) → noHigher ts p l ≡ leb (highest ts (those ts AllReady l)) p
+  unfolding noHigher those
+  no-higher-by p l = ap isNone (sym (kept-kept _ _ l)) ∙ none-above p (those ts AllReady l)

@@ -2,6 +2,7 @@ pub mod State
 pub mod Types
 pub mod Tables
 pub mod Lines
+pub mod Occupied
 pub mod Sound
 pub mod Sentences
 pub mod Refusals

@@ -22,8 +22,7 @@ pub use Rattle.slots.specs.declared.Holder.the-variants.{Nobody, By}
 pub use Rattle.slots.specs.declared.Kind.{Kind}
 pub use Rattle.slots.specs.declared.Kind.the-variants.{Unused, Spent as SpentObject, Queue, Mutex}
 pub use Rattle.slots.specs.declared.Object.{Object}
-pub use Rattle.slots.specs.declared.Who.{Who}
-pub use Rattle.slots.specs.declared.Who.the-variants.{AllReady, WaitersOf}
+pub use Rattle.slots.specs.Who.{Who, AllReady, WaitersOf}
 pub use Rattle.slots.specs.declared.Lead.{Lead}
 pub use Rattle.slots.specs.declared.Lead.the-variants.{Open, Best}
 pub use Rattle.rules.specs.State.{State, Outlet, toWaiter, toQueue, toCaller}

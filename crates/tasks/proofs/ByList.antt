@@ -5,18 +5,19 @@ use mathlib.Core.Bool.{Bool, true, false}
 use mathlib.Core.List.{List, [], _∷_}
 use lib.ListN.{set}
 use Rattle.lists.specs.Choice.{if_then_else_}
-use Rattle.lists.specs.Lists.{foldl, any, index}
+use Rattle.lists.specs.Lists.{foldl, kept, index}
 use Rattle.numbers.specs.declared.TaskSlot.{TaskSlot}
 use Rattle.order.specs.declared.Order.{Order}
+use Rattle.heights.specs.Heights.{occupied, largest}
 use Rattle.slots.specs.declared.Task.{Task}
-use Rattle.slots.specs.declared.Who.{Who}
+use Rattle.slots.specs.Who.{Who}
 use Rattle.slots.specs.declared.Lead.the-variants.{Open}
-use Rattle.slots.specs.Places.{takesTask, wakesAt, away}
-use Rattle.slots.specs.Values.{taskAt, inHigher}
+use Rattle.slots.specs.Places.{isReady, takesTask, wakesAt, away}
+use Rattle.slots.specs.Values.{taskAt, inLine}
 use Rattle.slots.specs.Leads.{better}
 use Rattle.tasks.specs.declared.Woken.{Woken}
 use Rattle.tasks.specs.Columns.{tasksOf, freeIn, put, rowAt}
-use Rattle.tasks.specs.Walks.{leadIn, higherIn}
+use Rattle.tasks.specs.Walks.{leadIn, lineIn, topIn, linesIn}
 use Rattle.tasks.specs.Dues.{untilIn, woken, readyOf, tailed, wakeIn, wakesIn}
 use Rattle.tasks.proofs.Columns.{row-of, rows-of, put-of}
 
@@ -29,9 +30,17 @@ pub lead-of : (xs : List Task) (w : Who) (l : List TaskSlot) → leadIn (tasksOf
 unfolding leadIn
 lead-of xs w l = simp task-of
 
-pub higher-of : (xs : List Task) (p : ℕ) (l : List TaskSlot) → higherIn (tasksOf xs) p l ≡ any (λ t. inHigher p (taskAt xs t)) l
-unfolding higherIn
-higher-of xs p l = simp task-of
+pub line-of : (xs : List Task) (p : ℕ) (l : List TaskSlot) → lineIn (tasksOf xs) p l ≡ kept (λ t. inLine p (taskAt xs t)) l
+unfolding lineIn
+line-of xs p l = simp task-of
+
+pub top-of : (xs : List Task) (l : List TaskSlot) → topIn (tasksOf xs) l ≡ largest (λ t. taskAt xs t .effective) (kept (λ t. isReady (taskAt xs t .place)) l)
+unfolding topIn
+top-of xs l = ap (λ (row : TaskSlot → Task). largest (λ t. row t .effective) (kept (λ t. isReady (row t .place)) l)) (λ i t. task-of xs t i)
+
+pub lines-of : (xs : List Task) (l : List TaskSlot) → linesIn (tasksOf xs) l ≡ occupied (λ t. isReady (taskAt xs t .place)) (λ t. taskAt xs t .effective) l
+unfolding linesIn
+lines-of xs l = ap (λ (row : TaskSlot → Task). occupied (λ t. isReady (row t .place)) (λ t. row t .effective) l) (λ i t. task-of xs t i)
 
 pub free-of : (xs : List Task) → freeIn (tasksOf xs) ≡ index (λ (x : Task). takesTask (x .place)) xs
 unfolding freeIn

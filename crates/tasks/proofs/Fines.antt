@@ -12,7 +12,7 @@ use Rattle.lists.specs.Lists.{allBelow}
 use Rattle.lists.proofs.Bools.{and-left, and-right, and-intro, and-on, and-off, all-below, below-all, all-same}
 use Rattle.lists.proofs.Loops.{Held}
 use Rattle.numbers.specs.Numbers.{task}
-use Rattle.slots.specs.declared.Who.the-variants.{AllReady}
+use Rattle.slots.specs.Who.{AllReady}
 use Rattle.slots.specs.SoundSlots.{idleFine, notDue, mayWaitOn}
 use Rattle.slots.proofs.Sweeps.{none-counted}
 use Rattle.tasks.specs.declared.Tasks.{Tasks}

@@ -3,16 +3,15 @@ use Prim.Native.Nat.{ℕ, zero, suc, _≤_}
 use mathlib.Core.Path.{_≡_, refl, ap}
 use mathlib.Core.Bool.{Bool, true, _&&_, _||_, false≢true}
 use native.Mathlib.Omega.{arith}
-use lib.Dec.{eqb, ltb}
+use lib.Dec.{eqb}
 use lib.ListN.{getD}
 use borrow.Author.Tests.{ne-eqb}
 use Rattle.lists.specs.Choice.{if_then_else_}
 use Rattle.slots.specs.declared.Place.the-variants.{Suspended}
-use Rattle.slots.specs.declared.Who.{Who}
-use Rattle.slots.specs.declared.Who.the-variants.{AllReady, WaitersOf}
+use Rattle.slots.specs.Who.{Who, AllReady, WaitersOf}
 use Rattle.slots.specs.Places.{takesTask, isReady, waitsOn, wakesAt, outcomeDue, ahead, away}
 use Rattle.slots.specs.Leads.{isWho}
-use Rattle.slots.specs.Values.{inLine, inHigher}
+use Rattle.slots.specs.Values.{inLine}
 use Rattle.tasks.specs.declared.Tasks.{Tasks}
 use Rattle.tasks.specs.Numbering.{cells, placeOf}
 use Rattle.tasks.specs.Columns.{rowAt}
@@ -91,10 +90,6 @@ module _ (ts : Tasks) (i : ℕ) where
   pub row-line : (p : ℕ) → inLine p (rowAt ts i) ≡ (eqb s 1 && eqb level p)
   unfolding rowAt
   row-line p = ap (λ (b : Bool). b && eqb level p) (meant-is AllReady s o w)
-
-  pub row-higher : (p : ℕ) → inHigher p (rowAt ts i) ≡ (eqb s 1 && ltb p level)
-  unfolding rowAt
-  row-higher p = ap (λ (b : Bool). b && ltb p level) (meant-is AllReady s o w)
 
   pub row-away : (now : ℕ) → away now (rowAt ts i .place) ≡ (if timed s then ahead now w else 4294967295)
   unfolding rowAt

@@ -1,51 +1,43 @@
 -- What each walk finds in numbers is what its definition says.
-use Prim.Native.Nat.{ℕ, zero, suc, _*_, _<_, _≤_, min}
+use Prim.Native.Nat.{ℕ, _<_, _≤_, min}
 use mathlib.Core.Path.{_≡_, refl, sym, ap, _∙_}
 use mathlib.Core.Bool.{Bool, true, false, _&&_, _||_}
 use mathlib.Core.List.{List}
 use native.Mathlib.Omega.{arith}
-use lib.Dec.{eqb, ltb}
-use borrow.Author.Tests.{ne-eqb}
-use lib.ListN.{length, getD, set, take, length-take, List·getD-eq-default}
-use lib.Seq.{getD-take, set-getD}
+use lib.Dec.{eqb}
+use lib.ListN.{length, getD, set, List·getD-eq-default}
+use lib.Seq.{set-getD}
 use Rattle.lists.specs.Choice.{if_then_else_}
-use Rattle.lists.specs.Lists.{foldl, upTo, any, kept, index, larger}
+use Rattle.lists.specs.Lists.{foldl, upTo, kept, index}
 use Rattle.lists.proofs.Bools.{and-left}
 use Rattle.numbers.specs.declared.TaskSlot.{TaskSlot}
 use Rattle.numbers.specs.declared.ObjSlot.{ObjSlot}
-use Rattle.numbers.specs.Numbers.{task, idle}
+use Rattle.numbers.specs.Numbers.{task}
 use Rattle.order.specs.declared.Order.{Order}
+use Rattle.heights.specs.declared.Lines.{Lines}
+use Rattle.heights.specs.Heights.{noLines, noted, occupied}
 use Rattle.slots.specs.declared.Task.{Task}
-use Rattle.slots.specs.declared.Who.{Who}
-use Rattle.slots.specs.declared.Who.the-variants.{AllReady, WaitersOf}
+use Rattle.slots.specs.Who.{Who, AllReady, WaitersOf}
 use Rattle.slots.specs.declared.Lead.{Lead}
 use Rattle.slots.specs.declared.Lead.the-variants.{Open}
 use Rattle.slots.specs.Places.{takesTask, waitsOn, wakesAt, ahead, away}
 use Rattle.slots.specs.Leads.{leadOver, better}
-use Rattle.slots.specs.Values.{freeTask, inHigher}
+use Rattle.slots.specs.Values.{freeTask}
 use Rattle.slots.proofs.Sweeps.{by-rows, some-row, first-row}
 use Rattle.tasks.specs.declared.Tasks.{Tasks}
 use Rattle.tasks.specs.Columns.{rowAt, rowsOf, put, freeIn}
-use Rattle.tasks.specs.Walks.{leadIn, higherIn, outrankedIn, lineIn, readyLevel, topIn, waitedIn, isMeant, ready}
+use Rattle.tasks.specs.Walks.{leadIn, lineIn, linesIn, waitedIn, isMeant}
 use Rattle.tasks.specs.Dues.{timed, untilIn, wakeNow, woken, tailed, wakeIn}
 use Rattle.tasks.proofs.Columns.{Full, row-at, rows-many}
-use Rattle.tasks.proofs.StateTests.{row-meant, row-takes, row-line, row-higher, row-away, row-due, row-ended}
-
--- the first n of a list that is long enough
-module _ (xs : List TaskSlot) (n : ℕ) (h : n ≤ length xs) where
-  pub first-long : length (take n xs) ≡ n
-  first-long = rw length-take (omega arith)
-
-  pub first-at : (i : ℕ) → i < n → getD (take n xs) i idle ≡ getD xs i idle
-  first-at i l = getD-take n xs i idle l
+use Rattle.tasks.proofs.StateTests.{row-meant, row-takes, row-line, row-away, row-due, row-ended}
 
 -- walks of an order: a step in numbers
 abbrev pub leadStep : Who → List ℕ → List ℕ → List ℕ → Lead → TaskSlot → Lead
 leadStep w states objects levels b t =
     if isMeant w (getD states (t .0) 0) (getD objects (t .0) 0) then leadOver b t (getD levels (t .0) 0) else b
 
-abbrev pub isAbove : ℕ → List ℕ → List ℕ → TaskSlot → Bool
-isAbove p states levels t = eqb (getD states (t .0) 0) 1 && ltb p (getD levels (t .0) 0)
+abbrev pub linesStep : List ℕ → List ℕ → Lines → TaskSlot → Lines
+linesStep states levels o t = noted o (eqb (getD states (t .0) 0) 1) (getD levels (t .0) 0)
 
 abbrev pub isLevel : ℕ → List ℕ → List ℕ → TaskSlot → Bool
 isLevel p states levels t = eqb (getD states (t .0) 0) 1 && eqb (getD levels (t .0) 0) p
@@ -59,9 +51,9 @@ module _ (ts : Tasks) (l : List TaskSlot) where
   unfolding leadIn
   lead-is w = ap (λ (f : Lead → TaskSlot → Lead). foldl f Open l) (λ i b t. lead-step ts w b t i)
 
-  pub above-is : (p : ℕ) → any (isAbove p (ts .state) (ts .effective)) l ≡ higherIn ts p l
-  unfolding higherIn
-  above-is p = ap (λ (f : TaskSlot → Bool). any f l) (λ i t. sym (row-higher ts (t .0) p) i)
+  pub lines-is : foldl (linesStep (ts .state) (ts .effective)) noLines l ≡ linesIn ts l
+  unfolding linesIn occupied rowAt
+  lines-is = ap (λ (f : TaskSlot → Bool). foldl (λ o t. noted o (f t) (getD (ts .effective) (t .0) 0)) noLines l) (λ i t. sym (row-meant ts (t .0) AllReady) i)
 
   pub line-is : (p : ℕ) → kept (isLevel p (ts .state) (ts .effective)) l ≡ lineIn ts p l
   unfolding lineIn
@@ -86,22 +78,19 @@ module _ (states : List ℕ) (n : ℕ) (t : TaskSlot) (same : n ≡ t .0) where
         nobody AllReady = refl
         nobody (WaitersOf o) = refl
 
+  module _ (levels : List ℕ) (o : Lines) where
+    pub lines-at : noted o (eqb (getD states n 0) 1) (getD levels n 0) ≡ linesStep states levels o t
+    lines-at = rw same
+
+    pub lines-past : length states ≡ 16 → 16 ≤ n → o ≡ linesStep states levels o t
+    lines-past l h = rw (past-state l h)
+
   module _ (p : ℕ) (levels : List ℕ) where
-    pub above-at : {b : Bool} → (eqb (getD states n 0) 1 && ltb p (getD levels n 0)) ≡ b → isAbove p states levels t ≡ b
-    above-at e = rw (← same) e
-
-    pub above-past : length states ≡ 16 → 16 ≤ n → isAbove p states levels t ≡ false
-    above-past l h = rw (past-state l h)
-
     pub level-at : {b : Bool} → (eqb (getD states n 0) 1 && eqb (getD levels n 0) p) ≡ b → isLevel p states levels t ≡ b
     level-at e = rw (← same) e
 
     pub level-past : length states ≡ 16 → 16 ≤ n → isLevel p states levels t ≡ false
     level-past l h = rw (past-state l h)
-
-pub ready-is : (ts : Tasks) (i : ℕ) → readyLevel (rowAt ts i) ≡ ready (getD (ts .state) i 0) (getD (ts .effective) i 0)
-unfolding rowAt
-ready-is ts i = ap (λ (b : Bool). if b then getD (ts .effective) i 0 else 0) (row-meant ts i AllReady)
 
 -- walks of the rows
 module _ (ts : Tasks) (full : Full ts) where
@@ -111,11 +100,6 @@ module _ (ts : Tasks) (full : Full ts) where
   row : (i : ℕ) → i < length (rowsOf ts) → getD (rowsOf ts) i freeTask ≡ rowAt ts i
   row i h = row-at ts i (rw (← rows-many ts) h)
 
-  pub outranked-is : (p : ℕ) → upTo (λ b i. b || (eqb (getD (ts .state) i 0) 1 && ltb p (getD (ts .effective) i 0))) 16 false ≡ outrankedIn ts p
-  unfolding outrankedIn
-  outranked-is p = some-row (inHigher p) (λ i. eqb (getD (ts .state) i 0) 1 && ltb p (getD (ts .effective) i 0)) (rowsOf ts) freeTask 16 many
-      (λ i h. sym (row-higher ts i p) ∙ sym (ap (inHigher p) (row i h)))
-
   pub waited-is : (o : ObjSlot) → upTo (λ b i. b || isMeant (WaitersOf o) (getD (ts .state) i 0) (getD (ts .object) i 0)) 16 false ≡ waitedIn ts o
   unfolding waitedIn
   waited-is o = some-row (λ (x : Task). waitsOn o (x .place)) (λ i. isMeant (WaitersOf o) (getD (ts .state) i 0) (getD (ts .object) i 0)) (rowsOf ts) freeTask 16 many
@@ -124,16 +108,6 @@ module _ (ts : Tasks) (full : Full ts) where
   pub now-is : (now : ℕ) → upTo (λ b i. b || eqb (getD (ts .wake) i 0) now) 16 false ≡ wakeNow ts now
   unfolding wakeNow
   now-is now = some-row (λ w. eqb w now) (λ i. eqb (getD (ts .wake) i 0) now) (ts .wake) 0 16 (full .wakes) (λ i h. refl)
-
-  top-is : upTo (λ m i. larger m (ready (getD (ts .state) i 0) (getD (ts .effective) i 0))) 16 0 ≡ topIn ts
-  unfolding topIn
-  top-is = by-rows (λ m x. larger m (readyLevel x)) (λ m i. larger m (ready (getD (ts .state) i 0) (getD (ts .effective) i 0))) (rowsOf ts) freeTask
-      (λ m i h. ap (larger m) (sym (ready-is ts i) ∙ sym (ap readyLevel (row i h)))) 0 16 many
-
-  pub top-or : (n : ℕ) → upTo (λ m i. larger m (ready (getD (ts .state) i 0) (getD (ts .effective) i 0))) (min 16 (16 * n)) 0 ≡ if eqb n 0 then 0 else topIn ts
-  unfolding upTo
-  top-or zero = refl
-  top-or (suc n) = let e : min 16 (16 * suc n) ≡ 16 = omega arith in rw (e, ne-eqb (suc n) 0 (λ q. omega (arith, q))) top-is
 
   pub until-is : (now : ℕ) → upTo (λ m i. min m (if timed (getD (ts .state) i 0) then ahead now (getD (ts .wake) i 0) else 4294967295)) 16 4294967295 ≡ untilIn now ts
   unfolding untilIn

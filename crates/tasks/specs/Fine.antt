@@ -12,11 +12,10 @@ use Rattle.numbers.specs.Numbers.{task, sameTask}
 use Rattle.slots.specs.declared.Place.{Place}
 use Rattle.slots.specs.declared.Place.the-variants.{Free, Ready, Delayed, Waiting, Suspended, Spent}
 use Rattle.slots.specs.declared.Task.{Task}
-use Rattle.slots.specs.Places.{isReady}
 use Rattle.slots.specs.SoundSlots.{idleFine, standsFine, ordersFine, prioritiesFine, outcomeFine, freshIfFree, freeHolds, notDue, mayWaitOn}
 use Rattle.tasks.specs.declared.Tasks.{Tasks}
 use Rattle.tasks.specs.Columns.{tasksOf, rowAt, rowsOf}
-use Rattle.tasks.specs.Walks.{outrankedIn, lineIn}
+use Rattle.tasks.specs.Walks.{lineIn, readyAt, levelAt, topIn}
 use Rattle.tasks.specs.Dues.{timed}
 use Rattle.tasks.specs.Known.{waitsState, known, wakeKnown}
 
@@ -77,13 +76,14 @@ waitsAt ts opens takes holder i = waitsBy opens takes holder (task i) (rowAt ts 
 unfoldable pub waitingIn : Tasks → ℕ
 waitingIn ts = upTo (λ n i. n + (if waitsState (getD (ts .state) i 0) then 1 else 0)) 16 0
 
--- "the running task heads its line, and with hold 0 no higher line is occupied": no row stands higher
+-- "the running task heads its line"
 abbrev pub headed : List TaskSlot → TaskSlot → Bool
 headed [] u = false
 headed (t ∷ l) u = sameTask t u
 
-abbrev pub runsAt : Tasks → List TaskSlot → TaskSlot → Bool → Task → Bool
-runsAt ts l u held x = isReady (x .place) && (headed (lineIn ts (x .effective) l) u && (held || not (outrankedIn ts (x .effective))))
+unfoldable pub headsIn : Tasks → List TaskSlot → TaskSlot → Bool
+headsIn ts l u = readyAt ts u && headed (lineIn ts (levelAt ts u) l) u
 
-unfoldable pub runsIn : Tasks → List TaskSlot → TaskSlot → Bool → Bool
-runsIn ts l u held = runsAt ts l u held (rowAt ts (u .0))
+-- "and with hold 0 no higher line is occupied"
+abbrev pub runsIn : Tasks → List TaskSlot → TaskSlot → Bool → Bool
+runsIn ts l u held = headsIn ts l u && (held || leb (topIn ts l) (levelAt ts u))

@@ -5,7 +5,7 @@ ghost use Rattle.slots.specs.SoundSlots.{idleFine};
 ghost use Rattle.order.specs.Order.{listed};
 ghost use Rattle.tasks.specs.Columns.{rowAt};
 ghost use Rattle.tasks.specs.Known.{waitsState};
-ghost use Rattle.tasks.specs.Fine.{rowFine, wakeFine, rowsFine, wakesFine, waitingIn, waitsAt, runsIn, Fine};
+ghost use Rattle.tasks.specs.Fine.{rowFine, wakeFine, rowsFine, wakesFine, waitingIn, waitsAt, headsIn, runsIn, Fine};
 use crate::Tasks;
 use numbers::TaskSlot;
 use order::Order;
@@ -154,14 +154,21 @@ impl Tasks {
         ok
     }
 
-    // The running task `u` heads its line, and no row outranks it, unless `held`.
+    fn heads(self, o: Order, u: TaskSlot) -> bool
+        ensures { λ r. ⌜ r ≡ headsIn self (listed o) u ⌝ }
+    {
+        let p = self.get(u).effective;
+        lists::both(u.slot() < 16, self.head(o, p).same(u))
+    }
+
+    // The running task `u` heads its line, and no higher line is occupied, unless `held`.
     pub fn runs_fine(self, o: Order, u: TaskSlot, held: bool) -> bool
         ensures { λ r. ⌜ r ≡ runsIn self (listed o) u held ⌝ }
     {
-        let p = self.get(u).effective;
-        let heads = self.head(o, p).same(u);
-        let outranked = self.outranked(p);
-        let top = lists::either(held, !outranked);
-        lists::both(u.slot() < 16, lists::both(heads, top))
+        let heads = self.heads(o, u);
+        if held {
+            return heads;
+        }
+        lists::both(heads, self.top(o) <= self.get(u).effective)
     }
 }

@@ -1,7 +1,7 @@
 use borrow.Author.Needs.{needs}
 use Rattle.kernel.proofs.TableWalks.{first-of}
 use Rattle.kernel.specs.Stands.{coreOf}
-use Rattle.slots.specs.declared.Who.the-variants.{WaitersOf}
+use Rattle.slots.specs.Who.{WaitersOf}
 use Rattle.slots.specs.Leads.{leads}
 use mathlib.Core.Path.{ap, _∙_}
 use Rattle.kernel.proofs.Core.first_waiter.Statement.{statement}

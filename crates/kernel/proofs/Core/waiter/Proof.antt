@@ -3,7 +3,7 @@ use mathlib.Core.Path.{sym, _∙_}
 use native.Mathlib.Omega.{arith}
 use Rattle.rules.proofs.TableWithin.{first-within}
 use Rattle.kernel.specs.Stands.{shownCore}
-use Rattle.slots.specs.declared.Who.the-variants.{WaitersOf}
+use Rattle.slots.specs.Who.{WaitersOf}
 use Rattle.kernel.proofs.Core.waiter.Statement.{statement}
 use Rattle.kernel.proofs.Core.waiter.Tie as tie
 

@@ -5,6 +5,7 @@ use Rattle.numbers.specs.Numbers.{object, idle}
 use Rattle.order.specs.Order.{listed}
 use Rattle.tasks.proofs.Columns.{Full}
 use Rattle.tasks.proofs.WalkTurns.{leadStep, lead-is, lead-takes, lead-stays, lead-past}
+use Rattle.slots.specs.Who.{WaitersOf}
 use lib.ListN.{length, getD}
 use mathlib.Core.Logic.{⊎-elim}
 use mathlib.Core.Path.{_≡_, sym, _∙_}
@@ -14,10 +15,10 @@ use Rattle.tasks.proofs.Tasks.first.Statement.{statement}
 use Rattle.tasks.proofs.Tasks.first.Tie as tie
 
 abbrev Inv-loop : tie.InvT-loop
-Inv-loop w state object effective places n best₀ i₀ best i = Rest (leadStep w state object effective) n places n best₀ best i
+Inv-loop x state object effective places n best₀ i₀ best i = Rest (leadStep (WaitersOf x) state object effective) n places n best₀ best i
 
 abbrev μ-loop : tie.MeasureT-loop
-μ-loop w state object effective places n best₀ i₀ best i = n - i
+μ-loop x state object effective places n best₀ i₀ best i = n - i
 
 loop-holds : tie.Need-loop-holds Inv-loop μ-loop
 loop-holds c =
@@ -30,7 +31,7 @@ loop-again c =
     let ts = a .self in
     let f : Full ts = search needs in
     let l = c .before .before .before .before .loop in
-    let w = a .w in
+    let w = WaitersOf (a .x) in
     let t = getD (a .o .places) (l .i) idle in
     let s = c .before .slot in
     turn (l .inv) (search needs) idle
@@ -44,7 +45,7 @@ returns c =
     let a = c .before .before .before .before .before .before .before .args in
     let o = a .o in
     let len : length (o .places) ≡ 16 = search length-mapped in
-    done (c .before .loop .inv) (search needs) ∙ rw (c .before .before .reach .ensures, reach-listed o len) (lead-is (a .self) (listed o) (a .w))
+    done (c .before .loop .inv) (search needs) ∙ rw (c .before .before .reach .ensures, reach-listed o len) (lead-is (a .self) (listed o) (WaitersOf (a .x)))
 
 pub first-spec : {M : Type 1} → statement M
 first-spec =

@@ -1,12 +1,14 @@
 use borrow.Author.Needs.{needs}
 use Prim.Native.Nat.{_-_}
 use Rattle.lists.proofs.Loops.{length-mapped, Skipped, skip-none, skip, met, met-none}
-use Rattle.numbers.specs.Numbers.{idle}
+use Rattle.numbers.specs.Numbers.{idle, task}
 use Rattle.order.specs.Order.{listed}
 use Rattle.tasks.proofs.Columns.{Full}
 use Rattle.tasks.proofs.WalkTurns.{isLevel, line-is, level-at, level-past}
 use Rattle.tasks.specs.Walks.{headOr}
 use lib.ListN.{length, getD}
+use mathlib.Core.List.{List}
+use Rattle.numbers.specs.declared.TaskSlot.{TaskSlot}
 use mathlib.Core.Logic.{⊎-elim}
 use mathlib.Core.Path.{_≡_, sym, ap, _∙_}
 use native.Mathlib.Omega.{arith}
@@ -36,7 +38,7 @@ returns c =
     let p = a .p in
     let t = getD (o .places) (l .i) idle in
     let k = met (l .inv) (search needs) idle (level-at (ts .state) (s .result) t (s .ensures) p (ts .effective) (sym (c .before .both .ensures) ∙ c .if2 .taken)) in
-    sym (ap headOr k) ∙ rw (c .before .before .before .before .before .before .before .reach .ensures, reach-listed o len, line-is ts (listed o) p)
+    sym (ap (λ (m : List TaskSlot). headOr m (task 16)) k) ∙ rw (c .before .before .before .before .before .before .before .reach .ensures, reach-listed o len, line-is ts (listed o) p)
 
 loop-again : tie.Need-loop-again Inv-loop μ-loop
 loop-again c =
@@ -58,7 +60,8 @@ returns-2 c =
     let o = a .o in
     let len : length (o .places) ≡ 16 = search length-mapped in
     let p = a .p in
-    c .of .ensures ∙ sym (ap headOr (met-none (c .before .before .loop .inv) (search needs))) ∙ rw (c .before .before .before .reach .ensures, reach-listed o len, line-is ts (listed o) p)
+    c .of .ensures ∙ sym (ap (λ (m : List TaskSlot). headOr m (task 16)) (met-none (c .before .before .loop .inv) (search needs)))
+    ∙ rw (c .before .before .before .reach .ensures, reach-listed o len, line-is ts (listed o) p)
 
 pub head-spec : {M : Type 1} → statement M
 head-spec =

@@ -9,7 +9,7 @@ use lib.ListN.{getD}
 use mathlib.Core.Bool.{false, _||_}
 use mathlib.Core.Path.{_∙_}
 use native.Mathlib.Omega.{arith}
-use Rattle.slots.specs.declared.Who.the-variants.{WaitersOf}
+use Rattle.slots.specs.Who.{WaitersOf}
 use Rattle.tasks.proofs.Tasks.waited.Statement.{statement}
 use Rattle.tasks.proofs.Tasks.waited.Tie as tie
 
