@@ -20,16 +20,18 @@ isLit w p = eqb (w / 2 ^ p % 2) 1
 unfoldable pub top : ℕ → ℕ
 top w = 31 - leadingZeros 32 w
 
+-- nobody stands in a line
 abbrev pub noLines : Lines
 noLines = record { word = 0; over = 0 }
 
--- one task more, of priority p: it stands in a line if it is ready
+-- one task more, of priority p: it stands in a line if it is ready; a priority past the 32 lines has no bit
 abbrev pub noted : Lines → Bool → ℕ → Lines
 noted o ready p =
     if ready
     then if ltb p 32 then record { word = lit (o .word) p; over = o .over } else record { word = o .word; over = larger (o .over) p }
     else o
 
+-- the highest occupied line; 0 where none is
 abbrev pub height : Lines → ℕ
 height o = larger (top (o .word)) (o .over)
 

@@ -9,6 +9,7 @@ use borrow.Author.Tests.{eqb-true, eqb-false, ne-eqb, ltb-true, ltb-false}
 use Rattle.lists.specs.Choice.{if_then_else_}
 use Rattle.lists.specs.Lists.{kept, head, isNone}
 use Rattle.lists.proofs.Bools.{and-right}
+use Rattle.lists.proofs.Tests.{kept-head}
 use Rattle.numbers.specs.Numbers.{idle}
 use Rattle.order.specs.Order.{listed}
 use Rattle.order.specs.Tidy.{count}
@@ -20,7 +21,7 @@ use Rattle.rules.specs.Tables.{withRunning, withUses}
 use Rattle.rules.specs.Lines.{line, those, level, highest, first, runsIf, chosen}
 use Rattle.rules.specs.Sentences.{Running, Used, Sound}
 use Rattle.rules.proofs.LineLeads.{leader-none, first-heads-highest}
-use Rattle.rules.proofs.TableWithin.{first-meant, kept-head, first-single}
+use Rattle.rules.proofs.TableWithin.{first-meant, first-single}
 use Rattle.rules.proofs.TableSlots.{is-ready}
 use Rattle.rules.proofs.SoundClock.{wake-says, says-wake}
 use Rattle.rules.proofs.KeepNearly.{Owing, settled, level-as, Nearly, RunsIn}

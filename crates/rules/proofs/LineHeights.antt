@@ -1,11 +1,11 @@
 -- The word of occupied lines: a bit is set exactly if its line is occupied, and what the count of leading zeros finds is the highest line.
 use Prim.Native.Nat.{ℕ, _<_}
 use mathlib.Core.Path.{_≡_, refl, _∙_}
-use mathlib.Core.Bool.{Bool, true, false, not, _||_}
+use mathlib.Core.Bool.{Bool, true, not}
 use mathlib.Core.List.{List, [], _∷_}
 use native.Mathlib.Omega.{arith}
-use Rattle.lists.specs.Choice.{if_then_else_}
-use Rattle.lists.specs.Lists.{any, kept, isNone}
+use Rattle.lists.specs.Lists.{isNone}
+use Rattle.lists.proofs.Tests.{some-kept}
 use Rattle.order.specs.Order.{listed}
 use Rattle.heights.specs.Heights.{isLit, top, height, largest}
 use Rattle.heights.proofs.Counts.{height-largest, top-largest}
@@ -23,16 +23,6 @@ pub largest-highest : (ts : List Task) (l : List TaskSlot) → largest (level ts
 unfolding largest highest
 largest-highest ts [] = refl
 largest-highest ts (t ∷ l) = rw (largest-highest ts l)
-
--- some pass, or none is kept
-some-kept : (p : TaskSlot → Bool) (l : List TaskSlot) → any p l ≡ not (isNone (kept p l))
-unfolding kept any
-some-kept p [] = refl
-some-kept p (t ∷ l) = go (p t) (some-kept p l)
-  where
-    go : (b : Bool) → any p l ≡ not (isNone (kept p l)) → (b || any p l) ≡ not (isNone (if b then t ∷ kept p l else kept p l))
-    go true e = refl
-    go false e = e
 
 module _ (k : State) where
   abbrev ready : TaskSlot → Bool

@@ -11,6 +11,7 @@ use borrow.Author.Tests.{leb-true, leb-false}
 use Rattle.lists.specs.Choice.{if_then_else_}
 use Rattle.lists.specs.Lists.{kept, head}
 use Rattle.lists.proofs.Bools.{and-left}
+use Rattle.lists.proofs.Tests.{kept-head}
 use Rattle.order.specs.Order.{listed}
 use Rattle.slots.specs.Leads.{isWho}
 use Rattle.rules.specs.Types.{TaskSlot, ObjSlot, Task, Ring, Unused, Queue, Object, Who, AllReady, WaitersOf, Outlet, toWaiter, toQueue, toCaller, State}
@@ -29,19 +30,6 @@ place-within p c s h w =
     let a : (p + 1) * s ≤ c * s = mul-le-mul-right s (omega arith) in
     let b : (p + 1) * s ≡ p * s + s = omega arith in
     omega arith
-
-no-one : {t : TaskSlot} → [] ≡ t ∷ [] → ⊥
-no-one e = let z : _≡_ {A = ℕ} 0 1 = cc in omega arith
-
--- the first that passes passes
-pub kept-head : (p : TaskSlot → Bool) (l : List TaskSlot) (t : TaskSlot) → head (kept p l) ≡ t ∷ [] → p t ≡ true
-unfolding kept
-kept-head p [] t e = absurd (no-one e)
-kept-head p (x ∷ l) t e = go (p x) refl (kept-head p l t) e
-  where
-    go : (b : Bool) → p x ≡ b → (head (kept p l) ≡ t ∷ [] → p t ≡ true) → head (if b then x ∷ kept p l else kept p l) ≡ t ∷ [] → p t ≡ true
-    go true q ih f = let z : x ≡ t = cc in rw (← z) q
-    go false q ih f = ih f
 
 -- who is first is one of those meant
 pub first-meant : (k : State) (w : Who) (t : TaskSlot) → first k w ≡ t ∷ [] → isWho w (taskAt (k .tasks) t .place) ≡ true

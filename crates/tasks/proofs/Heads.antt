@@ -8,8 +8,9 @@ use lib.Dec.{eqb, ltb}
 use lib.ListN.{length, getD}
 use borrow.Author.Tests.{eqb-true, ne-eqb, ltb-true, ltb-false, lt-ltb}
 use Rattle.lists.specs.Choice.{if_then_else_}
-use Rattle.lists.specs.Lists.{foldl, any, kept, isNone}
+use Rattle.lists.specs.Lists.{foldl, any, head}
 use Rattle.lists.proofs.Bools.{or-off, and-left}
+use Rattle.lists.proofs.Tests.{kept-head}
 use Rattle.numbers.specs.declared.TaskSlot.{TaskSlot}
 use Rattle.numbers.specs.declared.ObjSlot.{ObjSlot}
 use Rattle.numbers.specs.Numbers.{sameTask, task}
@@ -77,15 +78,6 @@ module _ (ts : Tasks) (full : Full ts) where
     none-waited (t ∷ l) = none-waited l ∙ ap (λ (b : Lead). foldl (λ c u. better (WaitersOf o) c u (rowAt ts (u .0))) b l) (sym (rw (not-waits (t .0))))
 
 -- ── the heads of lines
-kept-head : (p : TaskSlot → Bool) (l : List TaskSlot) (t : TaskSlot) (r : List TaskSlot) → kept p l ≡ t ∷ r → p t ≡ true
-unfolding kept
-kept-head p [] t r e = absurd (false≢true (sym (ap isNone e)))
-kept-head p (x ∷ l) t r e = go (p x) refl (kept-head p l t r) e
-  where
-    go : (b : Bool) → p x ≡ b → (kept p l ≡ t ∷ r → p t ≡ true) → (if b then x ∷ kept p l else kept p l) ≡ t ∷ r → p t ≡ true
-    go true q ih k = sym (ap p (ap (λ (m : List TaskSlot). headOr m x) k)) ∙ q
-    go false q ih k = ih k
-
 -- a slot past the table is not ready
 in-table : (ts : Tasks) → Full ts → (u : TaskSlot) → readyAt ts u ≡ true → ltb (u .0) 16 ≡ true
 in-table ts full u =
@@ -93,7 +85,7 @@ in-table ts full u =
 
 line-head : (ts : Tasks) (l : List TaskSlot) (p : ℕ) (t : TaskSlot) (r : List TaskSlot) → lineIn ts p l ≡ t ∷ r → readyAt ts t ≡ true
 unfolding lineIn
-line-head ts l p t r e = and-left (readyAt ts t) _ (kept-head (λ y. inLine p (rowAt ts (y .0))) l t r e)
+line-head ts l p t r e = and-left (readyAt ts t) _ (kept-head (λ y. inLine p (rowAt ts (y .0))) l t (ap head e))
 
 -- who stands first in a line, where 16 says that nobody does
 module _ (ts : Tasks) (l : List TaskSlot) (p : ℕ) (t u : TaskSlot) (e : t ≡ headOr (lineIn ts p l) (task 16)) where
