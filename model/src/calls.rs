@@ -176,8 +176,8 @@ fn create(kernel: &mut Kernel, priority: u8) -> u32 {
 fn delete(kernel: &mut Kernel, task: TaskSlot) {
     match kernel.task(task).stand {
         Stand::Ready => kernel.leave_line(task),
-        Stand::Waiting { object, .. } => kernel.leave_object(task, object),
-        _ => {}
+        Stand::Delayed { .. } | Stand::Waiting { .. } => kernel.leave_wait(task),
+        Stand::Suspended | Stand::Free => {}
     }
     let uses = kernel.task(task).uses + 1;
     *kernel.task_mut(task) = Task::free(uses);
@@ -186,9 +186,8 @@ fn delete(kernel: &mut Kernel, task: TaskSlot) {
 fn suspend(kernel: &mut Kernel, task: TaskSlot) {
     match kernel.task(task).stand {
         // "if delayed or waiting, leaves that with outcome 3"
-        Stand::Delayed { .. } => kernel.task_mut(task).outcome = Outcome::BrokenOff,
-        Stand::Waiting { object, .. } => {
-            kernel.leave_object(task, object);
+        Stand::Delayed { .. } | Stand::Waiting { .. } => {
+            kernel.leave_wait(task);
             kernel.task_mut(task).outcome = Outcome::BrokenOff;
         }
         // "if ready, outcome stays"

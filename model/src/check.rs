@@ -1,6 +1,6 @@
-//! The self-check: document 01's soundness sentence, with request 1's clauses on uses, over
-//! the kernel's own structures, and what can be said of one step by looking at the kernel
-//! before and after.
+//! The self-check: document 01's soundness sentence, with request 1's clauses on uses and
+//! request 3's on the remembered order, over the kernel's own structures, and what can be
+//! said of one step by looking at the kernel before and after.
 
 use crate::calls::{step, Answer, Call, Named};
 use crate::kernel::{
@@ -22,6 +22,7 @@ pub fn soundness(kernel: &Kernel) -> Result<(), String> {
     check_idle(kernel)?;
     check_lines(kernel)?;
     check_waiters(kernel)?;
+    check_order(kernel)?;
     for task in TaskSlot::all() {
         check_task(kernel, task)?;
     }
@@ -93,6 +94,25 @@ fn check_waiters(kernel: &Kernel) -> Result<(), String> {
     Ok(())
 }
 
+/// "In a sound kernel it has each of them once and no one else, and agrees with each
+/// object's list." Those in it who wait on an object are, in this order, the object's list.
+fn check_order(kernel: &Kernel) -> Result<(), String> {
+    for (place, &task) in kernel.began.iter().enumerate() {
+        must(kernel.is_blocked(task), "the order has no one else")?;
+        must(!kernel.began[..place].contains(&task), "the order has each of them once")?;
+    }
+    for task in TaskSlot::all().filter(|&task| kernel.is_blocked(task)) {
+        must(kernel.began.contains(&task), "the order has each of them")?;
+    }
+    for object in ObjectSlot::all() {
+        let waits_here =
+            |task: &&TaskSlot| matches!(kernel.task(**task).stand, Stand::Waiting { object: on, .. } if on == object);
+        let of_object = kernel.began.iter().filter(waits_here);
+        must(of_object.eq(&kernel.object(object).waiters), "the order agrees with each object's list")?;
+    }
+    Ok(())
+}
+
 /// "a use is at most 65,536, in a taken slot 65,535"
 fn check_use(uses: u32, free: bool) -> Result<(), String> {
     must(uses <= RETIRED, "a use is at most 65,536")?;
@@ -108,12 +128,7 @@ fn check_task(kernel: &Kernel, task: TaskSlot) -> Result<(), String> {
     must((slot.own.max(slot.effective) as usize) < PRIORITIES, "counts and places obey the ranges")?;
     must(slot.effective >= slot.own, "effective is at least own")?;
     must(slot.effective == slot.own || kernel.holds_a_mutex(task), "and equal to it for a task that holds nothing")?;
-    let wake = match slot.stand {
-        Stand::Delayed { wake } => Some(wake),
-        Stand::Waiting { wake, .. } => wake,
-        _ => None,
-    };
-    must(wake != Some(kernel.tick), "no wake tick of a delayed or waiting task equals the tick count")?;
+    must(slot.wake() != Some(kernel.tick), "no wake tick of a delayed or waiting task equals the tick count")?;
     must(!kernel.is_blocked(task) || slot.outcome == Outcome::None, "an outcome is 0 if delayed or waiting")
 }
 
@@ -178,14 +193,37 @@ fn check_step(
     if let Answer::Made(number) = answer {
         check_made(before, call, number, after)?;
     }
-    // "in order of arrival": what stays keeps its order, and only the caller can come, last.
     for object in ObjectSlot::all() {
-        let old = &before.object(object).waiters;
-        let new = &after.object(object).waiters;
-        let stayed: Vec<TaskSlot> = old.iter().copied().filter(|task| new.contains(task)).collect();
-        let came = &new[stayed.len().min(new.len())..];
-        must(new.starts_with(&stayed), "waiters are in order of arrival")?;
-        must(came.is_empty() || came == [caller], "only the caller can begin to wait")?;
+        check_arrival(&before.object(object).waiters, &after.object(object).waiters, caller)?;
+    }
+    check_arrival(&before.began, &after.began, caller)?;
+    if after.tick != before.tick {
+        check_wakes(before, after)?;
+    }
+    Ok(())
+}
+
+/// "in order of arrival", and the order in which delays and waits began: who stays keeps
+/// the order, and only the caller can come, last.
+fn check_arrival(old: &[TaskSlot], new: &[TaskSlot], caller: TaskSlot) -> Result<(), String> {
+    let stayed: Vec<TaskSlot> = old.iter().copied().filter(|task| new.contains(task)).collect();
+    let came = &new[stayed.len().min(new.len())..];
+    must(new.starts_with(&stayed), "who stays keeps the order of arrival")?;
+    must(came.is_empty() || came == [caller], "only the caller can begin to wait")
+}
+
+/// "Among tasks due on one tick, make ready first whoever began its delay or wait earlier",
+/// and of two ticks of a release, those due on the first. In each line the woken stand so.
+fn check_wakes(before: &Kernel, after: &Kernel) -> Result<(), String> {
+    let ticks = after.tick.wrapping_sub(before.tick);
+    let left = |task: TaskSlot| before.task(task).wake().map(|wake| wake.wrapping_sub(before.tick));
+    let is_due = |task: &TaskSlot| left(*task).is_some_and(|left| left <= ticks);
+    let mut due: Vec<TaskSlot> = before.began.iter().copied().filter(is_due).collect();
+    due.sort_by_key(|&task| left(task));
+    for (priority, line) in after.lines.iter().enumerate() {
+        let woken = line.iter().filter(|&&task| before.is_blocked(task));
+        let wanted = due.iter().filter(|&&task| after.task(task).effective as usize == priority);
+        must(woken.eq(wanted), "who began its delay or wait earlier is made ready first")?;
     }
     Ok(())
 }

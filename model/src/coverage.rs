@@ -1,7 +1,7 @@
 //! What a journal exercises: calls, refusals, damage and events inside the kernel.
 
 use crate::calls::{Answer, Call, Named};
-use crate::kernel::{apart, number_of, Kernel, ObjectSlot, Outcome, Stand, TaskSlot, IDLE, RETIRED};
+use crate::kernel::{apart, number_of, Kernel, ObjectSlot, Outcome, Stand, TaskSlot, IDLE, RETIRED, TASKS};
 use crate::refusals::refusal;
 use std::collections::BTreeMap;
 
@@ -33,6 +33,28 @@ const OF_OBJECTS: Reasons = Reasons {
     only_use: "object: refused for the use alone",
 };
 
+/// How two tasks were woken on the same tick.
+struct Together {
+    against_slots: &'static str,
+    against_slots_in_a_line: &'static str,
+    delayed_and_waiting: &'static str,
+    begun_apart: &'static str,
+}
+
+const BY_A_TICK: Together = Together {
+    against_slots: "tick: woken together, not in order of slots",
+    against_slots_in_a_line: "tick: woken together into one line, not in order of slots",
+    delayed_and_waiting: "tick: woken together, one delayed and one waiting",
+    begun_apart: "tick: woken together, begun on different ticks",
+};
+
+const BY_A_PENDED_TICK: Together = Together {
+    against_slots: "release: woken together, not in order of slots",
+    against_slots_in_a_line: "release: woken together into one line, not in order of slots",
+    delayed_and_waiting: "release: woken together, one delayed and one waiting",
+    begun_apart: "release: woken together, begun on different ticks",
+};
+
 #[derive(Default)]
 pub struct Coverage {
     pub lines: u64,
@@ -42,6 +64,8 @@ pub struct Coverage {
     pub refused_by_call: BTreeMap<(usize, u8), u64>,
     pub damaged: BTreeMap<&'static str, u64>,
     pub events: BTreeMap<&'static str, u64>,
+    /// The tick count when each task last began a delay or wait.
+    began_at: [u32; TASKS],
 }
 
 impl Coverage {
@@ -112,8 +136,12 @@ impl Coverage {
         self.event_if(before.lines[0].len() > 1, "idle: shares its line");
         let below_another = after.hold > 0 && after.highest_line() > after.task(caller).effective as usize;
         self.event_if(below_another, "hold: a higher line is occupied");
+        if after.is_blocked(caller) {
+            self.began_at[caller.index()] = before.tick;
+        }
         match *call {
             Call::Tick if before.hold == 0 => {
+                self.observe_wakes(before, 1, after, &BY_A_TICK);
                 let timed_out = woken(Outcome::TimeRanOut);
                 let due = timed_out + woken(Outcome::Done);
                 self.event_if(timed_out > 0, "tick: a waiter timed out");
@@ -126,6 +154,9 @@ impl Coverage {
             }
             Call::Release if after.hold == 0 => {
                 let due = woken(Outcome::TimeRanOut) + woken(Outcome::Done);
+                if before.pended > 1 {
+                    self.observe_wakes(before, before.pended, after, &BY_A_PENDED_TICK);
+                }
                 self.event_if(before.pended > 1, "release: several pended ticks run");
                 self.event_if(before.pended > 1 && due > 1, "release: several tasks woken by pended ticks");
                 self.event_if(before.pended > 60_000, "release: over 60,000 pended ticks run");
@@ -229,6 +260,31 @@ impl Coverage {
             }
             _ => {}
         }
+    }
+
+    /// Names how a call that ran so many ticks woke any two tasks.
+    fn observe_wakes(&mut self, before: &Kernel, ticks: u32, after: &Kernel, names: &Together) {
+        let left = |task: TaskSlot| before.task(task).wake().map(|wake| wake.wrapping_sub(before.tick));
+        let is_due = |task: &TaskSlot| left(*task).is_some_and(|left| left <= ticks);
+        let due: Vec<TaskSlot> = before.began.iter().copied().filter(is_due).collect();
+        let [mut against, mut in_a_line, mut mixed, mut begun_apart, mut later] = [false; 5];
+        for (place, &first) in due.iter().enumerate() {
+            for &second in &due[place + 1..] {
+                let together = left(first) == left(second);
+                let one_line = after.task(first).effective == after.task(second).effective;
+                let waits = |task: TaskSlot| matches!(before.task(task).stand, Stand::Waiting { .. });
+                against |= together && first.index() > second.index();
+                in_a_line |= together && one_line && first.index() > second.index();
+                mixed |= together && waits(first) != waits(second);
+                begun_apart |= together && self.began_at[first.index()] != self.began_at[second.index()];
+                later |= one_line && left(first) > left(second);
+            }
+        }
+        self.event_if(against, names.against_slots);
+        self.event_if(in_a_line, names.against_slots_in_a_line);
+        self.event_if(mixed, names.delayed_and_waiting);
+        self.event_if(begun_apart, names.begun_apart);
+        self.event_if(later, "release: began earlier, woken on a later tick into one line");
     }
 
     fn observe_first_waiter(&mut self, before: &Kernel, object: ObjectSlot) {

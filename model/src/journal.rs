@@ -45,6 +45,9 @@ const CALLS_OF_ROW: [&[u32]; 16] = [
     &[8, 9],
 ];
 
+/// Tasks gather for a tick that is at most so far ahead.
+const MOST_AHEAD: u32 = 8;
+
 /// Something that takes many lines.
 #[derive(Clone, Copy, PartialEq)]
 enum Plan {
@@ -55,8 +58,12 @@ enum Plan {
     Pend(u32),
     /// Holds up to depth 255, then this many more lines.
     Climb(u32),
-    /// Releases down to depth 0.
+    /// Releases down to depth 0; now and then `Gather` follows.
     Descend,
+    /// Delays and waits that end on this tick or one of the next two, for this many lines, then `Pass`.
+    Gather(u32, u32),
+    /// Ticks up to this one, pended under a hold if true; then `Descend`.
+    Pass(u32, bool),
     /// Sends to this queue until it is full and this many lines more, then `Drain`.
     Fill(ObjectSlot, u32),
     /// Receives from this queue for this many lines.
@@ -205,18 +212,21 @@ impl Author {
             self.plan = Plan::Settle(60);
         }
         let left = self.lines - self.written;
-        if self.plan == Plan::None && left > 700 && self.random.below(12_000) == 0 {
+        if self.plan == Plan::None && left > 700 && self.random.below(6_000) == 0 {
             self.plan = Plan::Climb(8);
         }
-        if self.plan == Plan::None && self.random.below(600) == 0 {
-            self.plan = self.fill_a_queue();
+        if self.plan == Plan::None && self.kernel().hold == 0 && self.random.below(40) == 0 {
+            self.plan = self.gather_tasks();
         }
         if self.plan == Plan::None && self.random.below(400) == 0 {
+            self.plan = self.fill_a_queue();
+        }
+        if self.plan == Plan::None && self.random.below(300) == 0 {
             let lines = self.random.between(4, 40);
             self.plan = self.renew_a_slot(lines);
         }
         // Long enough for a use above 255.
-        if self.plan == Plan::None && left > 2_000 && self.random.below(16_000) == 0 {
+        if self.plan == Plan::None && left > 2_000 && self.random.below(7_000) == 0 {
             self.plan = self.renew_a_slot(720);
         }
         if let Some(fields) = self.planned_call() {
@@ -236,6 +246,12 @@ impl Author {
         let span = self.random.pick(&[0, 1, 2, 4, 12, 31]);
         self.low = if self.random.percent(15) { 0 } else { self.random.below(32 - span) };
         self.high = self.low + span;
+    }
+
+    /// A plan for several tasks that become due together, some ticks from now.
+    fn gather_tasks(&mut self) -> Plan {
+        let ticks = self.random.between(3, MOST_AHEAD);
+        Plan::Gather(self.kernel().tick.wrapping_add(ticks), self.random.between(6, 24))
     }
 
     /// A plan for the queue of most places, or none without one.
@@ -286,19 +302,15 @@ impl Author {
                 if hold > 0 {
                     return Some(call(&[9]));
                 }
-                let long = self.random.percent(40);
-                let wait = if long { self.random.between(65_000, 65_600) } else { self.random.between(1, 65_000) };
-                let number = self.random.pick(&[6, 14, 15]);
-                let mut fields = call(&[number]);
-                if number != 6 {
-                    fields.push(decimal(self.object(number, 0)));
+                if self.kernel().running == IDLE {
+                    return self.bring_a_task();
                 }
-                fields.push(decimal(wait));
-                if self.refusal_of(&fields).is_none() {
-                    Some(fields)
-                } else {
-                    None
-                }
+                let wait = match self.random.below(100) {
+                    0..=39 => self.random.between(64_000, 65_600),
+                    40..=64 => self.wait_like_another(),
+                    _ => self.random.between(1, 65_000),
+                };
+                Some(self.begin(wait))
             }
             Plan::Pend(0) | Plan::Climb(0) => {
                 self.plan = Plan::Descend;
@@ -312,7 +324,7 @@ impl Author {
                     self.plan = Plan::Pend(left - 1);
                 }
                 // Few other calls, so that long waits last.
-                let other = self.random.below(1_000) == 0;
+                let other = self.random.below(3_000) == 0;
                 Some(if other { self.without_release() } else { call(&[17]) })
             }
             Plan::Climb(left) => {
@@ -323,7 +335,7 @@ impl Author {
             }
             Plan::Descend => {
                 if hold == 0 {
-                    self.plan = Plan::None;
+                    self.plan = if self.random.percent(30) { self.gather_tasks() } else { Plan::None };
                     return None;
                 }
                 if often {
@@ -331,6 +343,45 @@ impl Author {
                 } else {
                     None
                 }
+            }
+            Plan::Gather(due, left) => {
+                let ticks = due.wrapping_sub(self.kernel().tick);
+                let idle_calls = self.kernel().running == IDLE;
+                let enough = left == 0 || (idle_calls && self.random.percent(15));
+                if enough || !(2..=MOST_AHEAD).contains(&ticks) {
+                    self.plan = Plan::Pass(due.wrapping_add(2), self.random.percent(50));
+                    return None;
+                }
+                self.plan = Plan::Gather(due, left - 1);
+                if hold > 0 {
+                    return Some(call(&[9]));
+                }
+                // Others in between, so that not all begin on one tick, nor in the order in which they were made.
+                let number = match self.random.below(100) {
+                    0..=69 if idle_calls => return self.bring_a_task(),
+                    0..=59 => {
+                        let later = self.random.pick(&[0, 0, 0, 0, 1, 2]);
+                        return Some(self.begin(ticks + later));
+                    }
+                    60..=74 => 7,
+                    75..=79 => 17,
+                    80..=89 => self.random.pick(&[1, 2, 3, 4, 5]),
+                    _ => return None,
+                };
+                let fields = self.candidate(number, 0);
+                self.mostly(fields)
+            }
+            Plan::Pass(until, pend) => {
+                let kernel = self.kernel();
+                let ticks = until.wrapping_sub(kernel.tick).wrapping_sub(kernel.pended);
+                if !(1..=MOST_AHEAD + 2).contains(&ticks) {
+                    self.plan = Plan::Descend;
+                    return None;
+                }
+                if pend && hold == 0 {
+                    return Some(call(&[8]));
+                }
+                self.mostly(call(&[17]))
             }
             Plan::Fill(object, left) | Plan::Drain(object, left) => {
                 let fill = matches!(self.plan, Plan::Fill(..));
@@ -384,6 +435,39 @@ impl Author {
                 self.mostly(make)
             }
         }
+    }
+
+    /// A delay of so many ticks, or a wait of so many on an object that makes the caller wait.
+    fn begin(&mut self, wait: u32) -> Fields {
+        let kernel = &self.machine.kernel;
+        let waits: Vec<(u32, u32)> = ObjectSlot::all()
+            .filter_map(|object| {
+                let number = match kernel.object(object).kind {
+                    Kind::Queue(queue) if queue.count == queue.capacity => 13,
+                    Kind::Queue(queue) if queue.count == 0 => 14,
+                    Kind::Mutex { holder: Some(holder) } if holder != kernel.running => 15,
+                    _ => return None,
+                };
+                Some((number, kernel.object_number(object)))
+            })
+            .collect();
+        if waits.is_empty() || self.random.percent(45) {
+            return call(&[6, wait]);
+        }
+        let (number, object) = self.random.pick(&waits);
+        let mut fields = call(&[number, object]);
+        if number == 13 {
+            fields.push(self.item(object, 0));
+        }
+        fields.push(decimal(wait));
+        fields
+    }
+
+    /// For idle: a task is created or resumed, mostly.
+    fn bring_a_task(&mut self) -> Option<Fields> {
+        let number = self.random.pick(&[1, 1, 4]);
+        let fields = self.candidate(number, 0);
+        self.mostly(fields)
     }
 
     /// A call that leaves the hold depth or lets it grow.
@@ -642,16 +726,8 @@ impl Author {
     /// A wait that ends with another task's.
     fn wait_like_another(&mut self) -> u32 {
         let kernel = &self.machine.kernel;
-        let wakes: Vec<u32> = kernel
-            .tasks
-            .iter()
-            .filter_map(|task| match task.stand {
-                Stand::Delayed { wake } => Some(wake),
-                Stand::Waiting { wake, .. } => wake,
-                _ => None,
-            })
-            .map(|wake| wake.wrapping_sub(kernel.tick))
-            .collect();
+        let wakes: Vec<u32> =
+            kernel.tasks.iter().filter_map(|task| task.wake()).map(|wake| wake.wrapping_sub(kernel.tick)).collect();
         if wakes.is_empty() {
             2
         } else {

@@ -1,5 +1,6 @@
-//! The kernel value: task slots, object slots and the lines of ready tasks.
-//! Quoted sentences are document 01's, and those of request 1 in document 02.
+//! The kernel value: task slots, object slots, the lines of ready tasks and the order in
+//! which delayed and waiting tasks began. Quoted sentences are document 01's, and those of
+//! requests 1 and 3 in document 02.
 
 /// "16 task slots, 0 to 15."
 pub const TASKS: usize = 16;
@@ -123,6 +124,15 @@ impl Task {
     pub fn is_free(&self) -> bool {
         self.stand == Stand::Free
     }
+
+    /// The tick on which a delayed or waiting task is due, if there is one.
+    pub fn wake(&self) -> Option<u32> {
+        match self.stand {
+            Stand::Delayed { wake } => Some(wake),
+            Stand::Waiting { wake, .. } => wake,
+            _ => None,
+        }
+    }
 }
 
 #[derive(Clone, Copy, PartialEq, Eq, Debug)]
@@ -164,6 +174,9 @@ pub struct Kernel {
     pub lines: [Vec<TaskSlot>; PRIORITIES],
     /// One bit for each occupied line; it repeats what `lines` says.
     pub occupied: u32,
+    /// "The kernel has to remember that order among delayed and waiting tasks together."
+    /// Whoever began first is at index 0; those that wait for ever are in it too.
+    pub began: Vec<TaskSlot>,
     pub running: TaskSlot,
     pub tick: u32,
     pub hold: u32,
@@ -178,6 +191,7 @@ impl Kernel {
             objects: std::array::from_fn(|_| Object { uses: 0, kind: Kind::Free, waiters: Vec::with_capacity(TASKS) }),
             lines: std::array::from_fn(|_| Vec::with_capacity(TASKS)),
             occupied: 0,
+            began: Vec::with_capacity(TASKS),
             running: IDLE,
             tick: 0,
             hold: 0,
@@ -334,11 +348,16 @@ impl Kernel {
         }
     }
 
-    /// A task that waits on an object leaves the object's list.
-    pub fn leave_object(&mut self, task: TaskSlot, object: ObjectSlot) {
-        let waiters = &mut self.object_mut(object).waiters;
-        let place = waiters.iter().position(|&other| other == task).expect("a waiter is in its object's list");
-        waiters.remove(place);
+    /// A delayed or waiting task ends that: it leaves the remembered order and, if it waits
+    /// on an object, the object's list.
+    pub fn leave_wait(&mut self, task: TaskSlot) {
+        let place = self.began.iter().position(|&other| other == task).expect("a blocked task is in the order");
+        self.began.remove(place);
+        if let Stand::Waiting { object, .. } = self.task(task).stand {
+            let waiters = &mut self.object_mut(object).waiters;
+            let place = waiters.iter().position(|&other| other == task).expect("a waiter is in its object's list");
+            waiters.remove(place);
+        }
     }
 
     /// "First waiter: highest effective priority, then earliest arrival."
@@ -356,7 +375,7 @@ impl Kernel {
     /// The first waiter leaves the object "and is made ready, outcome 1".
     pub fn wake_first_waiter(&mut self, object: ObjectSlot) -> Option<TaskSlot> {
         let waiter = self.first_waiter(object)?;
-        self.leave_object(waiter, object);
+        self.leave_wait(waiter);
         self.task_mut(waiter).outcome = Outcome::Done;
         self.make_ready(waiter);
         Some(waiter)
@@ -371,13 +390,15 @@ impl Kernel {
         }
     }
 
-    /// "A delay or wait sets it to 0 as it begins." The caller leaves its line.
+    /// "A delay or wait sets it to 0 as it begins." The caller leaves its line, and is the
+    /// last that began.
     fn block_running(&mut self, stand: Stand) {
         let caller = self.running;
         self.leave_line(caller);
         let slot = self.task_mut(caller);
         slot.stand = stand;
         slot.outcome = Outcome::None;
+        self.began.push(caller);
     }
 
     pub fn delay_running(&mut self, ticks: u32) {
@@ -392,26 +413,21 @@ impl Kernel {
         self.object_mut(object).waiters.push(caller);
     }
 
-    /// One tick's count and wakes. "the count goes up, then the due tasks are made
-    /// ready in order of task number (D), a delayed one with outcome 1, a waiting
-    /// one leaving its object with outcome 2". The order is that of the slots.
+    /// One tick's count and wakes. "the count goes up, then the due tasks are made ready",
+    /// "a delayed one with outcome 1, a waiting one leaving its object with outcome 2".
+    /// "Among tasks due on one tick, make ready first whoever began its delay or wait
+    /// earlier."
     pub fn count_and_wake(&mut self) {
         // "after which it returns to 0"
         self.tick = self.tick.wrapping_add(1);
-        for task in TaskSlot::all() {
-            // "the task is due when the count equals it"
-            match self.task(task).stand {
-                Stand::Delayed { wake } if wake == self.tick => {
-                    self.task_mut(task).outcome = Outcome::Done;
-                    self.make_ready(task);
-                }
-                Stand::Waiting { object, wake: Some(wake), .. } if wake == self.tick => {
-                    self.leave_object(task, object);
-                    self.task_mut(task).outcome = Outcome::TimeRanOut;
-                    self.make_ready(task);
-                }
-                _ => {}
-            }
+        // "the task is due when the count equals it"
+        let is_due = |task: &TaskSlot| self.task(*task).wake() == Some(self.tick);
+        let due: Vec<TaskSlot> = self.began.iter().copied().filter(is_due).collect();
+        for task in due {
+            let delayed = matches!(self.task(task).stand, Stand::Delayed { .. });
+            self.leave_wait(task);
+            self.task_mut(task).outcome = if delayed { Outcome::Done } else { Outcome::TimeRanOut };
+            self.make_ready(task);
         }
     }
 }

@@ -1,5 +1,5 @@
-//! A second opinion on the kernel of document 01 and request 1 of document 02, written from these and the readings in
-//! docs/DECISIONS.md.
+//! A second opinion on the kernel of document 01 and requests 1 and 3 of document 02, written from these and the
+//! readings in docs/DECISIONS.md.
 
 pub mod calls;
 pub mod check;

@@ -2,7 +2,7 @@
 
 mod common;
 
-use common::{answers, go_on, line_of, object, repeat, session, slip, task};
+use common::{answers, go_on, object, repeat, session, slip, task};
 use model::calls::{step, Answer, Call};
 use model::check::soundness;
 use model::kernel::{Kernel, Kind};
@@ -241,27 +241,6 @@ fn idle_is_number_0_for_ever() {
     }
     go_on(&mut machine, "2 0 -> no 7 33\n3 0 -> no 7 33\n4 0 -> no 13 33\n5 0 0 -> ok 0 33\n5 0 1 -> no 7 33");
     go_on(&mut machine, "3 33 -> ok 0 2\n2 2 -> ok 0 0");
-}
-
-#[test]
-fn tasks_due_together_come_in_order_of_slots() {
-    // Numbers 33, 2 and 3 are in slots 1, 2 and 3.
-    let mut machine = used();
-    go_on(
-        &mut machine,
-        "5 2 3 -> ok 0 33
-         1 3 -> ok 3 33
-         7 -> ok 0 2
-         7 -> ok 0 3
-         6 2 -> wait 0 33
-         7 -> ok 0 2
-         6 2 -> wait 0 33
-         6 2 -> wait 0 0
-         17 -> ok 0 0
-         17 -> ok 0 33",
-    );
-    assert_eq!(line_of(&machine.kernel, 3), [1, 2, 3]);
-    go_on(&mut machine, "17 -> ok 0 2\n17 -> ok 0 3");
 }
 
 /// The fresh kernel, with these uses in slot 2 of both tables. No slot below can be taken then: task slot 1 and object

@@ -22,7 +22,7 @@ fn every_kernel_on_the_way_is_sound() {
 }
 
 /// What 200,000 lines must exercise, and how often at least.
-const EVENTS: [(&str, u64); 66] = [
+const EVENTS: [(&str, u64); 75] = [
     ("create: a slot below the last one", 100),
     ("create: a slot used again", 1_000),
     ("create: a use above 255", 20),
@@ -53,9 +53,14 @@ const EVENTS: [(&str, u64); 66] = [
     ("receive: waits on an empty queue", 100),
     ("release: a wait of over 60,000 ticks ran out", 1),
     ("release: another task runs", 100),
+    ("release: began earlier, woken on a later tick into one line", 200),
     ("release: over 60,000 pended ticks run", 1),
     ("release: several pended ticks run", 100),
-    ("release: several tasks woken by pended ticks", 100),
+    ("release: several tasks woken by pended ticks", 500),
+    ("release: woken together into one line, not in order of slots", 200),
+    ("release: woken together, begun on different ticks", 200),
+    ("release: woken together, not in order of slots", 400),
+    ("release: woken together, one delayed and one waiting", 400),
     ("remove: a queue with items", 100),
     ("running task overtaken", 100),
     ("runs: a task in a slot used again", 1_000),
@@ -88,7 +93,11 @@ const EVENTS: [(&str, u64); 66] = [
     ("tick: a waiter timed out", 100),
     ("tick: no turn, a higher line was woken", 100),
     ("tick: one task due", 100),
-    ("tick: several tasks due together", 100),
+    ("tick: several tasks due together", 1_000),
+    ("tick: woken together into one line, not in order of slots", 250),
+    ("tick: woken together, begun on different ticks", 500),
+    ("tick: woken together, not in order of slots", 800),
+    ("tick: woken together, one delayed and one waiting", 500),
 ];
 
 #[test]
@@ -164,6 +173,37 @@ fn a_number_is_given_out_once() {
         }
     }
     assert!(given_out >= 2_000 && refused >= 2_000, "{given_out}, {refused}");
+}
+
+/// Wakes beside a plain record of the lines on which delays and waits began: in each priority's line the woken stand by
+/// the tick on which they were due, then by that line.
+#[test]
+fn who_began_earlier_is_made_ready_first() {
+    let (mut together, mut against_slots) = (0, 0);
+    for seed in 3_000..3_060 {
+        let mut machine = Machine::new(false);
+        let mut began = [0; 16];
+        for (at, line) in journal(seed, 2_000).split_inclusive(|&byte| byte == b'\n').enumerate() {
+            let before = machine.kernel.clone();
+            if machine.answer(line) == Answer::Waiting {
+                began[before.running.index()] = at;
+            }
+            if machine.kernel.tick == before.tick {
+                continue;
+            }
+            for line in &machine.kernel.lines {
+                let woken: Vec<TaskSlot> = line.iter().copied().filter(|&task| before.is_blocked(task)).collect();
+                let moments = woken.iter().map(|&task| {
+                    let wake = before.task(task).wake().expect("a woken task was due");
+                    (wake.wrapping_sub(before.tick), began[task.index()])
+                });
+                assert!(moments.is_sorted_by(|first, second| first < second), "seed {seed}, line {}", at + 1);
+                together += u64::from(woken.len() > 1);
+                against_slots += u64::from(!woken.is_sorted_by_key(|task| task.index()));
+            }
+        }
+    }
+    assert!(together >= 1_000 && against_slots >= 500, "{together}, {against_slots}");
 }
 
 /// Each queue beside a plain deque of items: what is received is what was sent, in order.

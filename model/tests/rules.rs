@@ -140,23 +140,6 @@ fn first_moves_for_size_0_too() {
 }
 
 #[test]
-fn tasks_due_together_come_in_order_of_number() {
-    let mut machine = session(
-        "1 5 -> ok 1 1
-         1 5 -> ok 2 1
-         1 5 -> ok 3 1
-         7 -> ok 0 2
-         6 2 -> wait 0 3
-         6 2 -> wait 0 1
-         6 2 -> wait 0 0
-         17 -> ok 0 0
-         17 -> ok 0 1",
-    );
-    assert_eq!(line_of(&machine.kernel, 5), [1, 2, 3]);
-    go_on(&mut machine, "17 -> ok 0 2");
-}
-
-#[test]
 fn a_wait_can_time_out_and_a_wait_for_ever_not() {
     let mut machine = session(
         "10 1 0 -> ok 0 0

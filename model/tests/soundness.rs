@@ -2,12 +2,13 @@
 
 mod common;
 
-use common::{object, session, task};
+use common::{object, order_of, session, task};
 use model::check::soundness;
 use model::kernel::{Kernel, Kind, Outcome, Queue, Role, Stand};
 
 /// Task 1 (priority 3, holds mutex 0) runs; task 2 (5) waits on it; task 3 (4) is ready;
-/// task 4 (2) is delayed; task 5 waits on the empty queue 1; task 6 is suspended.
+/// task 4 (9) is delayed; task 5 waits on the empty queue 1; task 6 is suspended; task 7 waits behind task 5.
+/// Of those that are delayed or wait, 2 began first, then 4, 5 and 7.
 fn busy() -> Kernel {
     session(
         "1 2 -> ok 1 1
@@ -24,6 +25,8 @@ fn busy() -> Kernel {
          14 1 4294967295 -> wait 0 1
          1 9 -> ok 6 6
          3 6 -> ok 0 1
+         1 9 -> ok 7 7
+         14 1 4294967295 -> wait 0 1
          17 -> ok 0 1",
     )
     .kernel
@@ -36,6 +39,10 @@ const IDLE: &str = "idle is as above";
 const ONCE: &str = "each ready task stands once in the line";
 const RANGES: &str = "counts and places obey the ranges";
 const OUTCOME: &str = "an outcome is 0 if delayed or waiting";
+const ORDER: &str = "the order has each of them";
+const ORDER_ONCE: &str = "the order has each of them once";
+const ORDER_ELSE: &str = "the order has no one else";
+const ORDER_AGREES: &str = "the order agrees with each object's list";
 const MOST: &str = "a use is at most 65,536";
 const MOST_TAKEN: &str = "in a taken slot 65,535";
 
@@ -61,9 +68,20 @@ fn the_largest_uses_are_sound() {
     assert_eq!(soundness(&kernel), Ok(()));
 }
 
+/// The lists of objects say nothing on a delayed task, nor on waiters of two objects.
+#[test]
+fn the_order_of_others_is_free() {
+    assert_eq!(order_of(&busy()), [2, 4, 5, 7]);
+    for order in [[4, 2, 5, 7], [5, 2, 4, 7], [5, 7, 2, 4], [5, 4, 7, 2]] {
+        let mut kernel = busy();
+        kernel.began = order.map(task).to_vec();
+        assert_eq!(soundness(&kernel), Ok(()), "{order:?}");
+    }
+}
+
 #[test]
 fn each_breach_is_found() {
-    let breaches: [Breach; 37] = [
+    let breaches: [Breach; 53] = [
         ("idle suspended", IDLE, |k| {
             k.leave_line(task(0));
             k.tasks[0].stand = Stand::Suspended;
@@ -98,6 +116,22 @@ fn each_breach_is_found() {
         ("waiter not listed", "each object lists its waiters", |k| k.objects[0].waiters.clear()),
         ("another listed", "and no one else", |k| k.objects[0].waiters.push(task(3))),
         ("listed by a free object", "and no one else", |k| k.object_mut(object(3)).waiters.push(task(2))),
+        ("delayed task missing in the order", ORDER, |k| k.began.retain(|&other| other != task(4))),
+        ("waiter missing in the order", ORDER, |k| k.began.retain(|&other| other != task(2))),
+        ("waiter for ever missing in the order", ORDER, |k| k.began.retain(|&other| other != task(7))),
+        ("nobody in the order", ORDER, |k| k.began.clear()),
+        ("delayed task twice in the order", ORDER_ONCE, |k| k.began.push(task(4))),
+        ("waiter twice in the order", ORDER_ONCE, |k| k.began.insert(0, task(5))),
+        ("one twice for another in the order", ORDER_ONCE, |k| k.began[3] = task(5)),
+        ("running task in the order", ORDER_ELSE, |k| k.began.push(task(1))),
+        ("ready task in the order", ORDER_ELSE, |k| k.began.insert(0, task(3))),
+        ("suspended task in the order", ORDER_ELSE, |k| k.began.push(task(6))),
+        ("free slot in the order", ORDER_ELSE, |k| k.began.push(task(9))),
+        ("idle in the order", ORDER_ELSE, |k| k.began.insert(0, task(0))),
+        ("another for a delayed task in the order", ORDER_ELSE, |k| k.began[1] = task(3)),
+        ("waiters of one object swapped in the order", ORDER_AGREES, |k| k.began.swap(2, 3)),
+        ("the same, others between them", ORDER_AGREES, |k| k.began = [7, 2, 4, 5].map(task).to_vec()),
+        ("waiters swapped in the object's list", ORDER_AGREES, |k| k.objects[1].waiters.swap(0, 1)),
         ("effective below own", "effective is at least own", |k| k.tasks[6].own = 10),
         ("loan without a mutex", "and equal to it for a task that holds nothing", |k| k.tasks[6].own = 1),
         ("holder does not exist", "holders exist", |k| k.objects[2].kind = Kind::Mutex { holder: Some(task(9)) }),

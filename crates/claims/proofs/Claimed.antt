@@ -26,8 +26,10 @@ use Rattle.promises.proofs.Reaches.{program-placed}
 use Rattle.histories.proofs.ByFullNumber.{program-pays-back-by-number}
 use Rattle.histories.proofs.UseCounts.{uses-count}
 use Rattle.histories.proofs.NeverAgain.{never-again-task, never-again-object, made-once-task, made-once-object}
+use Rattle.histories.proofs.EarlierSteps.{each-began}
+use Rattle.histories.proofs.EarlierWakes.{woken-in-order}
 use Rattle.claims.specs.Types.{Call, Read}
-use Rattle.claims.specs.Claims.{Code, Values, Refused, Ruled, Journalled, Kept, NeverAgain, Claims}
+use Rattle.claims.specs.Claims.{Code, Values, Refused, Ruled, Journalled, Kept, NeverAgain, EarlierFirst, Claims}
 use Rattle.claims.proofs.Values.{test-says, says-test, full-stands}
 use Rattle.claims.proofs.Exact.{step-exactly, accepted-so, unsound-stays}
 use Rattle.claims.proofs.Unique.{line-so}
@@ -101,5 +103,8 @@ kept =
 never-again : NeverAgain
 never-again = record { task-gone = never-again-task; object-gone = never-again-object; task-once = made-once-task; object-once = made-once-object; uses = uses-count }
 
+earlier-first : EarlierFirst
+earlier-first = record { began = each-began; woken = woken-in-order }
+
 pub claims : Claims
-claims = record { code = code; values = values; total = total; refused = refused; ruled = ruled; journalled = journalled; kept = kept; never-again = never-again }
+claims = record { code = code; values = values; total = total; refused = refused; ruled = ruled; journalled = journalled; kept = kept; never-again = never-again; earlier-first = earlier-first }

@@ -4,6 +4,7 @@ use mathlib.Core.Path.{_≡_}
 use mathlib.Core.Bool.{Bool, true, false}
 use mathlib.Core.List.{List, [], map, _++_, _∷_}
 use lib.ListN.{length, take, replicate}
+use Rattle.numbers.specs.declared.TaskSlot.{TaskSlot}
 use Rattle.calls.specs.Table.{called}
 use Rattle.journal.specs.Line.{lineOf, HasLine}
 use Rattle.journal.specs.Told.{tellsCall, refusedWith}
@@ -34,6 +35,7 @@ use Rattle.promises.specs.Turns.{Turn, cameIn}
 use Rattle.promises.specs.Reached.{programCalls}
 use Rattle.histories.specs.ByFullNumber.{Numbered, PaysBackByNumber}
 use Rattle.histories.specs.Uses.{UsesCount}
+use Rattle.histories.specs.Earlier.{EachBegan, Earlier, WokenInOrder}
 use Rattle.histories.specs.Again.{namesTask, namesObject, momentFrom, madeTask, madeObject}
 use Rattle.claims.specs.Types.{TaskNo, Call, Answer, Asked, Read, Says, Written, Count, State, Kernel, Step, Session, Served}
 use Rattle.claims.specs.Values.{SoundValue, Full, Stands}
@@ -146,6 +148,12 @@ pub record NeverAgain : Type 0 where
       → madeObject (momentFrom (reached (ms ++ (m ∷ []) ++ ns)) l) n ≡ false
   pub uses : (ms : List CallMade) → UsesCount ms
 
+-- Over any history from the fresh kernel: "Among tasks due on one tick, make ready first whoever began its delay or wait earlier", "for a tick and for release". Each delay and each wait
+-- that is not over has its moment in the history, and no two have the same; of two due on the same tick the earlier is made ready first, and stands ahead where both join one line.
+pub record EarlierFirst : Type 0 where
+  pub began : (ms : List CallMade) → EachBegan ms
+  pub woken : (ms : List CallMade) (w : ℕ) (t u : TaskSlot) → Earlier ms w t u → WokenInOrder ms w t u
+
 pub record Claims : Type 2 where
   pub code : Code
   pub values : Values
@@ -155,3 +163,4 @@ pub record Claims : Type 2 where
   pub journalled : Journalled
   pub kept : Kept
   pub never-again : NeverAgain
+  pub earlier-first : EarlierFirst

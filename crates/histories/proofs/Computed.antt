@@ -1,4 +1,4 @@
--- Loans made, kept and paid back: computed histories, in which the kernel and its history tell the same.
+-- Computed histories: loans made, kept and paid back; slots used again; and two meters due together.
 use mathlib.Core.Path.{_≡_, refl}
 use mathlib.Core.Bool.{true, false}
 use mathlib.Core.List.{[], _∷_, map}
@@ -11,7 +11,7 @@ use Rattle.items.specs.Bytes.{putAt}
 use Rattle.rules.specs.Effects.{created, deleted, suspended, resumed, yielded, delayed, queueMade, mutexMade, removed, taken, handedOn, given, effect}
 use Rattle.rules.specs.Parts.{itemAt}
 use Rattle.rules.specs.Queues.{outlet, sent, storeSent, received, storeReceived}
-use Rattle.rules.specs.Lines.{line, those, highest, leader, first, chosen, toTail, toHead, leaves}
+use Rattle.rules.specs.Lines.{line, those, begun, highest, leader, first, chosen, toTail, toHead, leaves}
 use Rattle.rules.specs.Loans.{moved, movedIf, prioritized, newPriority, lent, ownAgain}
 use Rattle.rows.specs.Applies.{outOfRange, namesNone, wrongSize, notForIdle, notWithHold, noneFree, notHis, hisAlready, notSuspended, mustWait, noDepth}
 use Rattle.rules.specs.Refusals.{heldOrWaited, inUse}
@@ -23,7 +23,6 @@ use Rattle.rules.specs.Trace.{trace, stepMade}
 use Rattle.slots.specs.Values.{taskAt}
 use Rattle.slots.specs.Kinds.{kindAt}
 use Rattle.rules.specs.Tables.{fresh, holds, freeSlot, freeObject}
-use Rattle.numbers.specs.Numbers.{byNumber}
 use Rattle.rules.specs.Ticks.{wokenIfDue, wakes, oneTick, turned, ticked, ticks, released, held}
 use Rattle.rules.specs.Waits.{arrives, waitFor}
 use Rattle.histories.specs.Moments.{tasksBelow}
@@ -31,6 +30,8 @@ use Rattle.histories.specs.Borrowed.{largest, givenAt, lastGiven, lentAt
 use Rattle.histories.specs.Tales.{unlent, shownAfter, shownBy, twoGives, setWithLoan, timeRunsOut, handedWithWaiter, lendsBorrowed, refusedChange, slotUsedAgain}
 use Rattle.histories.specs.Again.{namesTask, namesObject, madeTask, madeObject, usedAgain, atEach}
 use Rattle.histories.specs.ByFullNumber.{givenTo}
+use Rattle.histories.specs.Earlier.{beganAt}
+use Rattle.histories.specs.Meters.{metersBy, asTheSlots, againstTheSlots, longerFirst, waiterFirst, delayFirst, delaysReleased, waiterReleased}
 
 pub record TalesFit : Type 0 where
   -- a loan is made, kept over the first of two gives, and paid back at the last
@@ -51,11 +52,11 @@ pub record TalesFit : Type 0 where
 pub tales-fit : TalesFit
 unfolding trace shownAfter twoGives setWithLoan timeRunsOut handedWithWaiter lendsBorrowed refusedChange slotUsedAgain tasksBelow largest givenAt
     lastGiven lentAt countedSince due every allBelow foldl upTo index any kept asked ordered without count tidy putAt created deleted suspended
-    resumed yielded delayed queueMade mutexMade removed taken handedOn given effect itemAt outlet sent storeSent received storeReceived line those
+    resumed yielded delayed queueMade mutexMade removed taken handedOn given effect itemAt outlet sent storeSent received storeReceived line those begun
     highest leader first chosen toTail toHead leaves moved movedIf prioritized newPriority lent ownAgain outOfRange namesNone wrongSize notForIdle
     notWithHold noneFree heldOrWaited inUse notHis hisAlready notSuspended mustWait noDepth noTick table laterRow refusal noHigher runsFine tablesFine
     levelsFine listingFine clockFine usesFine sound stored answered usesAfter accepted step fresh freshUses taskAt kindAt holds freeSlot freeObject
-    wokenIfDue wakes byNumber oneTick turned ticked ticks released held arrives waitFor
+    wokenIfDue wakes oneTick turned ticked ticks released held arrives waitFor
 tales-fit = record {
   kept-over-first-give = refl;
   set-below-loan = refl;
@@ -82,11 +83,11 @@ pub record AgainFits : Type 0 where
 
 pub again-fits : AgainFits
 unfolding trace usedAgain givenTo every allBelow foldl upTo index any kept asked ordered without count tidy putAt created deleted suspended resumed
-    yielded delayed queueMade mutexMade removed taken handedOn given effect itemAt outlet sent storeSent received storeReceived line those highest
+    yielded delayed queueMade mutexMade removed taken handedOn given effect itemAt outlet sent storeSent received storeReceived line those begun highest
     leader first chosen toTail toHead leaves moved movedIf prioritized newPriority lent ownAgain outOfRange namesNone wrongSize notForIdle notWithHold
     noneFree heldOrWaited inUse notHis hisAlready notSuspended mustWait noDepth noTick table laterRow refusal noHigher runsFine tablesFine levelsFine
     listingFine clockFine usesFine sound stored answered usesAfter accepted step fresh freshUses taskAt kindAt holds freeSlot freeObject wokenIfDue
-    wakes byNumber oneTick turned ticked ticks released held arrives waitFor
+    wakes oneTick turned ticked ticks released held arrives waitFor
 again-fits = record {
   first-made = refl;
   first-named = refl;
@@ -98,4 +99,32 @@ again-fits = record {
   second-mutex-named = refl;
   first-given = refl;
   second-given = refl;
+}
+
+-- of two meters due on one tick the one that began earlier runs first
+pub record MetersFit : Type 0 where
+  pub as-the-slots : metersBy asTheSlots ≡ asTheSlots .expected
+  pub against-the-slots : metersBy againstTheSlots ≡ againstTheSlots .expected
+  pub longer-first : metersBy longerFirst ≡ longerFirst .expected
+  pub waiter-first : metersBy waiterFirst ≡ waiterFirst .expected
+  pub delay-first : metersBy delayFirst ≡ delayFirst .expected
+  pub delays-released : metersBy delaysReleased ≡ delaysReleased .expected
+  pub waiter-released : metersBy waiterReleased ≡ waiterReleased .expected
+
+pub meters-fit : MetersFit
+unfolding trace asTheSlots againstTheSlots longerFirst waiterFirst delayFirst delaysReleased waiterReleased beganAt every allBelow foldl upTo index any
+    kept asked ordered without count tidy putAt created deleted suspended resumed yielded delayed queueMade mutexMade removed taken handedOn given
+    effect itemAt outlet sent storeSent received storeReceived line those begun highest leader first chosen toTail toHead leaves moved movedIf
+    prioritized newPriority lent ownAgain outOfRange namesNone wrongSize notForIdle notWithHold noneFree heldOrWaited inUse notHis hisAlready
+    notSuspended mustWait noDepth noTick table laterRow refusal noHigher runsFine tablesFine levelsFine listingFine clockFine usesFine sound stored
+    answered usesAfter accepted step fresh freshUses taskAt kindAt holds freeSlot freeObject wokenIfDue wakes oneTick turned ticked ticks released
+    held arrives waitFor
+meters-fit = record {
+  as-the-slots = refl;
+  against-the-slots = refl;
+  longer-first = refl;
+  waiter-first = refl;
+  delay-first = refl;
+  delays-released = refl;
+  waiter-released = refl;
 }

@@ -10,4 +10,6 @@ pub mod PaidBack
 pub mod Lives
 pub mod NeverAgain
 pub mod UseCounts
+pub mod EarlierSteps
+pub mod EarlierWakes
 pub mod ByFullNumber

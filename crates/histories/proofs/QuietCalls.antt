@@ -8,13 +8,12 @@ use lib.Dec.{eqb, ltb}
 use borrow.Author.Tests.{ne-eqb}
 use Rattle.lists.specs.Choice.{if_then_else_}
 use Rattle.lists.specs.Lists.{foldl, upTo}
-use Rattle.numbers.specs.Numbers.{byNumber}
 use Rattle.order.specs.Order.{listed}
 use Rattle.slots.specs.Places.{isFree, isBlocked, isListed, waitsOn, wakesAt, outcomeDue}
 use Rattle.slots.specs.Values.{brokenOff, taskAt}
 use Rattle.slots.specs.Kinds.{kindAt}
 use Rattle.rules.specs.Tables.{withTask, withTick, withHold}
-use Rattle.rules.specs.Lines.{level, first, toTail, leaves}
+use Rattle.rules.specs.Lines.{begun, level, first, toTail, leaves}
 use Rattle.rules.specs.Sound.{noHigher}
 use Rattle.rules.specs.Sentences.{Holds, Sound}
 use Rattle.rules.specs.Waits.{later, wakeOf, arrives, waitFor}
@@ -69,7 +68,7 @@ module _ (t : TaskSlot) (os : List Object) where
 
   tick-quiet : (j : State) → Quiet t os (j .tasks) (oneTick j .tasks)
   unfolding oneTick wakes
-  tick-quiet j = wakes-quiet (byNumber 16) (withTick j (later (j .tick) 1))
+  tick-quiet j = wakes-quiet (begun (j .tasks) (listed (j .order))) (withTick j (later (j .tick) 1))
 
   pub ticked-quiet : (j : State) → Quiet t os (j .tasks) (ticked j .tasks)
   unfolding ticked turned toTail

@@ -5,3 +5,5 @@ pub mod Tales
 pub mod Again
 pub mod ByFullNumber
 pub mod Uses
+pub mod Earlier
+pub mod Meters

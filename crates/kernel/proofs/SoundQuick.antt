@@ -23,7 +23,7 @@ use Rattle.slots.specs.Who.{AllReady}
 use Rattle.slots.specs.Places.{isReady}
 use Rattle.slots.specs.Values.{freeTask, taskAt, inLine}
 use Rattle.slots.specs.Kinds.{kindAt, marksOf}
-use Rattle.slots.specs.SoundSlots.{idleFine, standsFine, ordersFine, mayWait, mayWaitOn, waitsFine, prioritiesFine, holderSlot, freeHolds, notDue, ringInRange, outcomeFine, freshIfFree}
+use Rattle.slots.specs.SoundSlots.{idleFine, standsFine, remembersFine, ordersFine, mayWait, mayWaitOn, waitsFine, prioritiesFine, holderSlot, freeHolds, notDue, ringInRange, outcomeFine, freshIfFree}
 use Rattle.slots.proofs.Marks.{marks-hold}
 use Rattle.slots.proofs.Holders.{holders-exist}
 use Rattle.tasks.specs.declared.Tasks.{Tasks}
@@ -64,6 +64,7 @@ off-left a b e = ap (λ (c : Bool). c && b) e
 -- the tests of one row by their names
 record AloneTested (n : ℕ) (held : Bool) (x : Task) : Type 0 where
   stands : standsFine n (x .place) ≡ true
+  remembers : remembersFine n (x .place) ≡ true
   orders : ordersFine n (x .place) ≡ true
   levels : prioritiesFine held x ≡ true
   outcome : outcomeFine x ≡ true
@@ -73,25 +74,28 @@ record AloneTested (n : ℕ) (held : Bool) (x : Task) : Type 0 where
 alone-tested : (n : ℕ) (held : Bool) (x : Task) → aloneFine n held x ≡ true → AloneTested n held x
 alone-tested n held x e =
     let a = and-right (standsFine n (x .place)) _ e in
-    let b = and-right (ordersFine n (x .place)) _ a in
-    let c = and-right (prioritiesFine held x) _ b in
-    let d = and-right (outcomeFine x) _ c in
+    let b = and-right (remembersFine n (x .place)) _ a in
+    let c = and-right (ordersFine n (x .place)) _ b in
+    let d = and-right (prioritiesFine held x) _ c in
+    let f = and-right (outcomeFine x) _ d in
     record {
       stands = and-left (standsFine n (x .place)) _ e;
-      orders = and-left (ordersFine n (x .place)) _ a;
-      levels = and-left (prioritiesFine held x) _ b;
-      outcome = and-left (outcomeFine x) _ c;
-      fresh = and-left (freshIfFree x) _ d;
-      free = and-right (freshIfFree x) _ d;
+      remembers = and-left (remembersFine n (x .place)) _ a;
+      orders = and-left (ordersFine n (x .place)) _ b;
+      levels = and-left (prioritiesFine held x) _ c;
+      outcome = and-left (outcomeFine x) _ d;
+      fresh = and-left (freshIfFree x) _ f;
+      free = and-right (freshIfFree x) _ f;
     }
 
 tested-alone : (n : ℕ) (held : Bool) (x : Task) → AloneTested n held x → aloneFine n held x ≡ true
 tested-alone n held x T =
     and-intro (standsFine n (x .place)) _ (T .stands)
+    (and-intro (remembersFine n (x .place)) _ (T .remembers)
     (and-intro (ordersFine n (x .place)) _ (T .orders)
     (and-intro (prioritiesFine held x) _ (T .levels)
     (and-intro (outcomeFine x) _ (T .outcome)
-    (and-intro (freshIfFree x) (freeHolds held (x .place)) (T .fresh) (T .free)))))
+    (and-intro (freshIfFree x) (freeHolds held (x .place)) (T .fresh) (T .free))))))
 
 -- ── rows of the columns, and of the list that they read as
 module _ (ts : Tasks) (many : length (rowsOf ts) ≡ 16) where
@@ -279,6 +283,7 @@ module _ (k : Core) (stands : List ℕ) (hs : Holdings) (fine : Bool) (F : Fine 
           listing = tested-listing _ _ record {
             places = rw places;
             stands = below-all 16 _ once;
+            remembered = below-all 16 _ (λ n l. rw (← stands-at n l) (alone n l .remembers));
             tidied = and-left (tidy (k .order)) pends orders;
             none-else = below-all 16 _ (λ n l. rw (← stands-at n l) (alone n l .orders));
           };
@@ -335,6 +340,7 @@ module _ (k : Core) (stands : List ℕ) (hs : Holdings) (fine : Bool) (F : Fine 
             (rw (← row n l)
             (tested-alone (getD stands n 0) (getD (hs .held) n false) (slotTask (s .tasks) n) record {
               stands = rw (stands-at n l) (all-below 16 _ (L .stands) n l);
+              remembers = rw (stands-at n l) (all-below 16 _ (L .remembered) n l);
               orders = rw (stands-at n l) (all-below 16 _ (L .none-else) n l);
               levels = rw (holding-at n l) (all-below 16 _ (E .levels) n l);
               outcome = all-below 16 _ (T .outcomes) n l;

@@ -1,14 +1,15 @@
 // The tick's count and wakes, and the turn of the line.
 ghost use Prim.Native.Nat.{_≤_};
-ghost use Rattle.numbers.specs.Numbers.{byNumber};
+ghost use Rattle.order.specs.Order.{listed};
+ghost use Rattle.rules.specs.Lines.{begun};
 ghost use Rattle.rules.specs.Ticks.{wakes, untilDue, oneTick, turned, ticks};
 ghost use Rattle.kernel.specs.Does.{Reads, Does};
 use crate::Core;
 
 impl Core {
-    // The due are made ready, in order of task number.
+    // The due are made ready, first whoever began its delay or wait earlier.
     fn wakes(self) -> Core
-        ensures { λ r. ⌜ Does self (λ s. wakes s (byNumber 16)) r ⌝ }
+        ensures { λ r. ⌜ Does self (λ s. wakes s (begun (s .tasks) (listed (s .order)))) r ⌝ }
     {
         let woken = self.tasks.wakes(self.order, self.tick);
         let tasks = woken.tasks;

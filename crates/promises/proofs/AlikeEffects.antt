@@ -11,7 +11,7 @@ use Rattle.lists.specs.Choice.{if_then_else_}
 use Rattle.lists.specs.Lists.{foldl, upTo, larger}
 use Rattle.numbers.specs.declared.TaskSlot.{TaskSlot}
 use Rattle.numbers.specs.declared.ObjSlot.{ObjSlot}
-use Rattle.numbers.specs.Numbers.{task, object, sameTask, byNumber}
+use Rattle.numbers.specs.Numbers.{task, object, sameTask}
 use Rattle.order.specs.declared.Order.{Order}
 use Rattle.order.specs.Order.{listed}
 use Rattle.slots.specs.declared.Place.{Place}
@@ -27,7 +27,7 @@ use Rattle.slots.specs.Values.{freeTask, spentTask, readyAt, placed, ranked, br
 use Rattle.rules.specs.State.{State}
 use Rattle.slots.specs.Kinds.{kindAt}
 use Rattle.rules.specs.Tables.{holds, freeSlot, freeObject, withTask, withObject, withOrder, withHold}
-use Rattle.rules.specs.Lines.{level, first, toTail, toHead, leaves}
+use Rattle.rules.specs.Lines.{begun, level, first, toTail, toHead, leaves}
 use Rattle.rules.specs.Sound.{noHigher}
 use Rattle.rules.specs.Waits.{later, wakeOf, arrives, waitFor}
 use Rattle.rules.specs.Loans.{moved, movedIf, prioritized, newPriority, lent, ownAgain}
@@ -197,7 +197,8 @@ each-too {k} {j} f g (suc n) w = g (upTo f n k) (upTo f n j) n (each-too f g n w
 
 one-tick-too : {k j : State} → Twins k j → Twins (oneTick k) (oneTick j)
 unfolding oneTick wakes
-one-tick-too {k} w = twice (λ z. oneTick z) w (λ o v. wakes-too (byNumber 16) (beside k o v (k .objects) (later (k .tick) 1) (k .hold) (k .pended)))
+one-tick-too {k} w = twice (λ z. oneTick z) w
+    (λ o v. rw (← v .alike .begun) (wakes-too (begun (k .tasks) (listed (k .order))) (beside k o v (k .objects) (later (k .tick) 1) (k .hold) (k .pended))))
 
 turned-too : {k j : State} → Twins k j → Twins (turned k) (turned j)
 unfolding turned

@@ -8,12 +8,13 @@ use lib.Dec.{eqb, ltb}
 use borrow.Author.Tests.{ltb-true, ltb-false, ne-eqb}
 use Rattle.lists.specs.Choice.{if_then_else_}
 use Rattle.lists.specs.Lists.{kept, head, isNone}
+use Rattle.lists.proofs.Tests.{kept-kept}
 use Rattle.numbers.specs.declared.TaskSlot.{TaskSlot}
 use Rattle.slots.specs.declared.Task.{Task}
 use Rattle.slots.specs.Who.{AllReady}
 use Rattle.rules.specs.Lines.{line, those, level, highest, leader}
 use Rattle.rules.specs.Sound.{noHigher}
-use Rattle.rules.proofs.LineLeads.{kept-kept, leader-none, no-higher-by}
+use Rattle.rules.proofs.LineLeads.{leader-none, no-higher-by}
 
 module _ (ts : List Task) where
   none-level : (l : List TaskSlot) → isNone l ≡ true → highest ts l ≤ 0

@@ -1,4 +1,4 @@
--- What the order tells beyond the lines and the lists is never used: every call gives alike kernels the same answer, the same store and alike kernels.
+-- What the one order tells beyond the lines, the lists and the order of those who began is never used: every call gives alike kernels the same answer, the same store and alike kernels.
 use Prim.Native.Nat.{ℕ}
 use mathlib.Core.Path.{_≡_, refl, sym, ap, subst, _∙_}
 use mathlib.Core.Bool.{Bool, true, false}
@@ -69,7 +69,7 @@ chosen-too k j w = shared (λ z. Alike (chosen k) (chosen z)) k j w (λ o v. rw 
   where
     go : (o : Order) → Alike k (withOrder k o) → (b : Bool) (f : List TaskSlot) → Alike (if b then runsIf k f else k) (if b then runsIf (withOrder k o) f else withOrder k o)
     go o a true [] = a
-    go o a true (t ∷ f) = two-orders (withRunning k t) o (a .lines) (a .lists)
+    go o a true (t ∷ f) = two-orders (withRunning k t) o (a .lines) (a .lists) (a .begun)
     go o a false f = a
 
 uses-too : {k j : State} {us vs : Uses} → Alike k j → us ≡ vs → Alike (withUses k us) (withUses j vs)
@@ -84,6 +84,7 @@ uses-too a e =
       uses = e;
       lines = a .lines;
       lists = a .lists;
+      begun = a .begun;
     }
 
 sent-store-too : (k : State) (m : Order) → Alike k (withOrder k m) → (o : ObjSlot) (x : Kind) (item s : List ℕ) → storeSentTo k o x item s ≡ storeSentTo (withOrder k m) o x item s
@@ -145,6 +146,6 @@ alike-step k j c item s e a =
         accepted-too k j c item s (free .1) (twins k j (free .0) (sym e ∙ free .0) a)
     go n r false h = record { answer = refl; store = refl; kernel = a }
 
--- the same of kernels whose orders list whom they should, sound or not
+-- the same of kernels, sound or not, in whose orders no one stands who should not
 pub alike-step-ordered : (k j : State) (c : Call) (item s : List ℕ) → Ordered k → Ordered j → Alike k j → AlikeSteps (step k c item s) (step j c item s)
 alike-step-ordered k j c item s p q a = alike-step k j c item s (alike-sound k j a p q) a

@@ -13,17 +13,17 @@ use Rattle.numbers.specs.declared.ObjSlot.{ObjSlot}
 use Rattle.order.specs.declared.Order.{Order}
 use Rattle.order.specs.Order.{listed, ordered, without}
 use Rattle.order.proofs.Passing.{one-number}
+use Rattle.order.proofs.Fits.{HasRoom, fits-listed, fits-tail, fits-head, fits-leaves}
 use Rattle.slots.specs.declared.Task.{Task}
 use Rattle.slots.specs.declared.Object.{Object}
 use Rattle.slots.specs.Who.{WaitersOf}
-use Rattle.slots.specs.Places.{waitsOn}
+use Rattle.slots.specs.Places.{isBlocked, waitsOn}
 use Rattle.slots.specs.Values.{freeTask, inLine, taskAt}
 use Rattle.rules.specs.State.{State}
 use Rattle.rules.specs.Tables.{withOrder}
-use Rattle.rules.specs.Lines.{line, those}
+use Rattle.rules.specs.Lines.{line, those, begun}
 use Rattle.rules.proofs.LineMoves.{passing, passing-tail, passing-head, passing-leaves}
 use Rattle.promises.specs.Alike.{Alike}
-use Rattle.promises.proofs.AlikeRoom.{HasRoom, fits-listed, fits-tail, fits-head, fits-leaves}
 
 -- alike; the task slots, the running task and both orders obey the ranges
 pub record Twins (k j : State) : Type 0 where
@@ -38,8 +38,10 @@ pub one-kernel : {k j : State} → Alike k j → withOrder k (j .order) ≡ j
 one-kernel {k} {j} a = λ i. record { tasks = a .tasks i; objects = a .objects i; order = j .order; running = a .running i; tick = a .tick i; hold = a .hold i; pended = a .pended i; uses = a .uses i }
 
 pub two-orders : (k : State) (o : Order) → ((p : ℕ) → line (k .tasks) p (listed (k .order)) ≡ line (k .tasks) p (listed o))
-    → ((b : ObjSlot) → those (k .tasks) (WaitersOf b) (listed (k .order)) ≡ those (k .tasks) (WaitersOf b) (listed o)) → Alike k (withOrder k o)
-two-orders k o lines lists = record { tasks = refl; objects = refl; running = refl; tick = refl; hold = refl; pended = refl; uses = refl; lines = lines; lists = lists }
+    → ((b : ObjSlot) → those (k .tasks) (WaitersOf b) (listed (k .order)) ≡ those (k .tasks) (WaitersOf b) (listed o))
+    → begun (k .tasks) (listed (k .order)) ≡ begun (k .tasks) (listed o) → Alike k (withOrder k o)
+two-orders k o lines lists began =
+    record { tasks = refl; objects = refl; running = refl; tick = refl; hold = refl; pended = refl; uses = refl; lines = lines; lists = lists; begun = began }
 
 -- to show a thing of the other, show it of the one with the other's order
 pub shared : (P : State → Type 0) (k j : State) → Twins k j → ((o : Order) → Twins k (withOrder k o) → P (withOrder k o)) → P j
@@ -115,15 +117,20 @@ module _ (k : State) (o : Order) (w : Twins k (withOrder k o)) where
   unfolding those
   same-list b = w .alike .lists b
 
+  same-begun : passing (λ x. isBlocked (x .place)) (k .tasks) l ≡ passing (λ x. isBlocked (x .place)) (k .tasks) m
+  unfolding begun
+  same-begun = w .alike .begun
+
   -- a move of t, and a change of the tasks that concerns t alone
   pub moving : {t : TaskSlot} {move : List TaskSlot → List TaskSlot} → Moving t move → (us : List Task) → length us ≤ 16 → Others t (k .tasks) us
       → Twins (remade k us (ordered (move l))) (remade k us (ordered (move m)))
-  unfolding line those
+  unfolding line those begun
   moving {t} {move} v us h others =
       record {
         alike = two-orders (remade k us (ordered (move l))) (ordered (move m))
             (λ p. rw (at-l, at-m) (v .told (inLine p) (k .tasks) us others l m (same-line p)))
-            (λ b. rw (at-l, at-m) (v .told (λ x. waitsOn b (x .place)) (k .tasks) us others l m (same-list b)));
+            (λ b. rw (at-l, at-m) (v .told (λ x. waitsOn b (x .place)) (k .tasks) us others l m (same-list b)))
+            (rw (at-l, at-m) (v .told (λ x. isBlocked (x .place)) (k .tasks) us others l m same-begun));
         slots = h;
         runs = w .runs;
         here = rw at-l fits-l;
@@ -147,15 +154,16 @@ module _ (k : State) (o : Order) (w : Twins k (withOrder k o)) where
       → Twins (remade k (set (k .tasks) (t .0) x) (ordered (move l))) (remade k (set (k .tasks) (t .0) x) (ordered (move m)))
   changed {t} v x = moving v (set (k .tasks) (t .0) x) (simp length-set (w .slots)) (set-others (k .tasks) t x)
 
-  -- a change of the task t that no line and no list sees
+  -- a change of the task t that no line and no list sees, and that is neither the beginning nor the end of a delay or wait
   pub unseen : (t : TaskSlot) (x : Task) → ((p : ℕ) → inLine p x ≡ inLine p (taskAt (k .tasks) t)) → x .place ≡ taskAt (k .tasks) t .place
       → Twins (remade k (set (k .tasks) (t .0) x) (k .order)) (remade k (set (k .tasks) (t .0) x) o)
-  unfolding line those
+  unfolding line those begun
   unseen t x in-line place =
       record {
         alike = two-orders (remade k (set (k .tasks) (t .0) x) (k .order)) o
             (λ p. still (inLine p) (in-line p) l ∙ same-line p ∙ sym (still (inLine p) (in-line p) m))
-            (λ b. still (λ y. waitsOn b (y .place)) (rw place) l ∙ same-list b ∙ sym (still (λ y. waitsOn b (y .place)) (rw place) m));
+            (λ b. still (λ y. waitsOn b (y .place)) (rw place) l ∙ same-list b ∙ sym (still (λ y. waitsOn b (y .place)) (rw place) m))
+            (still (λ y. isBlocked (y .place)) (rw place) l ∙ same-begun ∙ sym (still (λ y. isBlocked (y .place)) (rw place) m));
         slots = simp length-set (w .slots);
         runs = w .runs;
         here = w .here;
@@ -169,7 +177,7 @@ module _ (k : State) (o : Order) (w : Twins k (withOrder k o)) where
   pub beside : (os : List Object) (tick hold pended : ℕ) → Twins (withCounts k os (k .order) tick hold pended) (withCounts k os o tick hold pended)
   beside os tick hold pended =
       record {
-        alike = two-orders (withCounts k os (k .order) tick hold pended) o (w .alike .lines) (w .alike .lists);
+        alike = two-orders (withCounts k os (k .order) tick hold pended) o (w .alike .lines) (w .alike .lists) (w .alike .begun);
         slots = w .slots;
         runs = w .runs;
         here = w .here;

@@ -1,29 +1,32 @@
--- The idle programs, the easy mistakes, the mistakes of numbers and of the highest line are caught: one claim over the whole list, computed; so none of them is the step.
+-- The idle programs, the easy mistakes, the mistakes of numbers, of the highest line and of the order of wakes are caught: one claim over the whole list, computed; so none of them is the step.
 use Prim.Native.Nat.{ℕ, zero, suc}
 use mathlib.Core.Path.{_≡_, refl, ap, sym, _∙_}
-use mathlib.Core.Bool.{true, not, false≢true}
+use mathlib.Core.Bool.{Bool, true, false, not, false≢true}
 use mathlib.Core.List.{List, [], _∷_, map, List·Memᴰ, List·Memᴰ·head, List·Memᴰ·tail, List·Memᴰ·cases-cons, List·Memᴰ·not-nil}
 use mathlib.Core.Logic.{⊎-elim}
 use lib.Count.{leadingZeros, trailingZeros}
+use borrow.Author.Tests.{eqb-true}
 use Rattle.heights.specs.Heights.{lit, top, height, occupied}
-use Rattle.lists.specs.Lists.{every, allBelow, foldl, upTo, index, any, kept}
+use Rattle.lists.specs.Choice.{if_then_else_}
+use Rattle.lists.specs.Lists.{every, allBelow, foldl, upTo, values, index, any, kept}
 use Rattle.calls.specs.Door.{freshUses, usesFine}
 use Rattle.calls.specs.Behind.{asked}
 use Rattle.order.specs.Order.{ordered, without}
 use Rattle.order.specs.Tidy.{count, tidy}
 use Rattle.items.specs.Bytes.{putAt}
-use Rattle.promises.specs.Types.{Call, State}
+use Rattle.promises.specs.Types.{Asked, Call, State}
 use Rattle.promises.specs.Cases.{View}
-use Rattle.promises.specs.Wrong.{Stepping, raised, stepOf, stepBy, Numbers, turnsAllAway, alwaysDone, changesNothing, madeUp, Wrong, showsBy, ofWord, sameNumber, sameList, sameView}
-use Rattle.promises.specs.Wrong.{Verdict, found, verdict, idlePrograms, easyMistakes, numberMistakes, chosenBy, lineMistakes, wrongs}
+use Rattle.promises.specs.Wrong.{Stepping, raised, stepOf, stepBy, Numbers, turnsAllAway, alwaysDone, changesNothing, asBegun, tickedBy, releasedBy, madeUp, Wrong, showsBy, ofWord}
+use Rattle.promises.specs.Wrong.{sameNumber, sameList, sameView, Verdict, found, verdict, idlePrograms, easyMistakes, numberMistakes, chosenBy, lineMistakes, wakesAlong, wakeMistakes, wrongs}
 use Rattle.rules.specs.Effects.{created, deleted, suspended, resumed, yielded, delayed, queueMade, mutexMade, removed, taken, handedOn, given, effect}
 use Rattle.rules.specs.Parts.{itemAt}
 use Rattle.rules.specs.Queues.{outlet, sent, storeSent, received, storeReceived}
-use Rattle.rules.specs.Lines.{line, those, highest, leader, first, chosen, toTail, toHead, leaves}
+use Rattle.rules.specs.Lines.{line, those, begun, highest, leader, first, chosen, toTail, toHead, leaves}
 use Rattle.rules.specs.Occupied.{linesOf}
 use Rattle.rules.proofs.LineHeights.{height-highest}
 use Rattle.rules.proofs.LineLeads.{first-heads-highest}
 use Rattle.rules.specs.Loans.{moved, movedIf, prioritized, newPriority, lent, ownAgain}
+use Rattle.rows.specs.Asking.{is}
 use Rattle.rows.specs.Applies.{outOfRange, namesNone, wrongSize, notForIdle, notWithHold, noneFree, notHis, hisAlready, notSuspended, mustWait, noDepth}
 use Rattle.rules.specs.Refusals.{heldOrWaited, inUse}
 use Rattle.rows.specs.Applies.{noTick, table}
@@ -34,7 +37,6 @@ use Rattle.rules.specs.Trace.{trace}
 use Rattle.slots.specs.Values.{taskAt}
 use Rattle.slots.specs.Kinds.{kindAt}
 use Rattle.rules.specs.Tables.{fresh, holds, freeSlot, freeObject}
-use Rattle.numbers.specs.Numbers.{byNumber}
 use Rattle.rules.specs.Ticks.{wokenIfDue, wakes, oneTick, turned, ticked, ticks, released, held}
 use Rattle.rules.specs.Waits.{arrives, waitFor}
 
@@ -48,14 +50,25 @@ pub chosen-by-height : (k : State) → chosenBy (λ j. height (linesOf j)) k ≡
 unfolding chosen
 chosen-by-height k = rw (height-highest k, first-heads-highest k)
 
+-- along the list of those who began, at a tick and at a release, it is the effect
+pub wakes-as-begun : (k : State) (a : Asked) → wakesAlong asBegun k a ≡ effect k a
+unfolding effect oneTick ticked ticks released
+wakes-as-begun k a = go (is 17 a) refl (is 9 a) refl
+  where
+    go : (b : Bool) → is 17 a ≡ b → (c : Bool) → is 9 a ≡ c
+        → (if b then tickedBy (λ j. wakes j (asBegun j)) k else if c then releasedBy (λ j. wakes j (asBegun j)) k else effect k a) ≡ effect k a
+    go true e c f = rw (eqb-true (a .number) 17 e)
+    go false e true f = rw (eqb-true (a .number) 9 f)
+    go false e false f = refl
+
 pub caught : (number : Numbers) (n : ℕ) → map found (wrongs number n) ≡ map verdict (wrongs number n)
-unfolding wrongs idlePrograms easyMistakes numberMistakes lineMistakes linesOf occupied lit top leadingZeros trailingZeros stepOf turnsAllAway
-    alwaysDone changesNothing trace showsBy sameNumber sameList sameView every allBelow foldl upTo index any kept asked ordered without count tidy
+unfolding wrongs idlePrograms easyMistakes numberMistakes lineMistakes wakeMistakes linesOf occupied lit top leadingZeros trailingZeros stepOf turnsAllAway
+    alwaysDone changesNothing trace showsBy sameNumber sameList sameView every allBelow foldl upTo values index any kept asked ordered without count tidy
     putAt created deleted suspended resumed yielded delayed queueMade mutexMade removed taken handedOn given effect itemAt outlet sent storeSent
-    received storeReceived line those highest leader first chosen toTail toHead leaves moved movedIf prioritized newPriority lent ownAgain outOfRange
+    received storeReceived line those begun highest leader first chosen toTail toHead leaves moved movedIf prioritized newPriority lent ownAgain outOfRange
     namesNone wrongSize notForIdle notWithHold noneFree heldOrWaited inUse notHis hisAlready notSuspended mustWait noDepth noTick table laterRow
     refusal noHigher runsFine tablesFine levelsFine listingFine clockFine usesFine sound stored answered usesAfter accepted step fresh freshUses
-    taskAt kindAt holds freeSlot freeObject wokenIfDue wakes byNumber oneTick turned ticked ticks released held arrives waitFor
+    taskAt kindAt holds freeSlot freeObject wokenIfDue wakes oneTick turned ticked ticks released held arrives waitFor
 caught number n = refl
 
 same-number : (n : ℕ) → sameNumber n n ≡ true

@@ -16,11 +16,10 @@ use Rattle.slots.specs.Places.{isListed, wakesAt, outcomeDue}
 use Rattle.slots.specs.Values.{brokenOff, taskAt}
 use Rattle.slots.specs.Kinds.{kindAt}
 use Rattle.rules.specs.Tables.{fresh, holds, withTask, withTick, withHold}
-use Rattle.rules.specs.Lines.{level, first, runsIf, chosen, toTail, leaves}
+use Rattle.rules.specs.Lines.{begun, level, first, runsIf, chosen, toTail, leaves}
 use Rattle.rules.specs.Sound.{noHigher}
 use Rattle.rules.specs.Waits.{later, arrives, waitFor}
 use Rattle.rules.specs.Loans.{prioritized, newPriority, lent, ownAgain}
-use Rattle.numbers.specs.Numbers.{byNumber}
 use Rattle.rules.specs.Ticks.{wokenIfDue, wakes, oneTick, turned, ticked, ticks, released, held}
 use Rattle.rules.specs.Rings.{oneLess}
 use Rattle.rules.specs.Queues.{sentBy, sent, sentTo, refilledBy, received, receivedFrom}
@@ -51,7 +50,7 @@ wakes-hold (t ∷ l) k = wakes-hold l (wokenIfDue k t) ∙ woken-hold k t
 
 tick-hold : (k : State) → oneTick k .hold ≡ k .hold
 unfolding oneTick wakes
-tick-hold k = wakes-hold (byNumber 16) (withTick k (later (k .tick) 1))
+tick-hold k = wakes-hold (begun (k .tasks) (listed (k .order))) (withTick k (later (k .tick) 1))
 
 ticks-hold : (n : ℕ) (k : State) → upTo (λ x i. oneTick x) n k .hold ≡ k .hold
 unfolding upTo

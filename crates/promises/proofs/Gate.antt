@@ -10,7 +10,7 @@ use Rattle.items.specs.Bytes.{putAt}
 use Rattle.rules.specs.Effects.{created, deleted, suspended, resumed, yielded, delayed, queueMade, mutexMade, removed, taken, handedOn, given, effect}
 use Rattle.rules.specs.Parts.{itemAt}
 use Rattle.rules.specs.Queues.{outlet, sent, storeSent, received, storeReceived}
-use Rattle.rules.specs.Lines.{line, those, highest, leader, first, chosen, toTail, toHead, leaves}
+use Rattle.rules.specs.Lines.{line, those, begun, highest, leader, first, chosen, toTail, toHead, leaves}
 use Rattle.rules.specs.Loans.{moved, movedIf, prioritized, newPriority, lent, ownAgain}
 use Rattle.rows.specs.Applies.{outOfRange, namesNone, wrongSize, notForIdle, notWithHold, noneFree, notHis, hisAlready, notSuspended, mustWait, noDepth}
 use Rattle.rules.specs.Refusals.{heldOrWaited, inUse}
@@ -22,7 +22,6 @@ use Rattle.rules.specs.Trace.{trace}
 use Rattle.slots.specs.Values.{taskAt}
 use Rattle.slots.specs.Kinds.{kindAt}
 use Rattle.rules.specs.Tables.{fresh, holds, freeSlot, freeObject}
-use Rattle.numbers.specs.Numbers.{byNumber}
 use Rattle.rules.specs.Ticks.{wokenIfDue, wakes, oneTick, turned, ticked, ticks, released, held}
 use Rattle.rules.specs.Waits.{arrives, waitFor}
 use Rattle.promises.specs.Cases.{Case, ran, p1, p2, p3, p4, p5, p6, p7, p8, p9, p10, p11, p12, cases}
@@ -30,8 +29,8 @@ use Rattle.promises.specs.Cases.{Case, ran, p1, p2, p3, p4, p5, p6, p7, 
 pub both-sides-of-the-gate : map ran cases ≡ map (λ (c : Case). c .expected) cases
 unfolding cases p1 p2 p3 p4 p5 p6 p7 p8 p9 p10 p11 p12 trace every allBelow foldl upTo index any kept asked ordered without count tidy putAt created
     deleted suspended resumed yielded delayed queueMade mutexMade removed taken handedOn given effect itemAt outlet sent storeSent received
-    storeReceived line those highest leader first chosen toTail toHead leaves moved movedIf prioritized newPriority lent ownAgain outOfRange namesNone
+    storeReceived line those begun highest leader first chosen toTail toHead leaves moved movedIf prioritized newPriority lent ownAgain outOfRange namesNone
     wrongSize notForIdle notWithHold noneFree heldOrWaited inUse notHis hisAlready notSuspended mustWait noDepth noTick table laterRow refusal
     noHigher runsFine tablesFine levelsFine listingFine clockFine usesFine sound stored answered usesAfter accepted step fresh freshUses taskAt kindAt
-    holds freeSlot freeObject wokenIfDue wakes byNumber oneTick turned ticked ticks released held arrives waitFor
+    holds freeSlot freeObject wokenIfDue wakes oneTick turned ticked ticks released held arrives waitFor
 both-sides-of-the-gate = refl

@@ -19,6 +19,7 @@ use Rattle.rules.specs.Tables.{fresh}
 use Rattle.rules.specs.Lines.{level}
 use Rattle.rules.specs.Sound.{sound}
 use Rattle.rules.specs.Sentences.{Sound}
+use Rattle.rules.proofs.SoundLists.{once-of}
 use Rattle.rules.proofs.SoundSays.{sound-says}
 use Rattle.rules.specs.Trace.{CallMade, stepMade}
 use Rattle.rules.proofs.Traces.{trace-keeps}
@@ -49,9 +50,10 @@ pub sound-placed : (k : State) → Sound k → Placed k
 sound-placed k S =
     record {
       one-state = λ t e. one-of-four (taskAt (k .tasks) t .place) e;
-      order = S .listing .once;
+      order = once-of (k .tasks) (k .order) (S .listing);
       lines = S .listing .lines;
       lists = S .listing .lists;
+      remembered = S .listing .remembered;
       not-outranked = λ h t e. go h t e (ltb (level (k .tasks) (k .running)) (level (k .tasks) t)) refl;
     }
   where

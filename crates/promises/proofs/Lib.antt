@@ -1,7 +1,6 @@
 pub mod Gate
 pub mod Caught
 pub mod AlikeFirsts
-pub mod AlikeRoom
 pub mod AlikeTwins
 pub mod AlikeEffects
 pub mod AlikeSound

@@ -1,4 +1,4 @@
--- Alike kernels: two values that differ at most in what the order tells beyond the lines and the lists.
+-- Alike kernels: two values that differ at most in what the one order tells beyond the lines, the lists and the order of the delayed and the waiting together.
 use Prim.Native.Nat.{ℕ}
 use mathlib.Core.Path.{_≡_}
 use mathlib.Core.List.{List, [], _∷_}
@@ -8,12 +8,13 @@ use Rattle.numbers.specs.declared.ObjSlot.{ObjSlot}
 use Rattle.numbers.specs.Numbers.{task, idle}
 use Rattle.calls.specs.Door.{freshUses}
 use Rattle.order.specs.Order.{listed, ordered}
+use Rattle.slots.specs.declared.Place.the-variants.{Delayed}
 use Rattle.slots.specs.Who.{WaitersOf}
-use Rattle.slots.specs.Values.{freeTask, readyAt}
+use Rattle.slots.specs.Values.{freeTask, readyAt, placed}
 use Rattle.slots.specs.Kinds.{unused}
 use Rattle.rules.specs.State.{State}
-use Rattle.rules.specs.Lines.{line, those}
-use Rattle.rules.specs.Sentences.{Listing}
+use Rattle.rules.specs.Lines.{line, those, begun}
+use Rattle.rules.specs.Sentences.{OneOrder}
 use Rattle.rules.specs.Steps.{Stepped}
 
 pub record Alike (k j : State) : Type 0 where
@@ -35,6 +36,8 @@ pub record Alike (k j : State) : Type 0 where
   pub lines : (p : ℕ) → line (k .tasks) p (listed (k .order)) ≡ line (j .tasks) p (listed (j .order))
   -- the same waiters of each object, in the same order of arrival
   pub lists : (o : ObjSlot) → those (k .tasks) (WaitersOf o) (listed (k .order)) ≡ those (j .tasks) (WaitersOf o) (listed (j .order))
+  -- the same order of the delayed and the waiting together
+  pub begun : begun (k .tasks) (listed (k .order)) ≡ begun (j .tasks) (listed (j .order))
 
 -- alike steps: the same answer, the same store afterwards, alike kernels
 pub record AlikeSteps (r q : Stepped) : Type 0 where
@@ -42,9 +45,9 @@ pub record AlikeSteps (r q : Stepped) : Type 0 where
   pub store : r .store ≡ q .store
   pub kernel : Alike (r .kernel) (q .kernel)
 
--- an order of 16 places that lists each ready, delayed and waiting task once, and no one else
+-- what none of these shows of the one order: nobody suspended and no free slot stands in it, and it has 16 places with zeros behind those taken
 abbrev pub Ordered : State → Type 0
-Ordered k = Listing (k .tasks) (k .order)
+Ordered k = OneOrder (k .tasks) (k .order)
 
 -- idle, and a task of priority 3 that runs, in either order
 abbrev pub twoIn : List TaskSlot → State
@@ -55,3 +58,15 @@ idleFirst = twoIn (idle ∷ task 1 ∷ [])
 
 unfoldable pub idleLast : State
 idleLast = twoIn (task 1 ∷ idle ∷ [])
+
+-- idle runs, and two tasks of priority 3 are delayed until tick 1, the one or the other of which began first
+abbrev pub dueTogether : List TaskSlot → State
+dueTogether l =
+    let x = placed (readyAt 3) (Delayed 1) 0 in
+    record { tasks = readyAt 0 ∷ x ∷ x ∷ replicate 13 freeTask; objects = replicate 16 unused; order = ordered l; running = idle; tick = 0; hold = 0; pended = 0; uses = freshUses }
+
+unfoldable pub firstBegan : State
+firstBegan = dueTogether (idle ∷ task 1 ∷ task 2 ∷ [])
+
+unfoldable pub secondBegan : State
+secondBegan = dueTogether (idle ∷ task 2 ∷ task 1 ∷ [])

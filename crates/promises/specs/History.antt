@@ -14,12 +14,12 @@ use Rattle.order.specs.Tidy.{count}
 use Rattle.slots.specs.declared.Place.{Place}
 use Rattle.slots.specs.declared.Place.the-variants.{Ready}
 use Rattle.slots.specs.Who.{WaitersOf}
-use Rattle.slots.specs.Places.{isFree, isReady, isDelayed, isWaiting, isSuspended, isListed, waitsOn}
+use Rattle.slots.specs.Places.{isFree, isReady, isDelayed, isWaiting, isSuspended, isBlocked, isListed, waitsOn}
 use Rattle.slots.specs.Values.{freeTask, readyAt, brokenOff, inLine, taskAt}
 use Rattle.slots.specs.Kinds.{unused}
 use Rattle.rules.specs.State.{State}
 use Rattle.rules.specs.Tables.{fresh}
-use Rattle.rules.specs.Lines.{line, those, level}
+use Rattle.rules.specs.Lines.{line, those, begun, level}
 use Rattle.rules.specs.Trace.{trace, stateAfter, CallMade, stepMade}
 
 -- the kernel after the calls, one after the other
@@ -46,6 +46,8 @@ pub record Placed (k : State) : Type 0 where
   pub lines : (p : ℕ) (t : TaskSlot) → count (t .0) (line (k .tasks) p (listed (k .order))) ≡ once (inLine p (taskAt (k .tasks) t))
   -- in the list of the object that it waits on, once, and in no other
   pub lists : (o : ObjSlot) (t : TaskSlot) → count (t .0) (those (k .tasks) (WaitersOf o) (listed (k .order))) ≡ once (waitsOn o (taskAt (k .tasks) t .place))
+  -- in the order of those who began a delay or a wait, once, if it is delayed or waits, and else not at all
+  pub remembered : (t : TaskSlot) → count (t .0) (begun (k .tasks) (listed (k .order))) ≡ once (isBlocked (taskAt (k .tasks) t .place))
   -- "and unless the scheduler is held no ready task outranks the running one"
   pub not-outranked : k .hold ≡ 0 → (t : TaskSlot) → taskAt (k .tasks) t .place ≡ Ready → level (k .tasks) t ≤ level (k .tasks) (k .running)
 

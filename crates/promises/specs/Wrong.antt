@@ -1,4 +1,5 @@
--- The idle programs, the easy mistakes of document 01, those of numbers and of the highest line: each is the step with one mistake made, with a few calls that tell the two apart.
+-- The idle programs, the easy mistakes of document 01, those of numbers, of the highest line and of the order of wakes: each is the step with one mistake made,
+-- with a few calls that tell the two apart.
 use Prim.Native.Nat.{ℕ, zero, suc, _+_, _-_, _%_}
 use mathlib.Core.Bool.{Bool, true, false, not, _&&_, _||_}
 use mathlib.Core.List.{List, [], _∷_, _++_, map}
@@ -6,7 +7,7 @@ use lib.Count.{leadingZeros, trailingZeros}
 use lib.Dec.{eqb, ltb, leb}
 use lib.ListN.{length, getD, set, replicate}
 use Rattle.lists.specs.Choice.{if_then_else_}
-use Rattle.lists.specs.Lists.{index, upTo, kept, head}
+use Rattle.lists.specs.Lists.{foldl, upTo, values, kept, head}
 use Rattle.numbers.specs.Numbers.{task, object, sameTask}
 use Rattle.calls.specs.declared.Uses.{Uses}
 use Rattle.calls.specs.declared.TaskNo.{TaskNo}
@@ -19,23 +20,23 @@ use Rattle.calls.specs.Said.{Word, done, made, waiting, refused, says}
 use Rattle.order.specs.Order.{listed}
 use Rattle.heights.specs.Heights.{top, occupied}
 use Rattle.items.specs.Bytes.{putAt}
-use Rattle.slots.specs.Places.{isReady, isWaiting, isSuspended, waitsOn, ofWake, wakesAt, outcomeDue}
+use Rattle.slots.specs.Places.{isReady, isDelayed, isWaiting, isSuspended, waitsOn, ofWake, wakesAt, outcomeDue}
 use Rattle.slots.specs.Values.{brokenOff, taskAt}
 use Rattle.slots.specs.Kinds.{holderOf, kindAt}
-use Rattle.promises.specs.Types.{TaskSlot, ObjSlot, Asked, Call, Create, Delete, Suspend, Delay, Hold, Release, MakeQueue, MakeMutex, Remove, Send, Receive, Take, Give, Tick, Place, Ready}
-use Rattle.promises.specs.Types.{Task, State}
+use Rattle.promises.specs.Types.{TaskSlot, ObjSlot, Asked, Call, Create, Delete, Suspend, SetPriority, Delay, Yield, Hold, Release, MakeQueue, MakeMutex, Remove, Send, Receive}
+use Rattle.promises.specs.Types.{Take, Give, Tick, Place, Ready, Task, State}
 use Rattle.promises.specs.Cases.{View, view, viewOf}
 use Rattle.rules.specs.Tables.{fresh, freeSlot, withTask, withTick, withHold, withUses}
-use Rattle.rules.specs.Lines.{line, level, leader, runsIf, chosen, toTail}
+use Rattle.rules.specs.Lines.{line, hasBegun, begun, level, leader, runsIf, chosen, toTail}
 use Rattle.rules.specs.Occupied.{linesOf}
 use Rattle.rules.specs.Waits.{later, arrives}
-use Rattle.rules.specs.Loans.{prioritized}
-use Rattle.rules.specs.Ticks.{wokenIfDue, oneTick, turned, ticked, released}
+use Rattle.rules.specs.Loans.{prioritized, newPriority}
+use Rattle.rules.specs.Ticks.{wakes, oneTick, turned, ticked, released}
 use Rattle.rules.specs.Parts.{slipOf}
 use Rattle.rows.specs.Asking.{is}
 use Rattle.rows.specs.Applies.{isEmpty}
 use Rattle.rules.specs.Refusals.{laterRow, refusal}
-use Rattle.rules.specs.Effects.{deleted, suspended, handedOn, effect}
+use Rattle.rules.specs.Effects.{deleted, suspended, taken, handedOn, effect}
 use Rattle.rules.specs.Steps.{Stepped, answered, stored, usesAfter, turnedAway, step}
 use Rattle.rules.specs.Trace.{trace, atLast, lending}
 
@@ -76,14 +77,23 @@ alwaysDone k c item s = let r = step k c item s in record { kernel = r .kernel; 
 unfoldable pub changesNothing : Stepping
 changesNothing k c item s = record { kernel = k; answer = step k c item s .answer; store = s }
 
--- a tick whose wakes are other ones
+-- whoever began a delay or wait, in that order
+abbrev pub asBegun : State → List TaskSlot
+asBegun k = begun (k .tasks) (listed (k .order))
+
+-- a tick's count with other wakes; a tick, and a release, with these
+abbrev pub oneTickBy : (State → State) → State → State
+oneTickBy wake k = wake (withTick k (later (k .tick) 1))
+
 abbrev pub tickedBy : (State → State) → State → State
-tickedBy wake k =
-    if ltb 0 (k .hold) then withHold k (k .hold) (k .pended + 1) else turned (wake (withTick k (later (k .tick) 1)))
+tickedBy wake k = if ltb 0 (k .hold) then withHold k (k .hold) (k .pended + 1) else turned (oneTickBy wake k)
+
+abbrev pub releasedBy : (State → State) → State → State
+releasedBy wake k = if eqb (k .hold) 1 then upTo (λ x i. oneTickBy wake x) (k .pended) (withHold k 0 0) else withHold k (k .hold - 1) (k .pended)
 
 -- "One that makes the first due task ready and skips the rest"
 abbrev pub firstWoken : State → State
-firstWoken k = wokenIfDue k (task (index (λ (x : Task). wakesAt (k .tick) (x .place)) (k .tasks)))
+firstWoken k = wakes k (head (kept (λ t. wakesAt (k .tick) (taskAt (k .tasks) t .place)) (asBegun k)))
 
 abbrev pub skipsTheRest : State → Asked → State
 skipsTheRest = changed 17 (λ k a. tickedBy firstWoken k)
@@ -107,13 +117,13 @@ dropsGiver = changed 16 (λ k a. prioritized (handedOn k (a .object)) (k .runnin
 abbrev pub isPast : ℕ → Place → Bool
 isPast n p = ofWake false (λ w. leb w n) p
 
-abbrev pub wokenIfPast : State → ℕ → State
-wokenIfPast k n =
-    let p = taskAt (k .tasks) (task n) .place in
-    if isPast (k .tick) p then arrives k (task n) Ready (outcomeDue p) else k
+abbrev pub wokenIfPast : State → TaskSlot → State
+wokenIfPast k t =
+    let p = taskAt (k .tasks) t .place in
+    if isPast (k .tick) p then arrives k t Ready (outcomeDue p) else k
 
 abbrev pub wakesThePast : State → Asked → State
-wakesThePast = changed 17 (λ k a. tickedBy (upTo wokenIfPast 16) k)
+wakesThePast = changed 17 (λ k a. tickedBy (λ j. foldl wokenIfPast j (asBegun j)) k)
 
 -- "Putting an overtaken task at the tail, so it loses its turn."
 abbrev pub behind : State → TaskSlot → State
@@ -227,6 +237,44 @@ from32 k = 32 - leadingZeros 32 (linesOf k .word)
 -- the zeros counted at the other end
 abbrev pub lowestLine : State → ℕ
 lowestLine k = trailingZeros 32 (linesOf k .word)
+
+-- "Among tasks due on one tick, make ready first whoever began its delay or wait earlier. This replaces document 01's order by task number, for a tick and for release.":
+-- the effect with other lists along which a tick and a release wake
+abbrev pub wakesAlongTwo : (State → List TaskSlot) → (State → List TaskSlot) → State → Asked → State
+wakesAlongTwo atTick atRelease k a =
+    if is 17 a then tickedBy (λ j. wakes j (atTick j)) k
+    else changed 9 (λ k a. releasedBy (λ j. wakes j (atRelease j)) k) k a
+
+abbrev pub wakesAlong : (State → List TaskSlot) → State → Asked → State
+wakesAlong order = wakesAlongTwo order order
+
+-- by slot number
+abbrev pub byNumber : State → List TaskSlot
+byNumber k = values (λ n. task n) 16
+
+-- by own priority, the highest first; by effective priority nothing would show, since each line has one
+abbrev pub byPriority : State → List TaskSlot
+byPriority k = upTo (λ l p. kept (λ t. eqb (taskAt (k .tasks) t .own) p) (asBegun k) ++ l) 32 []
+
+-- the later first
+abbrev pub laterFirst : State → List TaskSlot
+laterFirst k = foldl (λ l t. t ∷ l) [] (asBegun k)
+
+-- an order of the delayed and one of the waiting, and not of both together
+abbrev pub delayedFirst : State → List TaskSlot
+delayedFirst k =
+    let at : TaskSlot → Place = λ t. taskAt (k .tasks) t .place in
+    kept (λ t. isDelayed (at t)) (asBegun k) ++ kept (λ t. isWaiting (at t)) (asBegun k)
+
+-- a delayed or waiting task whose priority is set, or to which one is lent, as if it began only now
+abbrev pub beginsAnew : State → TaskSlot → State
+beginsAnew k t = if hasBegun (k .tasks) t then toTail k t else k
+
+abbrev pub setAnew : State → Asked → State
+setAnew = changed 5 (λ k a. newPriority (beginsAnew k (a .task)) (a .task) (a .priority))
+
+abbrev pub lentAnew : State → Asked → State
+lentAnew = changed 15 (λ k a. taken (beginsAnew k (holderOf (kindAt (k .objects) (a .object)))) (a .object) (a .wait))
 
 -- a wrong step; a start, and calls from there; what is looked at; and what the right step and the wrong one show after the last call
 pub record Wrong : Type 0 where
@@ -387,5 +435,38 @@ lineMistakes =
     ∷ fails (stepBy effect (chosenBy lowestLine)) (Create 3 ∷ []) saysNothing (view made 1 1 []) (view made 1 0 [])
     ∷ []
 
+unfoldable pub wakeMistakes : List Wrong
+wakeMistakes =
+    -- task 2 began before task 1
+    fails (stepBy (wakesAlong byNumber) chosen) (Create 3 ∷ Create 3 ∷ Yield ∷ Delay 1 ∷ Delay 1 ∷ Tick ∷ []) saysNothing (view done 0 2 []) (view done 0 1 [])
+    -- task 1, which began first, keeps effective priority 5 with own priority 2
+    ∷ fails (stepBy (wakesAlong byPriority) chosen)
+    (Create 5 ∷ MakeMutex ∷ Take (objectOf 0) 0 ∷ SetPriority (taskOf 1) 2 ∷ Delay 1 ∷ Create 5 ∷ Delay 1 ∷ Tick ∷ [])
+    saysNothing
+    (view done 0 1 [])
+    (view done 0 2 [])
+    ∷ fails (stepBy (wakesAlong laterFirst) chosen) (Create 3 ∷ Delay 1 ∷ Create 3 ∷ Delay 1 ∷ Tick ∷ []) saysNothing (view done 0 1 []) (view done 0 2 [])
+    -- the first again, with the tick pended
+    ∷ fails (stepBy (wakesAlongTwo asBegun byNumber) chosen)
+    (Create 3 ∷ Create 3 ∷ Yield ∷ Delay 1 ∷ Delay 1 ∷ Hold ∷ Tick ∷ Release ∷ [])
+    saysNothing
+    (view done 0 2 [])
+    (view done 0 1 [])
+    -- task 1 waits, then task 2 is delayed
+    ∷ fails (stepBy (wakesAlong delayedFirst) chosen)
+    (MakeQueue 1 1 ∷ Create 3 ∷ Receive (objectOf 0) 1 ∷ Create 3 ∷ Delay 1 ∷ Tick ∷ [])
+    saysNothing
+    (view done 0 1 [])
+    (view done 0 2 [])
+    -- task 1, which began first, is set to task 2's priority
+    ∷ fails (stepBy setAnew chosen) (Create 4 ∷ Delay 1 ∷ Create 3 ∷ Delay 1 ∷ SetPriority (taskOf 1) 3 ∷ Tick ∷ []) saysNothing (view done 0 1 []) (view done 0 2 [])
+    -- or is lent it by task 3
+    ∷ fails (stepBy lentAnew chosen)
+    (Create 3 ∷ MakeMutex ∷ Take (objectOf 0) 0 ∷ Delay 1 ∷ Create 5 ∷ Delay 1 ∷ Create 5 ∷ Take (objectOf 0) 10 ∷ Tick ∷ [])
+    saysNothing
+    (view done 0 1 [])
+    (view done 0 2 [])
+    ∷ []
+
 unfoldable pub wrongs : Numbers → ℕ → List Wrong
-wrongs number n = idlePrograms number n ++ (easyMistakes ++ (numberMistakes ++ lineMistakes))
+wrongs number n = idlePrograms number n ++ (easyMistakes ++ (numberMistakes ++ (lineMistakes ++ wakeMistakes)))

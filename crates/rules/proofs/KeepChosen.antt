@@ -20,6 +20,7 @@ use Rattle.rules.specs.Types.{TaskSlot, Uses, Task, AllReady, State}
 use Rattle.rules.specs.Tables.{withRunning, withUses}
 use Rattle.rules.specs.Lines.{line, those, level, highest, first, runsIf, chosen}
 use Rattle.rules.specs.Sentences.{Running, Used, Sound}
+use Rattle.rules.proofs.SoundLists.{once-of}
 use Rattle.rules.proofs.LineLeads.{leader-none, first-heads-highest}
 use Rattle.rules.proofs.TableWithin.{first-meant, first-single}
 use Rattle.rules.proofs.TableSlots.{is-ready}
@@ -83,7 +84,7 @@ some-ready k N = leader-none (k .tasks) (those (k .tasks) AllReady (listed (k .o
   where
     once : count 0 (those (k .tasks) AllReady (listed (k .order))) ≡ 1
     once = count-kept (λ u. isReady (taskAt (k .tasks) u .place)) 0 (listed (k .order))
-        ∙ rw (N .tables .as-idle .ready) (N .listing .once idle ∙ rw (N .tables .as-idle .ready))
+        ∙ rw (N .tables .as-idle .ready) (once-of (k .tasks) (k .order) (N .listing) idle ∙ rw (N .tables .as-idle .ready))
 
     go : (l : List TaskSlot) → count 0 l ≡ 1 → isNone l ≡ false
     go [] e = absurd (none-counts e)

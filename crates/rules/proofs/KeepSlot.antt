@@ -20,7 +20,7 @@ use Rattle.rules.specs.Types.{TaskSlot, ObjSlot, Order, Task, State}
 use Rattle.rules.specs.Tables.{withTask, withOrder}
 use Rattle.rules.specs.Lines.{toTail, toHead, leaves}
 use Rattle.rules.specs.Sentences.{Holds, AsIdle, TaskFits, LevelFits, Tables, Listing}
-use Rattle.rules.proofs.SoundLists.{listing-of}
+use Rattle.rules.proofs.SoundLists.{listing-of, once-of}
 use Rattle.rules.proofs.KeepNearly.{Owing, Clear, TaskFine, Nearly, ones, relisted}
 
 -- what a slot holds after one is set
@@ -95,7 +95,7 @@ module _ {w : Owing} (k : State) (N : Nearly w k) (t : TaskSlot) (x : Task) (low
 
   ones-other : (n : ℕ) → (t .0 ≡ n → ⊥) → count n (without t l) ≡ ones us n
   ones-other n d =
-      count-stays t n d l ∙ N .listing .once (task n)
+      count-stays t n d l ∙ once-of (k .tasks) (k .order) (N .listing) (task n)
       ∙ sym (ap (λ (y : Task). if isListed (y .place) then 1 else 0) (at-other (k .tasks) t x (task n) (λ e. d (sym e))))
 
   -- by cases whether a number is that of t
@@ -149,8 +149,11 @@ module _ {w : Owing} (k : State) (N : Nearly w k) (t : TaskSlot) (x : Task) (low
   pub stay-nearly : isListed (x .place) ≡ isListed (taskAt (k .tasks) t .place) → Nearly w (withTask k t x)
   stay-nearly e =
       listed-so (k .order) (listing-of us (k .order)
-      (each (λ u y. count (u .0) l ≡ (if isListed (y .place) then 1 else 0)) (N .listing .once t ∙ ap (λ (b : Bool). if b then 1 else 0) (sym e)) (λ u n. N .listing .once u))
-      (N .listing .places) (N .listing .room) (N .listing .zeros))
+      (each (λ u y. count (u .0) l ≡ (if isListed (y .place) then 1 else 0)) (once t ∙ ap (λ (b : Bool). if b then 1 else 0) (sym e)) (λ u n. once u))
+      (N .listing .one-order .places) (N .listing .one-order .room) (N .listing .one-order .zeros))
+    where
+      once : (u : TaskSlot) → count (u .0) l ≡ (if isListed (taskAt (k .tasks) u .place) then 1 else 0)
+      once = once-of (k .tasks) (k .order) (N .listing)
 
 -- an existing task moved to the tail of its line or list, unchanged
 pub moved-nearly : {w : Owing} (k : State) → Nearly w k → (t : TaskSlot) → t .0 < 16 → isListed (taskAt (k .tasks) t .place) ≡ true → Nearly w (toTail k t)

@@ -10,7 +10,7 @@ use lib.Seq.{set-out}
 use borrow.Author.Tests.{eqb-true, eqb-false, ltb-true, ltb-false}
 use Rattle.lists.specs.Choice.{if_then_else_}
 use Rattle.lists.specs.Lists.{larger, foldl, upTo}
-use Rattle.numbers.specs.Numbers.{byNumber, sameTask, sameObject}
+use Rattle.numbers.specs.Numbers.{sameTask, sameObject}
 use Rattle.calls.specs.Door.{taskSlot, objSlot}
 use Rattle.calls.specs.Behind.{asked}
 use Rattle.order.proofs.Passing.{one-number}
@@ -21,7 +21,7 @@ use Rattle.slots.specs.Kinds.{isUnused, isMutex, kindAt}
 use Rattle.rules.specs.Types.{TaskSlot, ObjSlot, Place, Free, Ready, Delayed, Waiting, Suspended, Spent, Task, Ring, Kind, Unused, SpentObject, Queue, Mutex, By, Object, WaitersOf}
 use Rattle.rules.specs.Types.{Call, Create, Delete, Suspend, Resume, SetPriority, Delay, Yield, Hold, Release, MakeQueue, MakeMutex, Remove, Send, Receive, Take, Give, Tick, State}
 use Rattle.rules.specs.Tables.{holds, withTask, withObject, withTick, withHold}
-use Rattle.rules.specs.Lines.{level, first, toTail, leaves}
+use Rattle.rules.specs.Lines.{begun, level, first, toTail, leaves}
 use Rattle.rules.specs.Sound.{noHigher}
 use Rattle.rules.specs.Sentences.{Sound}
 use Rattle.rules.specs.Waits.{later, wakeOf, arrives, waitFor}
@@ -163,7 +163,7 @@ wakes-stay (t ∷ l) k = onward (woken-stays k t) (wakes-stay l (wokenIfDue k t)
 
 tick-stays : (k : State) → Stays k (oneTick k)
 unfolding oneTick wakes
-tick-stays k = let s = wakes-stay (byNumber 16) (withTick k (later (k .tick) 1)) in record { tasks = s .tasks; objects = s .objects }
+tick-stays k = let s = wakes-stay (begun (k .tasks) (listed (k .order))) (withTick k (later (k .tick) 1)) in record { tasks = s .tasks; objects = s .objects }
 
 loop-stays : (n : ℕ) (k : State) → Stays k (upTo (λ x i. oneTick x) n k)
 unfolding upTo

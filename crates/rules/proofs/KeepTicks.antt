@@ -1,32 +1,32 @@
 -- Hold, release and tick keep soundness.
 use Prim.Native.Nat.{ℕ, zero, suc, _+_, _-_, _<_, _≤_}
 use mathlib.Core.Path.{_≡_, refl, sym, ap, _∙_, subst}
-use mathlib.Core.Bool.{Bool, true, false, _||_, false≢true}
-use mathlib.Core.List.{List, [], _∷_, _++_}
+use mathlib.Core.Bool.{Bool, true, false, not, _||_, false≢true}
+use mathlib.Core.List.{List, [], _∷_}
 use native.Mathlib.Omega.{arith}
 use lib.Dec.{eqb, ltb}
-use lib.ListN.{length}
-use borrow.Author.Tests.{eqb-true, eqb-false, ltb-true, ltb-false, lt-ltb}
+use borrow.Author.Tests.{eqb-true, eqb-false, eq-eqb, ltb-true, ltb-false, lt-ltb}
 use Rattle.lists.specs.Choice.{if_then_else_}
 use Rattle.lists.specs.Lists.{foldl, upTo}
-use Rattle.lists.proofs.Bools.{and-left, and-intro, not-off, or-off}
-use Rattle.numbers.specs.Numbers.{task, sameTask, byNumber}
+use Rattle.lists.proofs.Bools.{and-left, and-intro, not-off, or-off, or-left, or-right}
+use Rattle.numbers.specs.Numbers.{sameTask}
 use Rattle.calls.specs.Behind.{asked, nothing}
 use Rattle.order.specs.Order.{listed}
+use Rattle.order.specs.Tidy.{count}
 use Rattle.order.proofs.Passing.{one-number}
-use Rattle.slots.specs.Places.{isFree, wakesAt, outcomeDue}
+use Rattle.slots.specs.Places.{isFree, isBlocked, wakesAt, outcomeDue}
 use Rattle.slots.specs.Values.{taskAt}
 use Rattle.slots.specs.SoundSlots.{wakesInRange, notDue}
 use Rattle.rules.specs.Types.{TaskSlot, Place, Free, Ready, Delayed, Waiting, Suspended, Spent, Task, State}
 use Rattle.rules.specs.Tables.{withTick, withHold}
-use Rattle.rules.specs.Lines.{level, toTail}
+use Rattle.rules.specs.Lines.{begun, level, toTail}
 use Rattle.rules.specs.Sound.{noHigher}
 use Rattle.rules.specs.Sentences.{Counts, Sound}
 use Rattle.rows.specs.Applies.{noDepth, noTick}
 use Rattle.rules.specs.Waits.{later, arrives}
 use Rattle.rules.specs.Ticks.{wokenIfDue, wakes, oneTick, turned, ticked, ticks, released, held}
 use Rattle.rules.specs.Effects.{effect}
-use Rattle.rules.proofs.TableSlots.{past-tasks, passes-there}
+use Rattle.rules.proofs.TableSlots.{passes-there}
 use Rattle.rules.proofs.RowPasses.{Passed}
 use Rattle.rules.proofs.KeepNearly.{Owing, settled, level-as, Nearly, RunsIn}
 use Rattle.rules.proofs.KeepSlot.{at-other, moved-nearly}
@@ -124,20 +124,21 @@ unfolding foldl askedAll
 woken-all tick asked [] j W = W
 woken-all tick asked (x ∷ l) j W = woken-all tick (λ t. sameTask t x || asked t) l (wokenIfDue j x) (woken-next tick asked x j W)
 
--- by number, all are asked
-asked-more : (asked : TaskSlot → Bool) (l m : List TaskSlot) → askedAll asked (l ++ m) ≡ askedAll (askedAll asked l) m
+-- who was asked already, and who stands in the list
+asked-already : (asked : TaskSlot → Bool) (l : List TaskSlot) (t : TaskSlot) → asked t ≡ true → askedAll asked l t ≡ true
 unfolding askedAll
-asked-more asked [] m = refl
-asked-more asked (x ∷ l) m = asked-more (λ t. sameTask t x || asked t) l m
+asked-already asked [] t e = e
+asked-already asked (x ∷ l) t e = asked-already (λ u. sameTask u x || asked u) l t (or-right (sameTask t x) (asked t) e)
 
-all-asked : (asked : TaskSlot → Bool) (n : ℕ) (t : TaskSlot) → t .0 < n → askedAll asked (byNumber n) t ≡ true
-unfolding byNumber askedAll
-all-asked asked zero t h = absurd (omega arith)
-all-asked asked (suc n) t h = ap (λ (f : TaskSlot → Bool). f t) (asked-more asked (byNumber n) (task n ∷ [])) ∙ go (eqb (t .0) n) refl (all-asked asked n t)
+asked-listed : (asked : TaskSlot → Bool) (l : List TaskSlot) (t : TaskSlot) → 1 ≤ count (t .0) l → askedAll asked l t ≡ true
+unfolding askedAll count
+asked-listed asked [] t h = absurd (omega arith)
+asked-listed asked (x ∷ l) t h = go (eqb (x .0) (t .0)) refl h (asked-listed (λ u. sameTask u x || asked u) l t)
   where
-    go : (b : Bool) → eqb (t .0) n ≡ b → (t .0 < n → askedAll asked (byNumber n) t ≡ true) → (b || askedAll asked (byNumber n) t) ≡ true
-    go true e ih = refl
-    go false e ih = ih (omega (arith, eqb-false (t .0) n e))
+    go : (b : Bool) → eqb (x .0) (t .0) ≡ b → 1 ≤ (if b then 1 else 0) + count (t .0) l → (1 ≤ count (t .0) l → askedAll (λ u. sameTask u x || asked u) l t ≡ true)
+        → askedAll (λ u. sameTask u x || asked u) l t ≡ true
+    go true e g ih = asked-already (λ u. sameTask u x || asked u) l t (or-left (sameTask t x) (asked t) (eq-eqb (t .0) (x .0) (sym (eqb-true (x .0) (t .0) e))))
+    go false e g ih = ih (omega arith)
 
 -- ── what the wakes leave: the hold, who runs, and who was ready
 pub record After (k j : State) : Type 0 where
@@ -164,42 +165,74 @@ unfolding foldl
 all-after [] k = record { hold = refl; running = refl; ready = λ t e. e }
 all-after (u ∷ l) k = after-trans (woken-after k u) (all-after l (wokenIfDue k u))
 
+pub tick-after : (k : State) → After k (oneTick k)
+unfolding oneTick wakes
+tick-after k = let A = all-after (begun (k .tasks) (listed (k .order))) (withTick k (later (k .tick) 1)) in record { hold = A .hold; running = A .running; ready = A .ready }
+
 -- ── one tick's count and wakes
 pub record Ticked (k j : State) : Type 0 where
   pub nearly : Nearly (settled (j .tick)) j
   pub after : After k j
 
-pub one-tick : (k : State) → Nearly (settled (k .tick)) k → Ticked k (oneTick k)
-unfolding oneTick wakes
-one-tick k N =
-    let next = withTick k (later (k .tick) 1) in
-    let j = foldl wokenIfDue next (byNumber 16) in
-    let W = woken-all (later (k .tick) 1) (λ t. false) (byNumber 16) next start in
-    let A = all-after (byNumber 16) next in
-    record {
-      nearly = at-tick j (W .ticks) (reopen (settled (later (k .tick) 1)) j (W .nearly) (all-woken j (W .nearly)) (λ t q. refl));
-      after = record { hold = A .hold; running = A .running; ready = A .ready };
-    }
-  where
-    start : Woken (later (k .tick) 1) (λ t. false) (withTick k (later (k .tick) 1))
-    start =
-        record {
-          nearly = record {
-            tables = N .tables;
-            levels = N .levels;
-            listing = N .listing;
-            due = λ t. and-left (wakesInRange (taskAt (k .tasks) t .place)) _ (N .due t);
-            counts = record { tick-range = omega arith; hold-range = N .counts .hold-range; pended-range = N .counts .pended-range; pends = N .counts .pends };
-          };
-          ticks = refl;
-        }
+-- who is neither delayed nor waiting is not due
+unblocked-due : (n : ℕ) (p : Place) → isBlocked p ≡ false → notDue n p ≡ true
+unblocked-due n Free e = refl
+unblocked-due n Ready e = refl
+unblocked-due n (Delayed w) e = absurd (false≢true (sym e))
+unblocked-due n (Waiting o w) e = absurd (false≢true (sym e))
+unblocked-due n Suspended e = refl
+unblocked-due n Spent e = refl
 
-    all-woken : (j : State) → Nearly (waking (later (k .tick) 1) (askedAll (λ u. false) (byNumber 16))) j → (t : TaskSlot) → notDue (later (k .tick) 1) (taskAt (j .tasks) t .place) ≡ true
-    all-woken j M t = go (ltb (t .0) 16) refl
-      where
-        go : (b : Bool) → ltb (t .0) 16 ≡ b → notDue (later (k .tick) 1) (taskAt (j .tasks) t .place) ≡ true
-        go true e = rw (all-asked (λ u. false) 16 t (ltb-true (t .0) 16 e)) at (M .due t)
-        go false e = let past : length (j .tasks) ≤ t .0 = omega (arith, ltb-false (t .0) 16 e, M .tables .task-slots) in rw (past-tasks (j .tasks) t past)
+module _ (k : State) (N : Nearly (settled (k .tick)) k) where
+  abbrev now : ℕ
+  now = later (k .tick) 1
+
+  abbrev next : State
+  next = withTick k now
+
+  abbrev those-begun : List TaskSlot
+  those-begun = begun (k .tasks) (listed (k .order))
+
+  -- before the wakes: who is neither delayed nor waiting need not be asked
+  abbrev settledAlready : TaskSlot → Bool
+  settledAlready t = not (isBlocked (taskAt (k .tasks) t .place))
+
+  start : Woken now settledAlready next
+  start =
+      record {
+        nearly = record {
+          tables = N .tables;
+          levels = N .levels;
+          listing = N .listing;
+          due = λ t. not-due (taskAt (k .tasks) t .place) (isBlocked (taskAt (k .tasks) t .place)) refl (and-left (wakesInRange (taskAt (k .tasks) t .place)) _ (N .due t));
+          counts = record { tick-range = omega arith; hold-range = N .counts .hold-range; pended-range = N .counts .pended-range; pends = N .counts .pends };
+        };
+        ticks = refl;
+      }
+    where
+      not-due : (p : Place) (b : Bool) → isBlocked p ≡ b → wakesInRange p ≡ true → (if not b then notDue now p else wakesInRange p) ≡ true
+      not-due p true e r = r
+      not-due p false e r = unblocked-due now p e
+
+  -- the others all stand in the order of those who began
+  everyone : (t : TaskSlot) → askedAll settledAlready those-begun t ≡ true
+  everyone t = go (isBlocked (taskAt (k .tasks) t .place)) refl
+    where
+      go : (b : Bool) → isBlocked (taskAt (k .tasks) t .place) ≡ b → askedAll settledAlready those-begun t ≡ true
+      go true e =
+          let once : count (t .0) those-begun ≡ 1 = rw e at (N .listing .remembered t) in
+          asked-listed settledAlready those-begun t (omega arith)
+      go false e = asked-already settledAlready those-begun t (not-off _ e)
+
+  pub one-tick : Ticked k (oneTick k)
+  unfolding oneTick wakes
+  one-tick =
+      let j = foldl wokenIfDue next those-begun in
+      let W = woken-all now settledAlready those-begun next start in
+      record {
+        nearly = at-tick j (W .ticks) (reopen (settled now) j (W .nearly) (λ t. rw (everyone t) at (W .nearly .due t)) (λ t q. refl));
+        after = tick-after k;
+      }
 
 -- ── the calls
 module _ (k : State) (S : Sound k) (store : ℕ) where

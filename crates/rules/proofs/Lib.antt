@@ -28,5 +28,9 @@ pub mod KeepMutexes
 pub mod KeepQueues
 pub mod KeepUses
 pub mod KeepTaken
+pub mod Begun
+pub mod BegunCalls
+pub mod BegunPairs
+pub mod BegunEnds
 pub mod KeepEvery
 pub mod Traces

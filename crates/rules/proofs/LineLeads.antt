@@ -1,13 +1,14 @@
 -- Whom the one pass finds is the first of the highest effective priority; of the ready, the head of the highest occupied line.
 use Prim.Native.Nat.{ℕ, _≤_}
 use mathlib.Core.Path.{_≡_, refl, sym, ap, _∙_}
-use mathlib.Core.Bool.{Bool, true, false, _&&_}
+use mathlib.Core.Bool.{Bool, true, false}
 use mathlib.Core.List.{List, [], _∷_}
 use native.Mathlib.Omega.{arith}
 use lib.Dec.{eqb, ltb, leb}
 use borrow.Author.Tests.{ltb-true, ltb-false, lt-ltb, le-ltb, lt-leb, le-leb, eq-eqb, ne-eqb}
 use Rattle.lists.specs.Choice.{if_then_else_}
 use Rattle.lists.specs.Lists.{foldl, kept, head, isNone}
+use Rattle.lists.proofs.Tests.{kept-kept}
 use Rattle.order.specs.Order.{listed}
 use Rattle.slots.specs.Leads.{isWho, better, leads}
 use Rattle.rules.specs.Types.{TaskSlot, Task, Who, AllReady, Lead, Open, Best, State}
@@ -81,18 +82,6 @@ module _ (ts : List Task) where
             → leads (foldl step (if c then Best t (level ts t) else Open) l) ≡ leader ts (if c then t ∷ those ts w l else those ts w l)
         go true i j = j ∙ sym (leader-cons t (those ts w l))
         go false i j = i
-
--- a line is a level of the ready
-pub kept-kept {ℓ} : {A : Type ℓ} (p q : A → Bool) (l : List A) → kept q (kept p l) ≡ kept (λ x. p x && q x) l
-unfolding kept
-kept-kept p q [] = refl
-kept-kept p q (x ∷ l) = go (p x) (q x) refl (kept-kept p q l)
-  where
-    go : (b c : Bool) → q x ≡ c → kept q (kept p l) ≡ kept (λ x. p x && q x) l
-        → kept q (if b then x ∷ kept p l else kept p l) ≡ (if b && c then x ∷ kept (λ x. p x && q x) l else kept (λ x. p x && q x) l)
-    go true true e ih = rw (e, ih)
-    go true false e ih = rw (e, ih)
-    go false c e ih = ih
 
 -- "the head of the highest occupied line"
 pub first-heads-highest : (k : State) → first k AllReady ≡ head (line (k .tasks) (highest (k .tasks) (those (k .tasks) AllReady (listed (k .order)))) (listed (k .order)))

@@ -10,7 +10,7 @@ use borrow.Author.Tests.{ltb-true, ltb-false}
 use Rattle.lists.specs.Lists.{allBelow}
 use Rattle.lists.proofs.Bools.{all-below}
 use Rattle.numbers.specs.Numbers.{task, object}
-use Rattle.slots.specs.Places.{isFree, takesTask, isReady}
+use Rattle.slots.specs.Places.{isFree, takesTask, isReady, isBlocked}
 use Rattle.slots.specs.Values.{freeTask, taskAt}
 use Rattle.slots.specs.Kinds.{unused, kindAt}
 use Rattle.rules.specs.Types.{TaskSlot, ObjSlot, Place, Free, Ready, Delayed, Waiting, Suspended, Spent, Task, Ring, Nobody, By, Kind, Object, Unused, SpentObject, Queue, Mutex}
@@ -56,6 +56,15 @@ passes-there f (Delayed w) z y e = refl
 passes-there f (Waiting o w) z y e = refl
 passes-there f Suspended z y e = refl
 passes-there f Spent z y e = absurd (false≢true (sym y ∙ e))
+
+-- who passes a test that only the delayed and the waiting can pass
+pub passes-blocked : (f : Place → Bool) (p : Place) → f Free ≡ false → f Ready ≡ false → f Suspended ≡ false → f Spent ≡ false → f p ≡ true → isBlocked p ≡ true
+passes-blocked f Free a b c d e = sym a ∙ e
+passes-blocked f Ready a b c d e = sym b ∙ e
+passes-blocked f (Delayed w) a b c d e = refl
+passes-blocked f (Waiting o w) a b c d e = refl
+passes-blocked f Suspended a b c d e = sym c ∙ e
+passes-blocked f Spent a b c d e = sym d ∙ e
 
 -- a slot that a create may take is free
 pub takes-free : (p : Place) → takesTask p ≡ true → isFree p ≡ true

@@ -11,7 +11,7 @@ use borrow.Author.Tests.{leb-true, leb-false}
 use Rattle.lists.specs.Choice.{if_then_else_}
 use Rattle.lists.specs.Lists.{kept, head}
 use Rattle.lists.proofs.Bools.{and-left}
-use Rattle.lists.proofs.Tests.{kept-head}
+use Rattle.lists.proofs.Tests.{kept-kept, kept-head}
 use Rattle.order.specs.Order.{listed}
 use Rattle.slots.specs.Leads.{isWho}
 use Rattle.rules.specs.Types.{TaskSlot, ObjSlot, Task, Ring, Unused, Queue, Object, Who, AllReady, WaitersOf, Outlet, toWaiter, toQueue, toCaller, State}
@@ -22,7 +22,6 @@ use Rattle.rules.specs.Rings.{oneLess, roomOr}
 use Rattle.rules.specs.Queues.{outletFor, outlet}
 use Rattle.rules.specs.Sentences.{RingFits}
 use Rattle.rules.proofs.TableSlots.{past-tasks, past-objects}
-use Rattle.rules.proofs.LineLeads.{kept-kept}
 
 -- an item of a queue lies within the object's part
 pub place-within : (p c s : ℕ) → p < c → c * s ≤ 512 → p * s + s ≤ 512

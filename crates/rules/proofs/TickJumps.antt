@@ -10,11 +10,12 @@ use lib.ListN.{getD}
 use borrow.Author.Tests.{ne-eqb}
 use Rattle.lists.specs.Choice.{if_then_else_}
 use Rattle.lists.specs.Lists.{foldl, upTo}
-use Rattle.numbers.specs.Numbers.{byNumber}
+use Rattle.order.specs.Order.{listed}
 use Rattle.slots.specs.Places.{wakesAt, outcomeDue, ahead, away}
 use Rattle.slots.specs.Values.{freeTask, taskAt}
 use Rattle.rules.specs.Types.{TaskSlot, Never, At, Place, Free, Ready, Delayed, Waiting, Suspended, Spent, Task, State}
 use Rattle.rules.specs.Tables.{withTick}
+use Rattle.rules.specs.Lines.{begun}
 use Rattle.rules.specs.Waits.{later, arrives}
 use Rattle.rules.specs.Ticks.{wokenIfDue, wakes, oneTick, untilDue, ticks}
 
@@ -51,8 +52,8 @@ unfolding ticks upTo oneTick
 jump d zero k Q h = let e : k .tick ≡ later (k .tick) 0 = omega (arith, Q .counts) in ap (withTick k) e
 jump d (suc n) k Q h =
     ap oneTick (jump d n k Q (omega arith))
-    ∙ ap (λ (m : ℕ). wakes (withTick k m) (byNumber 16)) (later-more (k .tick) n 1 ∙ ap (later (k .tick)) one)
-    ∙ none-woken (withTick k (later (k .tick) (suc n))) (λ t. not-yet (k .tick) d n (taskAt (k .tasks) t .place) (Q .counts) (Q .away t) (omega arith)) (byNumber 16)
+    ∙ ap (λ (m : ℕ). wakes (withTick k m) (begun (k .tasks) (listed (k .order)))) (later-more (k .tick) n 1 ∙ ap (later (k .tick)) one)
+    ∙ none-woken (withTick k (later (k .tick) (suc n))) (λ t. not-yet (k .tick) d n (taskAt (k .tasks) t .place) (Q .counts) (Q .away t) (omega arith)) (begun (k .tasks) (listed (k .order)))
   where
     one : n + 1 ≡ suc n
     one = omega arith

@@ -1,10 +1,14 @@
 -- Lines and lists of waiters: the one order, passed through a test. Who stands first, and who runs.
 use Prim.Native.Nat.{ℕ}
+use mathlib.Core.Path.{_≡_}
+use mathlib.Core.Bool.{Bool, _||_}
 use mathlib.Core.List.{List, [], _∷_, _++_}
 use lib.Dec.{eqb}
 use Rattle.lists.specs.Choice.{if_then_else_}
 use Rattle.lists.specs.Lists.{larger, kept, head}
+use Rattle.numbers.specs.Numbers.{sameTask}
 use Rattle.order.specs.Order.{listed, ordered, without}
+use Rattle.slots.specs.Places.{isBlocked}
 use Rattle.slots.specs.Values.{inLine, taskAt}
 use Rattle.slots.specs.Leads.{isWho}
 use Rattle.rules.specs.Types.{TaskSlot, Task, Who, AllReady, State}
@@ -17,6 +21,21 @@ line ts p l = kept (λ t. inLine p (taskAt ts t)) l
 -- those meant: the ready ones, or an object's waiters, "in order of arrival"
 unfoldable pub those : List Task → Who → List TaskSlot → List TaskSlot
 those ts w l = kept (λ t. isWho w (taskAt ts t .place)) l
+
+-- it began a delay or a wait that is not over
+abbrev pub hasBegun : List Task → TaskSlot → Bool
+hasBegun ts t = isBlocked (taskAt ts t .place)
+
+-- "The kernel has to remember that order among delayed and waiting tasks together": whoever began earlier stands earlier
+unfoldable pub begun : List Task → List TaskSlot → List TaskSlot
+begun ts l = kept (hasBegun ts) l
+
+-- of the two, t stands in l first, and then u
+abbrev pub isOneOf : TaskSlot → TaskSlot → TaskSlot → Bool
+isOneOf t u x = sameTask x t || sameTask x u
+
+abbrev pub Ahead : TaskSlot → TaskSlot → List TaskSlot → Type 0
+Ahead t u l = kept (isOneOf t u) l ≡ t ∷ u ∷ []
 
 -- a task's effective priority; the highest of several, 0 for none
 abbrev pub level : List Task → TaskSlot → ℕ

@@ -10,11 +10,11 @@ use Rattle.numbers.specs.Numbers.{idle}
 use Rattle.calls.specs.Door.{useIn}
 use Rattle.order.specs.Order.{listed}
 use Rattle.order.specs.Tidy.{count}
-use Rattle.slots.specs.Places.{isFree, isListed, waitsOn}
+use Rattle.slots.specs.Places.{isFree, isBlocked, isListed, waitsOn}
 use Rattle.slots.specs.Values.{freeTask, spentTask, inLine, taskAt}
 use Rattle.rules.specs.Types.{TaskSlot, ObjSlot, Wake, At, Place, Free, Ready, Delayed, Waiting, Spent, Order, Uses, Task, Ring, By, Kind, Queue, Mutex, Object, WaitersOf, State}
 use Rattle.slots.specs.Kinds.{kindAt}
-use Rattle.rules.specs.Lines.{line, those, level}
+use Rattle.rules.specs.Lines.{line, those, begun, level}
 
 -- the task t holds the mutex o
 abbrev pub Holds : List Object → TaskSlot → ObjSlot → Type 0
@@ -88,17 +88,24 @@ abbrev pub Levels : List Task → List Object → Type 0
 Levels ts os = (t : TaskSlot) → LevelFits (HoldsNothing os t) (taskAt ts t .own) (level ts t)
 
 -- ── the listing: the order and the tasks
+-- no sentence of the documents, but our kernel value's own: one order carries the lines, the lists and the order of those who wait; nobody else stands in it, and it
+-- has 16 places with zeros behind those taken
+pub record OneOrder (ts : List Task) (o : Order) : Type 0 where
+  pub none-else : (t : TaskSlot) → isListed (taskAt ts t .place) ≡ false → count (t .0) (listed o) ≡ 0
+  pub places : length (o .places) ≡ 16
+  pub room : o .living ≤ 16
+  pub zeros : (i : ℕ) → o .living ≤ i → i < 16 → getD (o .places) i idle .0 ≡ 0
+
 pub record Listing (ts : List Task) (o : Order) : Type 0 where
   -- "each ready task stands once in the line of its effective priority and nobody else stands in a line"
   pub lines : (p : ℕ) (t : TaskSlot) → count (t .0) (line ts p (listed o)) ≡ (if inLine p (taskAt ts t) then 1 else 0)
   -- "each object lists its waiters once, in order of arrival, and no one else"
   pub lists : (b : ObjSlot) (t : TaskSlot) → count (t .0) (those ts (WaitersOf b) (listed o)) ≡ (if waitsOn b (taskAt ts t .place) then 1 else 0)
-  -- no sentence of document 01, but our kernel value's own: the one order, which carries the lines and the lists, has each ready, delayed and waiting task once and no one else,
-  -- in 16 places with zeros behind them
-  pub once : (t : TaskSlot) → count (t .0) (listed o) ≡ (if isListed (taskAt ts t .place) then 1 else 0)
-  pub places : length (o .places) ≡ 16
-  pub room : o .living ≤ 16
-  pub zeros : (i : ℕ) → o .living ≤ i → i < 16 → getD (o .places) i idle .0 ≡ 0
+  -- of the order in which the delayed and the waiting began: "In a sound kernel it has each of them once and no one else,
+  pub remembered : (t : TaskSlot) → count (t .0) (begun ts (listed o)) ≡ (if isBlocked (taskAt ts t .place) then 1 else 0)
+  -- and agrees with each object's list."
+  pub agrees : (b : ObjSlot) → those ts (WaitersOf b) (begun ts (listed o)) ≡ those ts (WaitersOf b) (listed o)
+  pub one-order : OneOrder ts o
 
 -- ── the clock: tick, hold and pended, and the wake ticks
 -- of a task in the place p

@@ -13,7 +13,7 @@ use Rattle.order.specs.Tidy.{count, tidy}
 use Rattle.slots.specs.Places.{isReady}
 use Rattle.slots.specs.Values.{inHigher, taskAt}
 use Rattle.slots.specs.Kinds.{kindAt}
-use Rattle.slots.specs.SoundSlots.{idleFine, standsFine, ordersFine, waitsFine, prioritiesFine, holderThere, notDue, ringInRange, outcomeFine, freshIfFree}
+use Rattle.slots.specs.SoundSlots.{idleFine, standsFine, remembersFine, ordersFine, waitsFine, prioritiesFine, holderThere, notDue, ringInRange, outcomeFine, freshIfFree}
 use Rattle.rules.specs.Types.{TaskSlot, Order, Task, Object, Kind, State}
 use Rattle.rules.specs.Tables.{holds}
 use Rattle.rules.specs.Lines.{line, level}
@@ -66,13 +66,18 @@ levelsFine ts os = allBelow 16 (λ n. prioritiesFine (holds os (task n)) (slotTa
 abbrev pub eachStands : List Task → List TaskSlot → Bool
 eachStands ts l = allBelow 16 (λ n. standsFine (count n l) (slotTask ts n .place))
 
--- no sentence of document 01, but our kernel value's own: the one order lists a delayed task once, and a suspended one or a free slot not at all
+-- of the order in which the delayed and the waiting began: "In a sound kernel it has each of them once and no one else, and agrees with each object's list."
+-- It is the one order passed through a test, as each list is, so that it has no one else and agrees with the lists without being asked.
+abbrev pub eachRemembered : List Task → List TaskSlot → Bool
+eachRemembered ts l = allBelow 16 (λ n. remembersFine (count n l) (slotTask ts n .place))
+
+-- no sentence of the documents, but our kernel value's own: in the one order stands no suspended task and no free slot
 abbrev pub noneElse : List Task → List TaskSlot → Bool
 noneElse ts l = allBelow 16 (λ n. ordersFine (count n l) (slotTask ts n .place))
 
 -- with 16 places of the order, and "counts and places obey the ranges": those of the order
 unfoldable pub listingFine : List Task → Order → Bool
-listingFine ts o = every (eqb (length (o .places)) 16 ∷ eachStands ts (listed o) ∷ tidy o ∷ noneElse ts (listed o) ∷ [])
+listingFine ts o = every (eqb (length (o .places)) 16 ∷ eachStands ts (listed o) ∷ eachRemembered ts (listed o) ∷ tidy o ∷ noneElse ts (listed o) ∷ [])
 
 -- ── the clock: tick, hold and pended, and the wake ticks
 -- "no wake tick of a delayed or waiting task equals the tick count"

@@ -1,16 +1,17 @@
 -- The tick: count and wakes, the turn of the line; and the release that runs pended ticks.
 use Prim.Native.Nat.{ℕ, _+_, _-_, min}
-use mathlib.Core.List.{List}
+use mathlib.Core.Path.{_≡_}
+use mathlib.Core.Bool.{true}
+use mathlib.Core.List.{List, _++_}
 use lib.Dec.{eqb, ltb}
 use Rattle.lists.specs.Choice.{if_then_else_}
 use Rattle.lists.specs.Lists.{foldl, upTo}
-use Rattle.numbers.specs.Numbers.{byNumber}
 use Rattle.order.specs.Order.{listed}
 use Rattle.slots.specs.Places.{wakesAt, outcomeDue, away}
 use Rattle.rules.specs.Types.{TaskSlot, Ready, Task, State}
 use Rattle.slots.specs.Values.{taskAt}
 use Rattle.rules.specs.Tables.{withTick, withHold}
-use Rattle.rules.specs.Lines.{level, toTail}
+use Rattle.rules.specs.Lines.{hasBegun, begun, level, toTail}
 use Rattle.rules.specs.Sound.{noHigher}
 use Rattle.rules.specs.Waits.{later, arrives}
 
@@ -25,9 +26,17 @@ wokenIfDue k t =
 unfoldable pub wakes : State → List TaskSlot → State
 wakes k l = foldl wokenIfDue k l
 
--- "the count goes up, then the due tasks are made ready in order of task number"
+-- t is made ready before u: on the way there is a state in which t is ready and u is not yet
+pub record ReadyFirst (t u : TaskSlot) (k : State) (l : List TaskSlot) : Type 0 where
+  pub so-far : List TaskSlot
+  pub rest : List TaskSlot
+  pub all : l ≡ so-far ++ rest
+  pub ready : taskAt (wakes k so-far .tasks) t .place ≡ Ready
+  pub not-yet : hasBegun (wakes k so-far .tasks) u ≡ true
+
+-- "the count goes up, then the due tasks are made ready"; "make ready first whoever began its delay or wait earlier"
 unfoldable pub oneTick : State → State
-oneTick k = wakes (withTick k (later (k .tick) 1)) (byNumber 16)
+oneTick k = wakes (withTick k (later (k .tick) 1)) (begun (k .tasks) (listed (k .order)))
 
 -- how many ticks pass before the one on which a task is next due; 4,294,967,295 where none has a wake tick
 unfoldable pub untilDue : ℕ → List Task → ℕ

@@ -6,7 +6,7 @@ use lib.Dec.{eqb, ltb, leb}
 use lib.ListN.{getD}
 use Rattle.numbers.specs.declared.TaskSlot.{TaskSlot}
 use Rattle.slots.specs.Types.{Wake, Never, At, Place, Free, Ready, Delayed, Waiting, Suspended, Spent, Task, Ring, Nobody, By, Kind, Unused, SpentObject, Queue, Mutex, Object}
-use Rattle.slots.specs.Places.{isFree, isReady, isBlocked, wakesAt}
+use Rattle.slots.specs.Places.{isFree, isReady, isBlocked, isListed, wakesAt}
 use Rattle.slots.specs.Values.{taskAt}
 use Rattle.slots.specs.Kinds.{kindAt, isBy, isTaken}
 
@@ -102,11 +102,10 @@ outcomeFine x = leb (x .outcome) 3 && (not (isBlocked (x .place)) || eqb (x .out
 abbrev pub freshIfFree : Task → Bool
 freshIfFree x = not (isFree (x .place)) || (eqb (x .own) 0 && (eqb (x .effective) 0 && eqb (x .outcome) 0))
 
--- what the one order asks beside document 01's sentences: it lists a delayed task once, and a suspended one or a free slot not at all
+-- of the order "among delayed and waiting tasks together": "it has each of them once"
+abbrev pub remembersFine : ℕ → Place → Bool
+remembersFine n p = not (isBlocked p) || eqb n 1
+
+-- what the one order asks beside those sentences: a suspended task and a free slot do not stand in it
 abbrev pub ordersFine : ℕ → Place → Bool
-ordersFine n Free = eqb n 0
-ordersFine n Ready = true
-ordersFine n (Delayed w) = eqb n 1
-ordersFine n (Waiting o w) = true
-ordersFine n Suspended = eqb n 0
-ordersFine n Spent = eqb n 0
+ordersFine n p = isListed p || eqb n 0

@@ -24,6 +24,11 @@ use Rattle.tasks.proofs.Columns.{Full}
 use Rattle.tasks.proofs.WayBack.{tasks-back}
 use Rattle.tasks.proofs.StateTests.{by-state, is-suspended, row-meant}
 
+-- a waiting task is asked for twice: its object lists it once, and the order of those who began has it once
+and-twice : (a b : Bool) → (a && b) ≡ (a && (a && b))
+and-twice true b = refl
+and-twice false b = refl
+
 module _ (o w own level outcome n : ℕ) (held : Bool) where
   abbrev Same : ℕ → Type 0
   Same s = rowFine s o own level outcome n held ≡ (known s o && aloneFine n held (record { place = placeOf (cells s o w); own = own; effective = level; outcome = outcome }))
@@ -31,7 +36,7 @@ module _ (o w own level outcome n : ℕ) (held : Bool) where
   row-is : (s : ℕ) → Same s
   unfolding rowFine placeOf
   row-is s =
-      by-state Same refl refl refl refl refl refl
+      by-state Same refl refl refl (and-twice (eqb n 1) _) (and-twice (eqb n 1) _) refl
       (λ m h. rw (
         is-suspended m o w h,
         ne-eqb m 0 (λ e. omega arith),

@@ -1,4 +1,3 @@
-pub mod ByNumber
 pub mod Columns
 pub mod StateTests
 pub mod WalkTurns

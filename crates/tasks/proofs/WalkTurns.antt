@@ -7,9 +7,10 @@ use native.Mathlib.Omega.{arith}
 use lib.Dec.{eqb}
 use lib.ListN.{length, getD, set, List·getD-eq-default}
 use lib.Seq.{set-getD}
+use borrow.Author.Tests.{eq-eqb, ne-eqb}
 use Rattle.lists.specs.Choice.{if_then_else_}
 use Rattle.lists.specs.Lists.{foldl, upTo, kept, index}
-use Rattle.lists.proofs.Bools.{and-left}
+use Rattle.lists.proofs.Bools.{and-off}
 use Rattle.numbers.specs.declared.TaskSlot.{TaskSlot}
 use Rattle.numbers.specs.declared.ObjSlot.{ObjSlot}
 use Rattle.numbers.specs.Numbers.{task}
@@ -119,7 +120,7 @@ module _ (ts : Tasks) (full : Full ts) where
   free-first = first-row (λ (x : Task). takesTask (x .place)) (λ s. eqb s 0) (rowsOf ts) (ts .state) freeTask 0 (rows-many ts)
       (λ i h. ap (λ (x : Task). takesTask (x .place)) (row-at ts i h) ∙ row-takes ts i)
 
--- the task i is due, and is made ready; or it is not
+-- the task t, of the slot i, is due, and is made ready; or its wake tick is another, or is not used; or there is no such slot
 abbrev pub columns : List ℕ → List ℕ → List ℕ → List ℕ → List ℕ → List ℕ → Tasks
 columns state object wake own effective outcome =
     record { state = state; object = object; wake = wake; own = own; effective = effective; outcome = outcome }
@@ -128,9 +129,9 @@ pub woken-alike : {s s′ o o′ w w′ e e′ own level : List ℕ} {p p′ : O
     → woken (columns s o w own level e) p ≡ woken (columns s′ o′ w′ own level e′) p′
 woken-alike {own = own} {level = level} a b c d q = λ i. woken (columns (a i) (b i) (c i) own level (d i)) (q i)
 
-module _ (now : ℕ) (ts : Tasks) (o : Order) (i : ℕ) where
-  abbrev due : Bool
-  due = timed (getD (ts .state) i 0) && eqb (getD (ts .wake) i 0) now
+module _ (now : ℕ) (ts : Tasks) (o : Order) (i : ℕ) (t : TaskSlot) (same : i ≡ t .0) where
+  its-slot : task i ≡ t
+  its-slot = λ j. record { 0 = same j }
 
   owns : set (ts .own) i (rowAt ts i .own) ≡ ts .own
   unfolding rowAt
@@ -140,15 +141,23 @@ module _ (now : ℕ) (ts : Tasks) (o : Order) (i : ℕ) where
   unfolding rowAt
   levels = set-getD (ts .effective) i 0
 
-  pub due-turn : {n : ℕ} {p : Order} → due ≡ true → n ≡ (if eqb (getD (ts .state) i 0) 2 then 1 else 2) → p ≡ tailed o (task i)
+  pub due-turn : {n : ℕ} {p : Order} → getD (ts .wake) i 0 ≡ now → timed (getD (ts .state) i 0) ≡ true → n ≡ (if eqb (getD (ts .state) i 0) 2 then 1 else 2) → p ≡ tailed o t
       → woken (columns (set (ts .state) i 1) (set (ts .object) i 0) (set (ts .wake) i 0) (ts .own) (ts .effective) (set (ts .outcome) i n)) p
-      ≡ wakeIn now (woken ts o) (task i)
+      ≡ wakeIn now (woken ts o) t
   unfolding wakeIn put
-  due-turn {n} {p} e q r =
-      let d : wakesAt now (rowAt ts i .place) ≡ true = row-due ts i now ∙ e in
-      let t : timed (getD (ts .state) i 0) ≡ true = and-left (timed (getD (ts .state) i 0)) (eqb (getD (ts .wake) i 0) now) e in
-      rw (d, q, r, row-ended ts i t, owns, levels)
+  due-turn {n} {p} e w q r =
+      let d : wakesAt now (rowAt ts i .place) ≡ true = row-due ts i now ∙ rw (w, eq-eqb (getD (ts .wake) i 0) now e) in
+      rw (← its-slot, d, q, r, ← its-slot, row-ended ts i w, owns, levels)
 
-  pub not-turn : due ≡ false → woken ts o ≡ wakeIn now (woken ts o) (task i)
+  not-turn : (timed (getD (ts .state) i 0) && eqb (getD (ts .wake) i 0) now) ≡ false → woken ts o ≡ wakeIn now (woken ts o) t
   unfolding wakeIn
-  not-turn e = rw (row-due ts i now ∙ e)
+  not-turn e = rw (← its-slot, row-due ts i now ∙ e)
+
+  pub unused-turn : timed (getD (ts .state) i 0) ≡ false → woken ts o ≡ wakeIn now (woken ts o) t
+  unused-turn e = not-turn (ap (λ (b : Bool). b && eqb (getD (ts .wake) i 0) now) e)
+
+  pub other-turn : (getD (ts .wake) i 0 ≡ now → ⊥) → woken ts o ≡ wakeIn now (woken ts o) t
+  other-turn n = not-turn (sym (and-off (timed (getD (ts .state) i 0)) _ (ne-eqb (getD (ts .wake) i 0) now n)))
+
+  pub past-turn : length (ts .state) ≡ 16 → 16 ≤ i → woken ts o ≡ wakeIn now (woken ts o) t
+  past-turn l h = unused-turn (rw (List·getD-eq-default (ts .state) 0 {n = i} (omega arith)))

@@ -12,7 +12,7 @@ use Rattle.numbers.specs.Numbers.{task, sameTask}
 use Rattle.slots.specs.declared.Place.{Place}
 use Rattle.slots.specs.declared.Place.the-variants.{Free, Ready, Delayed, Waiting, Suspended, Spent}
 use Rattle.slots.specs.declared.Task.{Task}
-use Rattle.slots.specs.SoundSlots.{idleFine, standsFine, ordersFine, prioritiesFine, outcomeFine, freshIfFree, freeHolds, notDue, mayWaitOn}
+use Rattle.slots.specs.SoundSlots.{idleFine, standsFine, remembersFine, ordersFine, prioritiesFine, outcomeFine, freshIfFree, freeHolds, notDue, mayWaitOn}
 use Rattle.tasks.specs.declared.Tasks.{Tasks}
 use Rattle.tasks.specs.Columns.{tasksOf, rowAt, rowsOf}
 use Rattle.tasks.specs.Walks.{lineIn, readyAt, levelAt, topIn}
@@ -26,11 +26,12 @@ blocked s = eqb s 2 || waitsState s
 abbrev pub aloneFine : ℕ → Bool → Task → Bool
 aloneFine n held x =
     standsFine n (x .place)
+    && (remembersFine n (x .place)
     && (ordersFine n (x .place)
     && (prioritiesFine held x
     && (outcomeFine x
     && (freshIfFree x
-    && freeHolds held (x .place)))))
+    && freeHolds held (x .place))))))
 
 unfoldable pub rowFine : ℕ → ℕ → ℕ → ℕ → ℕ → ℕ → Bool → Bool
 rowFine s o own level outcome n held =

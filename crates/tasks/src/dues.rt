@@ -2,12 +2,11 @@
 ghost use mathlib.Core.Path.{_≡_};
 ghost use lib.Dec.{eqb};
 ghost use Rattle.lists.specs.Choice.{if_then_else_};
-ghost use Rattle.numbers.specs.Numbers.{byNumber};
+ghost use Rattle.order.specs.Order.{listed};
 ghost use Rattle.slots.specs.Places.{ahead};
 ghost use Rattle.tasks.specs.Dues.{timed, untilIn, wakeNow, wakesIn, woken};
 use crate::Tasks;
 use crate::Woken;
-use numbers::TaskSlot;
 use order::Order;
 
 // The state has a wake tick.
@@ -64,8 +63,9 @@ impl Tasks {
         found
     }
 
+    // Whoever stands earlier in the order is made ready first: it lists the delayed and the waiting as they began.
     fn woken(self, o: Order, now: u32) -> Woken
-        ensures { λ r. ⌜ r ≡ wakesIn now (woken self o) (byNumber 16) ⌝ }
+        ensures { λ r. ⌜ r ≡ wakesIn now (woken self o) (listed o) ⌝ }
     {
         let mut state = self.state;
         let mut object = self.object;
@@ -74,14 +74,22 @@ impl Tasks {
         let effective = self.effective;
         let mut outcome = self.outcome;
         let mut order = o;
+        let places = o.places;
+        let n = o.reach();
         let mut i = 0usize;
-        while i < 16 {
-            if lists::both(timed(state[i]), wake[i] == now) {
-                outcome[i] = ended(state[i]);
-                state[i] = 1;
-                object[i] = 0;
-                wake[i] = 0;
-                order = order.to_tail(TaskSlot::of(i as u8));
+        while i < n {
+            let t = places[i];
+            let s = t.slot();
+            if s < 16 {
+                if wake[s] == now {
+                    if timed(state[s]) {
+                        outcome[s] = ended(state[s]);
+                        state[s] = 1;
+                        object[s] = 0;
+                        wake[s] = 0;
+                        order = order.to_tail(t);
+                    }
+                }
             }
             i += 1;
         }
@@ -96,9 +104,9 @@ impl Tasks {
         Woken { tasks, order }
     }
 
-    // The due are made ready, in order of task number.
+    // The due are made ready; where nobody is due the order is not walked.
     pub fn wakes(self, o: Order, now: u32) -> Woken
-        ensures { λ r. ⌜ r ≡ wakesIn now (woken self o) (byNumber 16) ⌝ }
+        ensures { λ r. ⌜ r ≡ wakesIn now (woken self o) (listed o) ⌝ }
     {
         if self.someone_due(now) {
             self.woken(o, now)

@@ -51,6 +51,11 @@ pub fn line_of(kernel: &Kernel, priority: usize) -> Vec<usize> {
     kernel.lines[priority].iter().map(|task| task.index()).collect()
 }
 
+/// The slots of delayed and waiting tasks, as they began.
+pub fn order_of(kernel: &Kernel) -> Vec<usize> {
+    kernel.began.iter().map(|task| task.index()).collect()
+}
+
 pub fn slip(machine: &Machine, slot: usize, length: usize) -> &[u8] {
     &machine.store[model::store::slip(task(slot), length)]
 }

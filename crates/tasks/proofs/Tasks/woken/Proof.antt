@@ -1,46 +1,58 @@
 use borrow.Author.Needs.{needs}
-use Prim.Native.Nat.{_-_, _≤_}
-use Rattle.lists.proofs.Loops.{Upto, start, next, ended}
-use Rattle.tasks.proofs.ByNumber.{by-number}
-use Rattle.numbers.specs.Numbers.{task, object}
-use Rattle.tasks.proofs.WalkTurns.{columns, woken-alike, due-turn, not-turn}
+use Prim.Native.Nat.{_-_}
+use Rattle.lists.proofs.Loops.{Rest, begin, turn, done, length-mapped}
+use Rattle.numbers.specs.Numbers.{idle}
+use Rattle.order.proofs.Halves.{reach-listed}
+use Rattle.tasks.proofs.WalkTurns.{columns, woken-alike, due-turn, unused-turn, other-turn, past-turn}
 use Rattle.tasks.specs.Dues.{woken, wakeIn, wakesIn}
-use lib.Dec.{eqb}
-use lib.ListN.{getD}
-use mathlib.Core.Bool.{Bool, _&&_}
+use lib.ListN.{length, getD, length-set}
 use mathlib.Core.Logic.{⊎-elim}
-use mathlib.Core.Path.{sym, ap, _∙_}
+use mathlib.Core.Path.{_≡_, sym, ap, _∙_}
 use native.Mathlib.Omega.{arith}
 use Rattle.tasks.proofs.Tasks.woken.Statement.{statement}
 use Rattle.tasks.proofs.Tasks.woken.Tie as tie
 
 abbrev Inv-loop : tie.InvT-loop
-Inv-loop now state₀ object₀ wake₀ own effective outcome₀ order₀ i₀ state object wake outcome order i =
-    Upto (λ w n. wakeIn now w (task n)) (woken (columns state₀ object₀ wake₀ own effective outcome₀) order₀) (woken (columns state object wake own effective outcome) order) i × (i ≤ 16)
+Inv-loop now state₀ object₀ wake₀ own effective outcome₀ order₀ places n i₀ state object wake outcome order i =
+    Rest (wakeIn now) n places n (woken (columns state₀ object₀ wake₀ own effective outcome₀) order₀) (woken (columns state object wake own effective outcome) order) i
+    × (length state ≡ 16)
 
 abbrev μ-loop : tie.MeasureT-loop
-μ-loop now state₀ object₀ wake₀ own effective outcome₀ order₀ i₀ state object wake outcome order i = 16 - i
+μ-loop now state₀ object₀ wake₀ own effective outcome₀ order₀ places n i₀ state object wake outcome order i = n - i
 
 loop-holds : tie.Need-loop-holds Inv-loop μ-loop
-loop-holds c = (start, search needs)
+loop-holds c =
+    let len : length (c .before .before .before .before .before .before .before .before .args .o .places) ≡ 16 = search length-mapped in
+    (begin (omega arith), search needs)
 
 loop-again : tie.Need-loop-again Inv-loop μ-loop
 loop-again c =
-    let a = c .before .before .before .before .before .before .before .before .before .before .before .args in
+    let a = c .before .before .before .before .before .before .before .before .before .before .before .before .before .args in
     let l = c .before .before .before .before .loop in
     let ts = columns (l .state) (l .object) (l .wake) (a .self .own) (a .self .effective) (l .outcome) in
-    let now = a .now in
-    let is = ap (λ (b : Bool). b && eqb (getD (l .wake) (l .i) 0) now) (sym (c .before .before .timed .ensures)) ∙ sym (c .before .both .ensures) in (
-      next (l .inv .0) (⊎-elim
-          (λ v. woken-alike (v .4) (v .5) (v .6) (v .7) (v .8) ∙ due-turn now ts (l .order) (l .i) (is ∙ v .0 .taken) (v .1 .ensures) (v .3 .ensures ∙ rw (v .2 .ensures)))
-          (λ v. woken-alike (v .1) (v .2) (v .3) (v .4) (v .5) ∙ not-turn now ts (l .order) (l .i) (is ∙ v .0 .left))
+    let t = getD (a .o .places) (l .i) idle in
+    let s = c .before .slot in (
+      turn (l .inv .0) (search needs) idle
+          (⊎-elim
+          (λ v.
+          woken-alike (v .6) (v .7) (v .8) (v .9) (v .10)
+          ∙ due-turn (a .now) ts (l .order) (s .result) t (s .ensures) (v .1 .taken) (sym (v .2 .ensures) ∙ v .3 .taken) (v .4 .ensures) (v .5 .ensures))
+          (⊎-elim
+          (λ v. woken-alike (v .4) (v .5) (v .6) (v .7) (v .8) ∙ unused-turn (a .now) ts (l .order) (s .result) t (s .ensures) (sym (v .2 .ensures) ∙ v .3 .left))
+          (⊎-elim (λ v. woken-alike (v .2) (v .3) (v .4) (v .5) (v .6) ∙ other-turn (a .now) ts (l .order) (s .result) t (s .ensures) (v .1 .left))
+          (λ v. woken-alike (v .1) (v .2) (v .3) (v .4) (v .5) ∙ past-turn (a .now) ts (l .order) (s .result) t (s .ensures) (l .inv .1) (omega (arith, v .0 .left)))))
           (c .if1 .came)),
-      search needs,
+      ⊎-elim (λ v. ap length (v .6) ∙ rw length-set (l .inv .1))
+          (⊎-elim (λ v. ap length (v .4) ∙ l .inv .1) (⊎-elim (λ v. ap length (v .2) ∙ l .inv .1) (λ v. ap length (v .1) ∙ l .inv .1)))
+          (c .if1 .came),
     )
 
 returns : tie.Need-returns Inv-loop μ-loop
 unfolding wakesIn
-returns c = ended (c .before .loop .inv .0) 16 (omega arith) ∙ by-number (wakeIn (c .before .before .before .before .before .before .before .before .args .now)) 16 _
+returns c =
+    let a = c .before .before .before .before .before .before .before .before .before .before .args in
+    let len : length (a .o .places) ≡ 16 = search length-mapped in
+    done (c .before .loop .inv .0) (search needs) ∙ rw (c .before .before .reach .ensures, reach-listed (a .o) len)
 
 pub woken-spec : {M : Type 1} → statement M
 woken-spec =
@@ -48,21 +60,21 @@ woken-spec =
     (tie.spec
     Inv-loop
     μ-loop
+    (λ c κs. search needs)
     loop-holds
     (λ c. search needs)
     (λ c κs. search needs)
     (λ c. search needs)
     (λ c. search needs)
-    (λ c κs. search needs)
     (λ c. search needs)
     (λ c κs. search needs)
     (λ c. search needs)
-    (λ c. search needs)
-    (λ c. search needs)
-    (λ c. search needs)
-    (λ c. search needs)
-    (λ c. search needs)
     (λ c κs. search needs)
+    (λ c. search needs)
+    (λ c. search needs)
+    (λ c. search needs)
+    (λ c. search needs)
+    (λ c. search needs)
     (λ c κs. search needs)
     (λ c. search needs)
     (λ c. search needs)

@@ -1,0 +1,280 @@
+-- What each call makes of the order of those who began: those who are not done stand as they stood, and a caller that begins stands last.
+use Prim.Native.Nat.{ℕ, zero, suc, _+_, _-_, _<_}
+use mathlib.Core.Path.{_≡_, refl, sym, ap, subst, _∙_}
+use mathlib.Core.Bool.{Bool, true, false, false≢true}
+use mathlib.Core.List.{List, [], _∷_}
+use native.Mathlib.Omega.{arith}
+use lib.Dec.{eqb, ltb}
+use Rattle.lists.specs.Choice.{if_then_else_}
+use Rattle.lists.specs.Lists.{foldl, upTo, kept}
+use Rattle.lists.proofs.Bools.{untrue}
+use Rattle.numbers.specs.Numbers.{task}
+use Rattle.calls.specs.Door.{taskSlot, objSlot, lastIn}
+use Rattle.calls.specs.Behind.{asked}
+use Rattle.order.specs.Order.{listed}
+use Rattle.slots.specs.Places.{isBlocked, isListed, wakesAt, outcomeDue}
+use Rattle.slots.specs.Values.{freeTask, spentTask, readyAt, placed, brokenOff, taskAt}
+use Rattle.slots.specs.Kinds.{kindAt}
+use Rattle.rules.specs.Types.{TaskSlot, ObjSlot, Place, Ready, Delayed, Waiting, Task, Ring, WaitersOf}
+use Rattle.rules.specs.Types.{Call, Create, Delete, Suspend, Resume, SetPriority, Delay, Yield, Hold, Release, MakeQueue, MakeMutex, Remove, Send, Receive, Take, Give, Tick, State}
+use Rattle.rules.specs.Tables.{freeSlot, holds, withTask, withHold}
+use Rattle.rules.specs.Lines.{hasBegun, begun, level, first, toTail, leaves}
+use Rattle.rules.specs.Sound.{noHigher}
+use Rattle.rules.specs.Sentences.{Sound}
+use Rattle.rules.specs.Waits.{later, wakeOf, arrives, waitFor}
+use Rattle.rules.specs.Loans.{newPriority, lent, ownAgain, prioritized}
+use Rattle.rules.specs.Ticks.{held, wokenIfDue, wakes, oneTick, turned, ticked, ticks, released}
+use Rattle.rules.specs.Rings.{oneLess}
+use Rattle.rules.specs.Queues.{sentBy, sent, sentTo, refilledBy, received, receivedFrom}
+use Rattle.rules.specs.Effects.{effect, created, deleted, suspended, resumed, yielded, delayed, queueMade, mutexMade, removed, takenFrom, taken, handedTo, handedOn, given}
+use Rattle.rows.specs.Applies.{namesNone, noneFree}
+use Rattle.rules.proofs.TableSlots.{passes-there, passes-blocked, by-kind}
+use Rattle.rules.proofs.TableWithin.{first-within, first-single, by-outlet}
+use Rattle.rules.proofs.SoundLists.{listing-room}
+use Rattle.rules.proofs.RowPasses.{Passed}
+use Rattle.rules.proofs.Keeps.{there-low, ready-low}
+use Rattle.rules.proofs.KeepBlocks.{prioritized-same}
+use Rattle.rules.proofs.KeepTasks.{has-slot}
+use Rattle.rules.proofs.KeepTicks.{due-there, tick-after}
+use Rattle.rules.proofs.KeepTaken.{each-task}
+use Rattle.rules.proofs.Begun.{Fades, Remembers, RoomyIn, Fade, Remember, onward, none-begins, then-begins, stays, tail-fades, leave-fades}
+use Rattle.rules.proofs.Begun.{set-roomy, set-fades, set-at, arrives-fades, prioritized-fades, arrives-begins}
+
+-- ── the wakes of a tick
+-- who is due has begun
+pub due-blocked : (n : ℕ) (p : Place) → wakesAt n p ≡ true → isBlocked p ≡ true
+due-blocked n p e = passes-blocked (wakesAt n) p refl refl refl refl e
+
+-- a wake begins nothing
+woken-fewer : (k : State) (t u : TaskSlot) → hasBegun (wokenIfDue k t .tasks) u ≡ true → hasBegun (k .tasks) u ≡ true
+unfolding wokenIfDue arrives toTail
+woken-fewer k t u = go (wakesAt (k .tick) (taskAt (k .tasks) t .place))
+  where
+    x : Task
+    x = placed (taskAt (k .tasks) t) Ready (outcomeDue (taskAt (k .tasks) t .place))
+
+    go : (b : Bool) → hasBegun ((if b then toTail (withTask k t x) t else k) .tasks) u ≡ true → hasBegun (k .tasks) u ≡ true
+    go true = each-task (k .tasks) t x (λ v y. isBlocked (y .place) ≡ true → hasBegun (k .tasks) v ≡ true) (λ e. absurd (false≢true e)) (λ v e. e) u
+    go false = λ e. e
+
+none-woken : (k : State) (t : TaskSlot) → hasBegun (k .tasks) t ≡ false → wokenIfDue k t ≡ k
+unfolding wokenIfDue
+none-woken k t e = rw (untrue (wakesAt (k .tick) (taskAt (k .tasks) t .place)) (λ d. false≢true (sym e ∙ due-blocked (k .tick) (taskAt (k .tasks) t .place) d)))
+
+-- of the listed, only those who began are woken: the walk of the whole order is the walk of those
+module _ (ts : List Task) where
+  wakes-those : (l : List TaskSlot) (k : State) → ((t : TaskSlot) → hasBegun (k .tasks) t ≡ true → hasBegun ts t ≡ true) → foldl wokenIfDue k l ≡ foldl wokenIfDue k (begun ts l)
+  unfolding foldl begun kept
+  wakes-those [] k f = refl
+  wakes-those (t ∷ l) k f = go (hasBegun ts t) refl (wakes-those l (wokenIfDue k t) (λ u e. f u (woken-fewer k t u e)))
+    where
+      as-it-was : hasBegun ts t ≡ false → wokenIfDue k t ≡ k
+      as-it-was e = none-woken k t (untrue (hasBegun (k .tasks) t) (λ h. false≢true (sym e ∙ f t h)))
+
+      go : (b : Bool) → hasBegun ts t ≡ b → foldl wokenIfDue (wokenIfDue k t) l ≡ foldl wokenIfDue (wokenIfDue k t) (kept (hasBegun ts) l)
+          → foldl wokenIfDue (wokenIfDue k t) l ≡ foldl wokenIfDue k (if b then t ∷ kept (hasBegun ts) l else kept (hasBegun ts) l)
+      go true e ih = ih
+      go false e ih = ih ∙ ap (λ (j : State). foldl wokenIfDue j (kept (hasBegun ts) l)) (as-it-was e)
+
+pub wakes-begun : (k : State) (l : List TaskSlot) → wakes k l ≡ wakes k (begun (k .tasks) l)
+unfolding wakes
+wakes-begun k l = wakes-those (k .tasks) l k (λ t e. e)
+
+module _ (k : State) (R : RoomyIn k) where
+  pub woken-fades : (t : TaskSlot) → Fade k (wokenIfDue k t)
+  unfolding wokenIfDue
+  woken-fades t = go (wakesAt (k .tick) (taskAt (k .tasks) t .place)) refl
+    where
+      go : (b : Bool) → wakesAt (k .tick) (taskAt (k .tasks) t .place) ≡ b → Fade k (if b then arrives k t Ready (outcomeDue (taskAt (k .tasks) t .place)) else k)
+      go true e = arrives-fades k R t Ready _ refl (there-low (k .tasks) t (R .many) (due-there (k .tick) (taskAt (k .tasks) t .place) e))
+      go false e = stays R
+
+wakes-fade : (l : List TaskSlot) (k : State) → RoomyIn k → Fade k (foldl wokenIfDue k l)
+unfolding foldl
+wakes-fade [] k R = stays R
+wakes-fade (t ∷ l) k R = let f = woken-fades k R t in onward f (wakes-fade l (wokenIfDue k t) (f .roomy))
+
+pub tick-fades : (k : State) → RoomyIn k → Fade k (oneTick k)
+unfolding oneTick wakes
+tick-fades k R = wakes-fade (begun (k .tasks) (listed (k .order))) _ R
+
+loop-fades : (n : ℕ) (k : State) → RoomyIn k → Fade k (upTo (λ x i. oneTick x) n k)
+unfolding upTo
+loop-fades zero k R = stays R
+loop-fades (suc n) k R = let f = loop-fades n k R in onward f (tick-fades (upTo (λ x i. oneTick x) n k) (f .roomy))
+
+pub released-fades : (k : State) → RoomyIn k → Fade k (released k)
+unfolding released ticks
+released-fades k R = go (eqb (k .hold) 1)
+  where
+    go : (b : Bool) → Fade k (if b then ticks (k .pended) (withHold k 0 0) else withHold k (k .hold - 1) (k .pended))
+    go true = loop-fades (k .pended) (withHold k 0 0) R
+    go false = stays R
+
+-- ── the calls
+module _ (k : State) (S : Sound k) where
+  pub roomy-in : RoomyIn k
+  roomy-in = record { many = S .tables .task-slots; room = listing-room (k .tasks) (k .order) (S .tables .task-slots) (S .listing) }
+
+  -- the caller is ready, and its slot is one of the 16
+  pub caller-ready : hasBegun (k .tasks) (k .running) ≡ false
+  caller-ready = ap isBlocked (S .running .runs .ready)
+
+  caller-low : k .running .0 < 16
+  caller-low = ready-low (k .tasks) (k .running) (S .tables .task-slots) (S .running .runs .ready)
+
+  first-low : (o : ObjSlot) (t : TaskSlot) (l : List TaskSlot) → first k (WaitersOf o) ≡ t ∷ l → t .0 < 16
+  first-low o t l e = omega (arith, first-within k (WaitersOf o) t (first-single k (WaitersOf o) t l e), S .tables .task-slots)
+
+  yielded-fades : Fade k (yielded k)
+  unfolding yielded toTail
+  yielded-fades = tail-fades roomy-in (k .running) caller-ready caller-low
+
+  ticked-fades : Fade k (ticked k)
+  unfolding ticked turned toTail
+  ticked-fades = go (ltb 0 (k .hold)) (noHigher (oneTick k .tasks) (level (oneTick k .tasks) (oneTick k .running)) (listed (oneTick k .order)))
+    where
+      f : Fade k (oneTick k)
+      f = tick-fades k roomy-in
+
+      ready : taskAt (oneTick k .tasks) (oneTick k .running) .place ≡ Ready
+      ready = let A = tick-after k in ap (λ r. taskAt (oneTick k .tasks) r .place) (A .running) ∙ A .ready (k .running) (S .running .runs .ready)
+
+      go : (a b : Bool) → Fade k (if a then withHold k (k .hold) (k .pended + 1) else (if b then toTail (oneTick k) (oneTick k .running) else oneTick k))
+      go true b = stays roomy-in
+      go false true = onward f (tail-fades (f .roomy) (oneTick k .running) (ap isBlocked ready) (ready-low (oneTick k .tasks) (oneTick k .running) (f .roomy .many) ready))
+      go false false = f
+
+  suspended-fades : (t : TaskSlot) → Fade k (suspended k t)
+  unfolding suspended leaves
+  suspended-fades t = go (isListed (taskAt (k .tasks) t .place)) refl
+    where
+      x : Task
+      x = brokenOff (taskAt (k .tasks) t)
+
+      go : (b : Bool) → isListed (taskAt (k .tasks) t .place) ≡ b → Fade k (if b then leaves (withTask k t x) t else k)
+      go true e =
+          let low = there-low (k .tasks) t (roomy-in .many) (passes-there isListed (taskAt (k .tasks) t .place) refl refl e) in
+          onward (set-fades k roomy-in t x (λ b. absurd (false≢true b))) (leave-fades (set-roomy k roomy-in t x) t (ap (λ (y : Task). isBlocked (y .place)) (set-at k roomy-in t x low)))
+      go false e = stays roomy-in
+
+  deleted-fades : (t : TaskSlot) (last : Bool) → t .0 < 16 → Fade k (deleted k t last)
+  unfolding deleted leaves
+  deleted-fades t last low = go last
+    where
+      gone : (x : Task) → isBlocked (x .place) ≡ false → Fade k (leaves (withTask k t x) t)
+      gone x e = onward (set-fades k roomy-in t x (λ b. absurd (false≢true (sym e ∙ b)))) (leave-fades (set-roomy k roomy-in t x) t (ap (λ (y : Task). isBlocked (y .place)) (set-at k roomy-in t x low) ∙ e))
+
+      go : (b : Bool) → Fade k (leaves (withTask k t (if b then spentTask else freeTask)) t)
+      go true = gone spentTask refl
+      go false = gone freeTask refl
+
+  created-fades : (p : ℕ) → freeSlot (k .tasks) < 16 → Fade k (created k p)
+  unfolding created toTail
+  created-fades p low =
+      let t = task (freeSlot (k .tasks)) in
+      onward (set-fades k roomy-in t (readyAt p) (λ b. absurd (false≢true b))) (tail-fades (set-roomy k roomy-in t (readyAt p)) t (ap (λ (y : Task). isBlocked (y .place)) (set-at k roomy-in t (readyAt p) low)) low)
+
+  own-again-fades : (j : State) → RoomyIn j → (t : TaskSlot) → Fade j (ownAgain j t)
+  unfolding ownAgain
+  own-again-fades j Q t = go (holds (j .objects) t)
+    where
+      go : (b : Bool) → Fade j (if b then j else prioritized j t (taskAt (j .tasks) t .own) (taskAt (j .tasks) t .own))
+      go true = stays Q
+      go false = prioritized-fades j Q t _ _
+
+  given-fades : (o : ObjSlot) → Fade k (given k o)
+  unfolding given handedOn
+  given-fades o = let f = handed (first k (WaitersOf o)) refl in onward f (own-again-fades (handedOn k o) (f .roomy) (k .running))
+    where
+      handed : (l : List TaskSlot) → first k (WaitersOf o) ≡ l → Fade k (handedTo k o l)
+      handed [] e = stays roomy-in
+      handed (t ∷ l) e = arrives-fades k roomy-in t Ready 1 refl (first-low o t l e)
+
+  -- the caller begins to wait
+  wait-begins : (o : ObjSlot) (w : ℕ) → Remember k (waitFor k o w)
+  unfolding waitFor
+  wait-begins o w = arrives-begins k roomy-in (k .running) (Waiting o (wakeOf (k .tick) w)) 0 refl caller-ready caller-low
+
+  quietly : {us : List Task} {m : List TaskSlot} → Fades (k .tasks) (listed (k .order)) us m → Remembers (k .running) (k .tasks) (listed (k .order)) us m
+  quietly f = none-begins caller-ready f
+
+  delayed-remembers : (n : ℕ) → Remember k (delayed k n)
+  unfolding delayed
+  delayed-remembers n = go (eqb n 0)
+    where
+      go : (b : Bool) → Remember k (if b then yielded k else arrives k (k .running) (Delayed (later (k .tick) n)) 0)
+      go true = quietly yielded-fades
+      go false = arrives-begins k roomy-in (k .running) (Delayed (later (k .tick) n)) 0 refl caller-ready caller-low
+
+  sent-remembers : (o : ObjSlot) (q : Ring) (w : ℕ) → Remember k (sent k o q w)
+  unfolding sent
+  sent-remembers o q w =
+      by-outlet k o q (λ x. Remember k (sentBy k o q w x)) (λ t e. quietly (arrives-fades k roomy-in t Ready 1 refl (first-low o t [] e))) (quietly (stays roomy-in)) (wait-begins o w)
+
+  received-remembers : (o : ObjSlot) (q : Ring) (w : ℕ) → Remember k (received k o q w)
+  unfolding received
+  received-remembers o q w = go (eqb (q .count) 0) (first k (WaitersOf o)) refl
+    where
+      go : (b : Bool) (l : List TaskSlot) → first k (WaitersOf o) ≡ l → Remember k (if b then waitFor k o w else refilledBy k o (oneLess q) l)
+      go true l e = wait-begins o w
+      go false [] e = quietly (stays roomy-in)
+      go false (t ∷ l) e = quietly (arrives-fades _ roomy-in t Ready 1 refl (first-low o t l e))
+
+  send-remembers : (o : ObjSlot) (w : ℕ) → Remember k (sentTo k o (kindAt (k .objects) o) w)
+  send-remembers o w =
+      by-kind (kindAt (k .objects) o) (λ x. Remember k (sentTo k o x w)) (quietly (stays roomy-in)) (quietly (stays roomy-in)) (λ q e. sent-remembers o q w) (λ e. quietly (stays roomy-in)) (λ h e. quietly (stays roomy-in))
+
+  receive-remembers : (o : ObjSlot) (w : ℕ) → Remember k (receivedFrom k o (kindAt (k .objects) o) w)
+  receive-remembers o w =
+      by-kind (kindAt (k .objects) o) (λ x. Remember k (receivedFrom k o x w)) (quietly (stays roomy-in)) (quietly (stays roomy-in)) (λ q e. received-remembers o q w) (λ e. quietly (stays roomy-in))
+      (λ h e. quietly (stays roomy-in))
+
+  -- the holder is lent to, and then the caller begins to wait
+  module _ (h : TaskSlot) where
+    lent-fades : Fade k (lent k h)
+    unfolding lent
+    lent-fades = prioritized-fades k roomy-in h _ _
+
+    lent-running : lent k h .running ≡ k .running
+    unfolding lent
+    lent-running = prioritized-same k h _ _ .running
+
+    lent-ready : hasBegun (lent k h .tasks) (lent k h .running) ≡ false
+    lent-ready = untrue _ (λ e. false≢true (sym caller-ready ∙ ap (hasBegun (k .tasks)) (sym lent-running) ∙ lent-fades .fewer (lent k h .running) e))
+
+    lent-waits : (o : ObjSlot) (w : ℕ) → Remember k (waitFor (lent k h) o w)
+    unfolding waitFor
+    lent-waits o w =
+        then-begins caller-ready lent-fades
+        (subst (λ r. Remembers r (lent k h .tasks) (listed (lent k h .order)) (waitFor (lent k h) o w .tasks) (listed (waitFor (lent k h) o w .order))) lent-running
+        (arrives-begins (lent k h) (lent-fades .roomy) (lent k h .running) (Waiting o (wakeOf (lent k h .tick) w)) 0 refl lent-ready (rw lent-running caller-low)))
+
+  taken-remembers : (o : ObjSlot) (w : ℕ) → Remember k (taken k o w)
+  unfolding taken
+  taken-remembers o w =
+      by-kind (kindAt (k .objects) o) (λ x. Remember k (takenFrom k o x w)) (quietly (stays roomy-in)) (quietly (stays roomy-in)) (λ q e. quietly (stays roomy-in)) (λ e. quietly (stays roomy-in))
+      (λ h e. lent-waits h o w)
+
+-- ── every call
+pub effect-remembers : (k : State) → Sound k → (n : ℕ) (c : Call) → Passed k (asked (k .uses) c) n → Remember k (effect k (asked (k .uses) c))
+unfolding effect asked namesNone noneFree resumed newPriority held queueMade mutexMade removed
+effect-remembers k S n (Create p) P = quietly k S (created-fades k S p (omega (arith, has-slot k S n p P, S .tables .task-slots)))
+effect-remembers k S n (Delete t) P =
+    let u = taskSlot (k .uses) t in quietly k S (deleted-fades k S u (lastIn (k .uses .tasks) (u .0)) (there-low (k .tasks) u (S .tables .task-slots) (P .named)))
+effect-remembers k S n (Suspend t) P = quietly k S (suspended-fades k S (taskSlot (k .uses) t))
+effect-remembers k S n (Resume t) P =
+    let u = taskSlot (k .uses) t in quietly k S (arrives-fades k (roomy-in k S) u Ready _ refl (there-low (k .tasks) u (S .tables .task-slots) (P .named)))
+effect-remembers k S n (SetPriority t p) P = quietly k S (prioritized-fades k (roomy-in k S) (taskSlot (k .uses) t) p _)
+effect-remembers k S n (Delay d) P = delayed-remembers k S d
+effect-remembers k S n Yield P = quietly k S (yielded-fades k S)
+effect-remembers k S n Hold P = quietly k S (stays (roomy-in k S))
+effect-remembers k S n Release P = quietly k S (released-fades k (roomy-in k S))
+effect-remembers k S n (MakeQueue c z) P = quietly k S (stays (roomy-in k S))
+effect-remembers k S n MakeMutex P = quietly k S (stays (roomy-in k S))
+effect-remembers k S n (Remove o) P = quietly k S (stays (roomy-in k S))
+effect-remembers k S n (Send o w) P = send-remembers k S (objSlot (k .uses) o) w
+effect-remembers k S n (Receive o w) P = receive-remembers k S (objSlot (k .uses) o) w
+effect-remembers k S n (Take o w) P = taken-remembers k S (objSlot (k .uses) o) w
+effect-remembers k S n (Give o) P = quietly k S (given-fades k S (objSlot (k .uses) o))
+effect-remembers k S n Tick P = quietly k S (ticked-fades k S)

@@ -1,0 +1,308 @@
+-- Two who are due on one tick: who stands ahead in the order of those who began is made ready first, and then stands ahead in the one order.
+use Prim.Native.Nat.{ℕ, zero, suc, _+_, _<_, _≤_}
+use mathlib.Core.Path.{_≡_, refl, sym, ap, _∙_}
+use mathlib.Core.Bool.{Bool, true, false, _||_, false≢true}
+use mathlib.Core.List.{List, [], _∷_, _++_, append-nil}
+use mathlib.Core.Logic.{_⊎_, inl, inr}
+use native.Mathlib.Omega.{arith}
+use lib.Dec.{eqb}
+use borrow.Author.Tests.{eqb-true, eqb-false, eq-eqb, ne-eqb}
+use Rattle.lists.specs.Choice.{if_then_else_}
+use Rattle.lists.specs.Lists.{foldl, upTo, kept}
+use Rattle.lists.proofs.Bools.{or-right}
+use Rattle.lists.proofs.Tests.{kept-within}
+use Rattle.numbers.specs.Numbers.{sameTask}
+use Rattle.order.specs.Order.{listed, without}
+use Rattle.order.specs.Tidy.{count}
+use Rattle.order.proofs.Counts.{count-one}
+use Rattle.order.proofs.CountPassing.{count-kept}
+use Rattle.order.proofs.Passing.{kept-tail, kept-not, one-number}
+use Rattle.order.proofs.Fits.{fits-listed, fits-tail}
+use Rattle.slots.specs.Places.{isBlocked, wakesAt}
+use Rattle.slots.specs.Values.{inLine, taskAt}
+use Rattle.rules.specs.Types.{TaskSlot, Never, At, Place, Free, Ready, Delayed, Waiting, Suspended, Spent, Task, State}
+use Rattle.rules.specs.Tables.{withTick}
+use Rattle.rules.specs.Lines.{line, hasBegun, begun, isOneOf, Ahead, toTail}
+use Rattle.rules.specs.Waits.{later, arrives}
+use Rattle.rules.specs.Ticks.{wokenIfDue, wakes, ReadyFirst, oneTick, ticks}
+use Rattle.rules.proofs.KeepSlot.{at-same, at-other}
+use Rattle.rules.proofs.Keeps.{there-low}
+use Rattle.rules.proofs.KeepTicks.{due-there}
+use Rattle.rules.proofs.Begun.{RoomyIn}
+use Rattle.rules.proofs.BegunCalls.{due-blocked, woken-fades}
+
+-- who is due at w is due at n exactly if n is w
+pub due-at : (w n : ℕ) (p : Place) → wakesAt w p ≡ true → wakesAt n p ≡ eqb w n
+due-at w n Free e = absurd (false≢true e)
+due-at w n Ready e = absurd (false≢true e)
+due-at w n (Delayed v) e = rw (eqb-true v w e)
+due-at w n (Waiting o Never) e = absurd (false≢true e)
+due-at w n (Waiting o (At v)) e = rw (eqb-true v w e)
+due-at w n Suspended e = absurd (false≢true e)
+due-at w n Spent e = absurd (false≢true e)
+
+-- ── one wake
+abbrev pub dueNow : State → TaskSlot → Bool
+dueNow k x = wakesAt (k .tick) (taskAt (k .tasks) x .place)
+
+module _ (k : State) (R : RoomyIn k) (x : TaskSlot) where
+  -- who is not due stays as it is
+  passed-over : dueNow k x ≡ false → wokenIfDue k x ≡ k
+  unfolding wokenIfDue
+  passed-over e = rw e
+
+  module _ (e : dueNow k x ≡ true) where
+    low : x .0 < 16
+    low = there-low (k .tasks) x (R .many) (due-there (k .tick) (taskAt (k .tasks) x .place) e)
+
+    woken-last : listed (wokenIfDue k x .order) ≡ without x (listed (k .order)) ++ (x ∷ [])
+    unfolding wokenIfDue arrives toTail
+    woken-last = rw e (fits-listed (without x (listed (k .order)) ++ (x ∷ [])) (fits-tail x (listed (k .order)) (R .room) low))
+
+    woken-ready : taskAt (wokenIfDue k x .tasks) x .place ≡ Ready
+    unfolding wokenIfDue arrives toTail
+    woken-ready = rw e (ap (λ (y : Task). y .place) (at-same (k .tasks) x _ (omega (arith, R .many, low))))
+
+    woken-others : (v : TaskSlot) → (v .0 ≡ x .0 → ⊥) → taskAt (wokenIfDue k x .tasks) v ≡ taskAt (k .tasks) v
+    unfolding wokenIfDue arrives toTail
+    woken-others v n = rw e (at-other (k .tasks) x _ v n)
+
+    woken-tick : wokenIfDue k x .tick ≡ k .tick
+    unfolding wokenIfDue arrives toTail
+    woken-tick = rw e
+
+module _ (t u : TaskSlot) (differ : t .0 ≡ u .0 → ⊥) where
+  abbrev pair : List TaskSlot → List TaskSlot
+  pair l = kept (isOneOf t u) l
+
+  -- ── where a task goes to the tail
+  pair-tail : (x : TaskSlot) (l : List TaskSlot) → pair (without x l ++ (x ∷ [])) ≡ without x (pair l) ++ (if isOneOf t u x then x ∷ [] else [])
+  pair-tail x l = kept-tail x (isOneOf t u) (isOneOf t u) (λ v n. refl) l
+
+  not-one : (x : TaskSlot) → (x .0 ≡ t .0 → ⊥) → (x .0 ≡ u .0 → ⊥) → isOneOf t u x ≡ false
+  not-one x a b = rw (ne-eqb (x .0) (t .0) a, ne-eqb (x .0) (u .0) b)
+
+  pub other-to-tail : (x : TaskSlot) → (x .0 ≡ t .0 → ⊥) → (x .0 ≡ u .0 → ⊥) → (l : List TaskSlot) → pair (without x l ++ (x ∷ [])) ≡ pair l
+  other-to-tail x a b l = pair-tail x l ∙ rw (not-one x a b, append-nil) (kept-not x (isOneOf t u) (not-one x a b) l)
+
+  first-to-tail : (l : List TaskSlot) → pair l ≡ t ∷ u ∷ [] → pair (without t l ++ (t ∷ [])) ≡ u ∷ t ∷ []
+  unfolding without
+  first-to-tail l e = pair-tail t l ∙ rw (e, eq-eqb (t .0) (t .0) refl, ne-eqb (u .0) (t .0) (λ q. differ (sym q)))
+
+  second-to-tail : (l : List TaskSlot) → pair l ≡ u ∷ t ∷ [] → pair (without u l ++ (u ∷ [])) ≡ t ∷ u ∷ []
+  unfolding without
+  second-to-tail l e = pair-tail u l ∙ rw (e, eq-eqb (u .0) (u .0) refl, ne-eqb (t .0) (u .0) differ, ne-eqb (u .0) (t .0) (λ q. differ (sym q)))
+
+  -- ── neither is due: both stay as they are, and stand to each other as they stood
+  record Spared (k j : State) : Type 0 where
+    roomy : RoomyIn j
+    tick : j .tick ≡ k .tick
+    first : taskAt (j .tasks) t ≡ taskAt (k .tasks) t
+    second : taskAt (j .tasks) u ≡ taskAt (k .tasks) u
+    order : pair (listed (j .order)) ≡ pair (listed (k .order))
+
+  one-spared : (k : State) → RoomyIn k → (x : TaskSlot) → (x .0 ≡ t .0 → dueNow k x ≡ false) → (x .0 ≡ u .0 → dueNow k x ≡ false) → Spared k (wokenIfDue k x)
+  one-spared k R x f g = go (dueNow k x) refl
+    where
+      go : (b : Bool) → dueNow k x ≡ b → Spared k (wokenIfDue k x)
+      go false e = rw (passed-over k R x e) (record { roomy = R; tick = refl; first = refl; second = refl; order = refl })
+      go true e =
+          let a : x .0 ≡ t .0 → ⊥ = λ q. false≢true (sym (f q) ∙ e) in
+          let b : x .0 ≡ u .0 → ⊥ = λ q. false≢true (sym (g q) ∙ e) in
+          record {
+            roomy = woken-fades k R x .roomy;
+            tick = woken-tick k R x e;
+            first = woken-others k R x e t (λ q. a (sym q));
+            second = woken-others k R x e u (λ q. b (sym q));
+            order = rw (woken-last k R x e) (other-to-tail x a b (listed (k .order)));
+          }
+
+  -- who is due before a wake that spares it is due after it
+  still-due : (k j : State) (x : TaskSlot) {b : Bool} → j .tick ≡ k .tick → taskAt (j .tasks) x ≡ taskAt (k .tasks) x → dueNow k x ≡ b → dueNow j x ≡ b
+  still-due k j x e f d = rw (e, f) d
+
+  all-spared : (m : List TaskSlot) (k : State) → RoomyIn k → dueNow k t ≡ false → dueNow k u ≡ false → Spared k (foldl wokenIfDue k m)
+  unfolding foldl
+  all-spared [] k R f g = record { roomy = R; tick = refl; first = refl; second = refl; order = refl }
+  all-spared (x ∷ m) k R f g =
+      let a = one-spared k R x (λ q. ap (dueNow k) (one-number x t q) ∙ f) (λ q. ap (dueNow k) (one-number x u q) ∙ g) in
+      let b = all-spared m (wokenIfDue k x) (a .roomy) (still-due k (wokenIfDue k x) t (a .tick) (a .first) f) (still-due k (wokenIfDue k x) u (a .tick) (a .second) g) in
+      record { roomy = b .roomy; tick = b .tick ∙ a .tick; first = b .first ∙ a .first; second = b .second ∙ a .second; order = b .order ∙ a .order }
+
+  -- ── both are ready, and t stands ahead
+  pub record BothReady (j : State) : Type 0 where
+    pub roomy : RoomyIn j
+    pub first : taskAt (j .tasks) t .place ≡ Ready
+    pub second : taskAt (j .tasks) u .place ≡ Ready
+    pub ahead : Ahead t u (listed (j .order))
+
+  ready-spared : (m : List TaskSlot) (k : State) → BothReady k → BothReady (foldl wokenIfDue k m)
+  ready-spared m k B =
+      let a = all-spared m k (B .roomy) (ap (wakesAt (k .tick)) (B .first)) (ap (wakesAt (k .tick)) (B .second)) in
+      record {
+        roomy = a .roomy;
+        first = ap (λ (y : Task). y .place) (a .first) ∙ B .first;
+        second = ap (λ (y : Task). y .place) (a .second) ∙ B .second;
+        ahead = a .order ∙ B .ahead;
+      }
+
+  -- t is ready, and u is still due
+  then-second : (m : List TaskSlot) (k : State) → RoomyIn k → taskAt (k .tasks) t .place ≡ Ready → dueNow k u ≡ true → 1 ≤ count (u .0) m → pair (listed (k .order)) ≡ u ∷ t ∷ []
+      → BothReady (foldl wokenIfDue k m)
+  unfolding foldl count
+  then-second [] k R f d c o = absurd (omega arith)
+  then-second (x ∷ m) k R f d c o = go (eqb (x .0) (u .0)) refl c (then-second m (wokenIfDue k x))
+    where
+      j : State
+      j = wokenIfDue k x
+
+      go : (b : Bool) → eqb (x .0) (u .0) ≡ b → 1 ≤ (if b then 1 else 0) + count (u .0) m
+          → (RoomyIn j → taskAt (j .tasks) t .place ≡ Ready → dueNow j u ≡ true → 1 ≤ count (u .0) m → pair (listed (j .order)) ≡ u ∷ t ∷ [] → BothReady (foldl wokenIfDue j m))
+          → BothReady (foldl wokenIfDue j m)
+      go true e n ih =
+          let q : x ≡ u = one-number x u (eqb-true (x .0) (u .0) e) in
+          let h : dueNow k x ≡ true = ap (dueNow k) q ∙ d in
+          ready-spared m j record {
+            roomy = woken-fades k R x .roomy;
+            first = ap (λ (y : Task). y .place) (woken-others k R x h t (λ z. differ (z ∙ ap (λ (v : TaskSlot). v .0) q))) ∙ f;
+            second = rw (sym q) (woken-ready k R x h);
+            ahead = rw (woken-last k R x h, q) (second-to-tail (listed (k .order)) o);
+          }
+      go false e n ih =
+          let a = one-spared k R x (λ z. ap (wakesAt (k .tick)) (ap (λ v. taskAt (k .tasks) v .place) (one-number x t z) ∙ f)) (λ z. absurd (eqb-false (x .0) (u .0) e z)) in
+          ih (a .roomy) (ap (λ (y : Task). y .place) (a .first) ∙ f) (still-due k j u (a .tick) (a .second) d) (omega arith) (a .order ∙ o)
+
+  -- both are due, and t stands ahead in the list that is walked and in the order
+  one-left : (m : List TaskSlot) → pair m ≡ u ∷ [] → 1 ≤ count (u .0) m
+  one-left m e =
+      let p : isOneOf t u u ≡ true = or-right (sameTask u t) (sameTask u u) (eq-eqb (u .0) (u .0) refl) in
+      let c : count (u .0) (pair m) ≡ count (u .0) m = count-kept (isOneOf t u) (u .0) m ∙ rw p in
+      let d : count (u .0) (pair m) ≡ 1 = ap (count (u .0)) e ∙ count-one u in
+      omega arith
+
+  record Both (k : State) (m : List TaskSlot) : Type 0 where
+    both : BothReady (foldl wokenIfDue k m)
+    order : ReadyFirst t u k m
+
+  both-due : (m : List TaskSlot) (k : State) → RoomyIn k → dueNow k t ≡ true → dueNow k u ≡ true → pair m ≡ t ∷ u ∷ [] → pair (listed (k .order)) ≡ t ∷ u ∷ [] → Both k m
+  unfolding foldl kept wakes
+  both-due [] k R d e p o = absurd (let z : _≡_ {A = ℕ} 0 1 = cc in omega arith)
+  both-due (x ∷ m) k R d e p o = go (eqb (x .0) (t .0)) refl (eqb (x .0) (u .0)) refl p (both-due m (wokenIfDue k x))
+    where
+      j : State
+      j = wokenIfDue k x
+
+      go : (a : Bool) → eqb (x .0) (t .0) ≡ a → (b : Bool) → eqb (x .0) (u .0) ≡ b → (if a || b then x ∷ kept (isOneOf t u) m else kept (isOneOf t u) m) ≡ t ∷ u ∷ []
+          → (RoomyIn j → dueNow j t ≡ true → dueNow j u ≡ true → pair m ≡ t ∷ u ∷ [] → pair (listed (j .order)) ≡ t ∷ u ∷ [] → Both j m)
+          → Both k (x ∷ m)
+      go true f b g q ih =
+          let s : x ≡ t = one-number x t (eqb-true (x .0) (t .0) f) in
+          let h : dueNow k x ≡ true = ap (dueNow k) s ∙ d in
+          let now-ready : taskAt (j .tasks) t .place ≡ Ready = rw (sym s) (woken-ready k R x h) in
+          let not-u : u .0 ≡ x .0 → ⊥ = λ z. differ (sym (z ∙ ap (λ (v : TaskSlot). v .0) s)) in
+          let u-same : taskAt (j .tasks) u ≡ taskAt (k .tasks) u = woken-others k R x h u not-u in
+          let left : pair m ≡ u ∷ [] = cc in
+          record {
+            both = then-second m j (woken-fades k R x .roomy) now-ready (still-due k j u (woken-tick k R x h) u-same e) (one-left m left)
+                (rw (woken-last k R x h, s) (first-to-tail (listed (k .order)) o));
+            order = record {
+              so-far = x ∷ [];
+              rest = m;
+              all = refl;
+              ready = now-ready;
+              not-yet = ap (λ (y : Task). isBlocked (y .place)) u-same ∙ due-blocked (k .tick) (taskAt (k .tasks) u .place) e;
+            };
+          }
+      go false f true g q ih = absurd (let z : x ≡ t = cc in eqb-false (x .0) (t .0) f (ap (λ (v : TaskSlot). v .0) z))
+      go false f false g q ih =
+          let a = one-spared k R x (λ z. absurd (eqb-false (x .0) (t .0) f z)) (λ z. absurd (eqb-false (x .0) (u .0) g z)) in
+          let r = ih (a .roomy) (still-due k j t (a .tick) (a .first) d) (still-due k j u (a .tick) (a .second) e) q (a .order ∙ o) in
+          record {
+            both = r .both;
+            order = record { so-far = x ∷ r .order .so-far; rest = r .order .rest; all = ap (λ (l : List TaskSlot). x ∷ l) (r .order .all); ready = r .order .ready; not-yet = r .order .not-yet };
+          }
+
+  -- ── those two among others that pass a test which both pass
+  pub ahead-among : (q : TaskSlot → Bool) → q t ≡ true → q u ≡ true → (l : List TaskSlot) → pair (kept q l) ≡ pair l
+  ahead-among q f g l = kept-within q (isOneOf t u) (λ x e. one-of x (eqb (x .0) (t .0)) refl e) l
+    where
+      one-of : (x : TaskSlot) (b : Bool) → eqb (x .0) (t .0) ≡ b → (b || sameTask x u) ≡ true → q x ≡ true
+      one-of x true e h = ap q (one-number x t (eqb-true (x .0) (t .0) e)) ∙ f
+      one-of x false e h = ap q (one-number x u (eqb-true (x .0) (u .0) h)) ∙ g
+
+  pub among-begun : (ts : List Task) → hasBegun ts t ≡ true → hasBegun ts u ≡ true → (l : List TaskSlot) → pair (begun ts l) ≡ pair l
+  unfolding begun
+  among-begun ts f g l = ahead-among (hasBegun ts) f g l
+
+  -- where both stand in one line
+  pub among-line : (ts : List Task) (p : ℕ) → inLine p (taskAt ts t) ≡ true → inLine p (taskAt ts u) ≡ true → (l : List TaskSlot) → pair (line ts p l) ≡ pair l
+  unfolding line
+  among-line ts p f g l = ahead-among (λ x. inLine p (taskAt ts x)) f g l
+
+  -- ── one of the two stands in a list, and the other does not
+  neither : (l : List TaskSlot) → count (t .0) l ≡ 0 → count (u .0) l ≡ 0 → pair l ≡ []
+  unfolding kept count
+  neither [] a b = refl
+  neither (x ∷ l) a b = go (eqb (x .0) (t .0)) (eqb (x .0) (u .0)) a b (neither l)
+    where
+      go : (f g : Bool) → (if f then 1 else 0) + count (t .0) l ≡ 0 → (if g then 1 else 0) + count (u .0) l ≡ 0
+          → (count (t .0) l ≡ 0 → count (u .0) l ≡ 0 → pair l ≡ []) → (if f || g then x ∷ pair l else pair l) ≡ []
+      go true g c d ih = absurd (omega arith)
+      go false true c d ih = absurd (omega arith)
+      go false false c d ih = ih (omega arith) (omega arith)
+
+  pub one-alone : (l : List TaskSlot) → count (t .0) l ≡ 1 → count (u .0) l ≡ 0 → pair l ≡ t ∷ []
+  unfolding kept count
+  one-alone [] a b = absurd (omega arith)
+  one-alone (x ∷ l) a b = go (eqb (x .0) (t .0)) refl (eqb (x .0) (u .0)) a b (one-alone l)
+    where
+      go : (f : Bool) → eqb (x .0) (t .0) ≡ f → (g : Bool) → (if f then 1 else 0) + count (t .0) l ≡ 1 → (if g then 1 else 0) + count (u .0) l ≡ 0
+          → (count (t .0) l ≡ 1 → count (u .0) l ≡ 0 → pair l ≡ t ∷ []) → (if f || g then x ∷ pair l else pair l) ≡ t ∷ []
+      go true e true c d ih = absurd (omega arith)
+      go true e false c d ih = rw (one-number x t (eqb-true (x .0) (t .0) e), neither l (omega arith) (omega arith))
+      go false e true c d ih = absurd (omega arith)
+      go false e false c d ih = ih (omega arith) (omega arith)
+
+  -- ── a tick
+  -- both are due at w, and t stands ahead
+  pub record BothDue (w : ℕ) (k : State) : Type 0 where
+    pub roomy : RoomyIn k
+    pub first : wakesAt w (taskAt (k .tasks) t .place) ≡ true
+    pub second : wakesAt w (taskAt (k .tasks) u .place) ≡ true
+    pub ahead : Ahead t u (listed (k .order))
+
+  abbrev next : State → State
+  next k = withTick k (later (k .tick) 1)
+
+  tick-wakes : (w : ℕ) (k : State) → BothDue w k → later (k .tick) 1 ≡ w → Both (next k) (begun (k .tasks) (listed (k .order)))
+  tick-wakes w k D e =
+      both-due (begun (k .tasks) (listed (k .order))) (next k) (D .roomy) (rw e (D .first)) (rw e (D .second))
+      (among-begun (k .tasks) (due-blocked w (taskAt (k .tasks) t .place) (D .first)) (due-blocked w (taskAt (k .tasks) u .place) (D .second)) (listed (k .order)) ∙ D .ahead)
+      (D .ahead)
+
+  pub tick-first : (w : ℕ) (k : State) → BothDue w k → later (k .tick) 1 ≡ w → ReadyFirst t u (next k) (begun (k .tasks) (listed (k .order)))
+  tick-first w k D e = tick-wakes w k D e .order
+
+  -- from tick to tick: both are due at w, or both are ready
+  abbrev pub Together : ℕ → State → Type 0
+  Together w k = BothDue w k ⊎ BothReady k
+
+  tick-spares : (k : State) → RoomyIn k → dueNow (next k) t ≡ false → dueNow (next k) u ≡ false → Spared (next k) (oneTick k)
+  unfolding oneTick wakes
+  tick-spares k R f g = all-spared (begun (k .tasks) (listed (k .order))) (next k) R f g
+
+  pub tick-together : (w : ℕ) (k : State) → Together w k → Together w (oneTick k)
+  unfolding oneTick wakes
+  tick-together w k (inr B) = inr (ready-spared (begun (k .tasks) (listed (k .order))) (next k) record { roomy = B .roomy; first = B .first; second = B .second; ahead = B .ahead })
+  tick-together w k (inl D) = go (eqb w (later (k .tick) 1)) refl
+    where
+      go : (b : Bool) → eqb w (later (k .tick) 1) ≡ b → Together w (oneTick k)
+      go true e = inr (tick-wakes w k D (sym (eqb-true w (later (k .tick) 1) e)) .both)
+      go false e =
+          let a = tick-spares k (D .roomy) (due-at w (later (k .tick) 1) (taskAt (k .tasks) t .place) (D .first) ∙ e) (due-at w (later (k .tick) 1) (taskAt (k .tasks) u .place) (D .second) ∙ e) in
+          inl record { roomy = a .roomy; first = rw (a .first) (D .first); second = rw (a .second) (D .second); ahead = a .order ∙ D .ahead }
+
+  pub ticks-together : (w n : ℕ) (k : State) → Together w k → Together w (ticks n k)
+  unfolding ticks upTo
+  ticks-together w zero k T = T
+  ticks-together w (suc n) k T = tick-together w (ticks n k) (ticks-together w n k T)
