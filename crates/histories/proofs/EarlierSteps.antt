@@ -9,7 +9,7 @@ use lib.ListN.{length, getD, replicate}
 use borrow.Author.Tests.{eq-eqb, ne-eqb}
 use Rattle.lists.specs.Choice.{if_then_else_}
 use Rattle.lists.specs.Lists.{foldl, any, kept}
-use Rattle.lists.proofs.Bools.{or-right}
+use Rattle.lists.proofs.Bools.{and-off, or-right}
 use Rattle.calls.specs.Behind.{asked}
 use Rattle.calls.specs.declared.Uses.{Uses}
 use Rattle.order.specs.Order.{listed}
@@ -89,11 +89,7 @@ module _ (k : State) (past : List (Moment CallMade)) (s : List ℕ) (m : CallMad
   -- who began before, and who begins now
   before-same : (t : TaskSlot) → hasBegun (k .tasks) t ≡ true → beganAt t (now ∷ past) ≡ beganAt t past
   unfolding beganAt
-  before-same t e = rw (and-not (hasBegun (j .tasks) t) (hasBegun (k .tasks) t) e)
-    where
-      and-not : (a b : Bool) → b ≡ true → (a && not b) ≡ false
-      and-not true b e = rw e
-      and-not false b e = refl
+  before-same t e = rw (sym (and-off (hasBegun (j .tasks) t) (not (hasBegun (k .tasks) t)) (ap not e)))
 
   now-last : (t : TaskSlot) → hasBegun (j .tasks) t ≡ true → hasBegun (k .tasks) t ≡ false → beganAt t (now ∷ past) ≡ length past
   unfolding beganAt

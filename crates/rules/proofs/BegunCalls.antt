@@ -35,6 +35,7 @@ use Rattle.rules.proofs.RowPasses.{Passed}
 use Rattle.rules.proofs.Keeps.{there-low, ready-low}
 use Rattle.rules.proofs.KeepBlocks.{prioritized-same}
 use Rattle.rules.proofs.KeepTasks.{has-slot}
+use Rattle.rules.proofs.TickJumps.{passed-over}
 use Rattle.rules.proofs.KeepTicks.{due-there, tick-after}
 use Rattle.rules.proofs.KeepTaken.{each-task}
 use Rattle.rules.proofs.Begun.{Fades, Remembers, RoomyIn, Fade, Remember, onward, none-begins, then-begins, stays, tail-fades, leave-fades}
@@ -57,10 +58,6 @@ woken-fewer k t u = go (wakesAt (k .tick) (taskAt (k .tasks) t .place))
     go true = each-task (k .tasks) t x (λ v y. isBlocked (y .place) ≡ true → hasBegun (k .tasks) v ≡ true) (λ e. absurd (false≢true e)) (λ v e. e) u
     go false = λ e. e
 
-none-woken : (k : State) (t : TaskSlot) → hasBegun (k .tasks) t ≡ false → wokenIfDue k t ≡ k
-unfolding wokenIfDue
-none-woken k t e = rw (untrue (wakesAt (k .tick) (taskAt (k .tasks) t .place)) (λ d. false≢true (sym e ∙ due-blocked (k .tick) (taskAt (k .tasks) t .place) d)))
-
 -- of the listed, only those who began are woken: the walk of the whole order is the walk of those
 module _ (ts : List Task) where
   wakes-those : (l : List TaskSlot) (k : State) → ((t : TaskSlot) → hasBegun (k .tasks) t ≡ true → hasBegun ts t ≡ true) → foldl wokenIfDue k l ≡ foldl wokenIfDue k (begun ts l)
@@ -69,7 +66,7 @@ module _ (ts : List Task) where
   wakes-those (t ∷ l) k f = go (hasBegun ts t) refl (wakes-those l (wokenIfDue k t) (λ u e. f u (woken-fewer k t u e)))
     where
       as-it-was : hasBegun ts t ≡ false → wokenIfDue k t ≡ k
-      as-it-was e = none-woken k t (untrue (hasBegun (k .tasks) t) (λ h. false≢true (sym e ∙ f t h)))
+      as-it-was e = passed-over k t (untrue _ (λ d. false≢true (sym e ∙ f t (due-blocked (k .tick) (taskAt (k .tasks) t .place) d))))
 
       go : (b : Bool) → hasBegun ts t ≡ b → foldl wokenIfDue (wokenIfDue k t) l ≡ foldl wokenIfDue (wokenIfDue k t) (kept (hasBegun ts) l)
           → foldl wokenIfDue (wokenIfDue k t) l ≡ foldl wokenIfDue k (if b then t ∷ kept (hasBegun ts) l else kept (hasBegun ts) l)

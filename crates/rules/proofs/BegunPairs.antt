@@ -27,6 +27,7 @@ use Rattle.rules.specs.Waits.{later, arrives}
 use Rattle.rules.specs.Ticks.{wokenIfDue, wakes, ReadyFirst, oneTick, ticks}
 use Rattle.rules.proofs.KeepSlot.{at-same, at-other}
 use Rattle.rules.proofs.Keeps.{there-low}
+use Rattle.rules.proofs.TickJumps.{passed-over}
 use Rattle.rules.proofs.KeepTicks.{due-there}
 use Rattle.rules.proofs.Begun.{RoomyIn}
 use Rattle.rules.proofs.BegunCalls.{due-blocked, woken-fades}
@@ -45,31 +46,25 @@ due-at w n Spent e = absurd (false≢true e)
 abbrev pub dueNow : State → TaskSlot → Bool
 dueNow k x = wakesAt (k .tick) (taskAt (k .tasks) x .place)
 
-module _ (k : State) (R : RoomyIn k) (x : TaskSlot) where
-  -- who is not due stays as it is
-  passed-over : dueNow k x ≡ false → wokenIfDue k x ≡ k
-  unfolding wokenIfDue
-  passed-over e = rw e
+module _ (k : State) (R : RoomyIn k) (x : TaskSlot) (e : dueNow k x ≡ true) where
+  low : x .0 < 16
+  low = there-low (k .tasks) x (R .many) (due-there (k .tick) (taskAt (k .tasks) x .place) e)
 
-  module _ (e : dueNow k x ≡ true) where
-    low : x .0 < 16
-    low = there-low (k .tasks) x (R .many) (due-there (k .tick) (taskAt (k .tasks) x .place) e)
+  woken-last : listed (wokenIfDue k x .order) ≡ without x (listed (k .order)) ++ (x ∷ [])
+  unfolding wokenIfDue arrives toTail
+  woken-last = rw e (fits-listed (without x (listed (k .order)) ++ (x ∷ [])) (fits-tail x (listed (k .order)) (R .room) low))
 
-    woken-last : listed (wokenIfDue k x .order) ≡ without x (listed (k .order)) ++ (x ∷ [])
-    unfolding wokenIfDue arrives toTail
-    woken-last = rw e (fits-listed (without x (listed (k .order)) ++ (x ∷ [])) (fits-tail x (listed (k .order)) (R .room) low))
+  woken-ready : taskAt (wokenIfDue k x .tasks) x .place ≡ Ready
+  unfolding wokenIfDue arrives toTail
+  woken-ready = rw e (ap (λ (y : Task). y .place) (at-same (k .tasks) x _ (omega (arith, R .many, low))))
 
-    woken-ready : taskAt (wokenIfDue k x .tasks) x .place ≡ Ready
-    unfolding wokenIfDue arrives toTail
-    woken-ready = rw e (ap (λ (y : Task). y .place) (at-same (k .tasks) x _ (omega (arith, R .many, low))))
+  woken-others : (v : TaskSlot) → (v .0 ≡ x .0 → ⊥) → taskAt (wokenIfDue k x .tasks) v ≡ taskAt (k .tasks) v
+  unfolding wokenIfDue arrives toTail
+  woken-others v n = rw e (at-other (k .tasks) x _ v n)
 
-    woken-others : (v : TaskSlot) → (v .0 ≡ x .0 → ⊥) → taskAt (wokenIfDue k x .tasks) v ≡ taskAt (k .tasks) v
-    unfolding wokenIfDue arrives toTail
-    woken-others v n = rw e (at-other (k .tasks) x _ v n)
-
-    woken-tick : wokenIfDue k x .tick ≡ k .tick
-    unfolding wokenIfDue arrives toTail
-    woken-tick = rw e
+  woken-tick : wokenIfDue k x .tick ≡ k .tick
+  unfolding wokenIfDue arrives toTail
+  woken-tick = rw e
 
 module _ (t u : TaskSlot) (differ : t .0 ≡ u .0 → ⊥) where
   abbrev pair : List TaskSlot → List TaskSlot
@@ -105,7 +100,7 @@ module _ (t u : TaskSlot) (differ : t .0 ≡ u .0 → ⊥) where
   one-spared k R x f g = go (dueNow k x) refl
     where
       go : (b : Bool) → dueNow k x ≡ b → Spared k (wokenIfDue k x)
-      go false e = rw (passed-over k R x e) (record { roomy = R; tick = refl; first = refl; second = refl; order = refl })
+      go false e = rw (passed-over k x e) (record { roomy = R; tick = refl; first = refl; second = refl; order = refl })
       go true e =
           let a : x .0 ≡ t .0 → ⊥ = λ q. false≢true (sym (f q) ∙ e) in
           let b : x .0 ≡ u .0 → ⊥ = λ q. false≢true (sym (g q) ∙ e) in

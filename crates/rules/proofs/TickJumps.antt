@@ -1,7 +1,7 @@
 -- Ticks on which nobody is due: only the count changes. So several ticks are a jump to the next one on which somebody is due, then a plain tick, and so on.
 use Prim.Native.Nat.{ℕ, zero, suc, _+_, _%_, _<_, _≤_, min}
 use mathlib.Core.Path.{_≡_, refl, sym, ap, _∙_}
-use mathlib.Core.Bool.{Bool, false}
+use mathlib.Core.Bool.{false}
 use mathlib.Core.List.{List, [], _∷_}
 use native.Mathlib.Nat.{mod-add-mod}
 use native.Mathlib.Omega.{arith}
@@ -11,12 +11,12 @@ use borrow.Author.Tests.{ne-eqb}
 use Rattle.lists.specs.Choice.{if_then_else_}
 use Rattle.lists.specs.Lists.{foldl, upTo}
 use Rattle.order.specs.Order.{listed}
-use Rattle.slots.specs.Places.{wakesAt, outcomeDue, ahead, away}
+use Rattle.slots.specs.Places.{wakesAt, ahead, away}
 use Rattle.slots.specs.Values.{freeTask, taskAt}
 use Rattle.rules.specs.Types.{TaskSlot, Never, At, Place, Free, Ready, Delayed, Waiting, Suspended, Spent, Task, State}
 use Rattle.rules.specs.Tables.{withTick}
 use Rattle.rules.specs.Lines.{begun}
-use Rattle.rules.specs.Waits.{later, arrives}
+use Rattle.rules.specs.Waits.{later}
 use Rattle.rules.specs.Ticks.{wokenIfDue, wakes, oneTick, untilDue, ticks}
 
 -- ── one task: it is not due before its wake tick
@@ -32,11 +32,15 @@ not-yet now d i (Waiting o (At w)) n h l = before-wake now w d i n h l
 not-yet now d i Suspended n h l = refl
 not-yet now d i Spent n h l = refl
 
--- ── nobody is due: the wakes change nothing
+-- ── who is not due is passed over, and where nobody is due the wakes change nothing
+pub passed-over : (k : State) (t : TaskSlot) → wakesAt (k .tick) (taskAt (k .tasks) t .place) ≡ false → wokenIfDue k t ≡ k
+unfolding wokenIfDue
+passed-over k t e = rw e
+
 none-woken : (k : State) → ((t : TaskSlot) → wakesAt (k .tick) (taskAt (k .tasks) t .place) ≡ false) → (l : List TaskSlot) → wakes k l ≡ k
-unfolding wakes foldl wokenIfDue
+unfolding wakes foldl
 none-woken k f [] = refl
-none-woken k f (t ∷ l) = ap (λ (b : Bool). foldl wokenIfDue (if b then arrives k t Ready (outcomeDue (taskAt (k .tasks) t .place)) else k) l) (f t) ∙ none-woken k f l
+none-woken k f (t ∷ l) = ap (λ (j : State). foldl wokenIfDue j l) (passed-over k t (f t)) ∙ none-woken k f l
 
 -- within the next d ticks nobody is due
 pub record NobodyDue (d : ℕ) (k : State) : Type 0 where
