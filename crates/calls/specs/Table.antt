@@ -1,8 +1,9 @@
--- The table of calls: "Call numbers 1 to 17, arguments in this order".
+-- The table of calls: "Call numbers 1 to 17, arguments in this order"; and "call 18, advance: n ticks".
 use Prim.Native.Nat.{ℕ}
 use mathlib.Core.List.{List, [], _∷_}
 use lib.ListN.{getD}
-use Rattle.calls.specs.Types.{TaskNo, ObjNo, Call, Create, Delete, Suspend, Resume, SetPriority, Delay, Yield, Hold, Release, MakeQueue, MakeMutex, Remove, Send, Receive, Take, Give, Tick}
+use Rattle.calls.specs.Types.{TaskNo, ObjNo, Call, Create, Delete, Suspend, Resume, SetPriority, Delay, Yield, Hold, Release}
+use Rattle.calls.specs.Types.{MakeQueue, MakeMutex, Remove, Send, Receive, Take, Give, Tick, Advance}
 use Rattle.calls.specs.Named.{taskOf, objectOf}
 
 -- an argument, and what it stands for; the bytes of an item are lent beside the call
@@ -38,6 +39,7 @@ called (Receive o w) = entry 14 (aQueue o ∷ aWait w ∷ [])
 called (Take o w) = entry 15 (aMutex o ∷ aWait w ∷ [])
 called (Give o) = entry 16 (aMutex o ∷ [])
 called Tick = entry 17 []
+called (Advance n) = entry 18 (someTicks n ∷ [])
 
 -- a word of a call, and 0 past the last
 abbrev pub word : List ℕ → ℕ → ℕ
@@ -64,6 +66,7 @@ calls ws =
     ∷ Take (objectOf (word ws 0)) (word ws 1)
     ∷ Give (objectOf (word ws 0))
     ∷ Tick
+    ∷ Advance (word ws 0)
     ∷ []
 
 -- all rows, by number; no call has the number 0

@@ -92,6 +92,7 @@ abbrev pub unnamed : ℕ → ℕ → ℕ → Asked
 unnamed n a b =
     if eqb n 1 then nothing 1 a 0 1 0
     else if eqb n 6 then nothing 6 0 a 1 0
+    else if eqb n 18 then nothing 18 0 a 1 0
     else if eqb n 10 then nothing 10 0 0 a b
     else nothing n 0 0 1 0
 

@@ -40,6 +40,7 @@ impl Asked {
         match number {
             1 => Asked::nothing(1, a, 0, 1, 0),
             6 => Asked::nothing(6, 0, a, 1, 0),
+            18 => Asked::nothing(18, 0, a, 1, 0),
             10 => Asked::nothing(10, 0, 0, a, b),
             _ => Asked::nothing(number, 0, 0, 1, 0),
         }

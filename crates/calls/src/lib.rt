@@ -1,4 +1,4 @@
-// What is asked of the kernel, and what it answers: two kinds of number, the 17 calls, the four answers.
+// What is asked of the kernel, and what it answers: two kinds of number, the 18 calls, the four answers.
 mod behind;
 mod door;
 mod named;
@@ -19,7 +19,7 @@ pub struct Uses {
     pub objects: [u16; 16],
 }
 
-// The 17 calls. The bytes of a sent item are lent beside the call.
+// The 18 calls. The bytes of a sent item are lent beside the call.
 pub enum Call {
     Create(u32),
     Delete(TaskNo),
@@ -38,6 +38,7 @@ pub enum Call {
     Take(ObjNo, u32),
     Give(ObjNo),
     Tick,
+    Advance(u32),
 }
 
 pub enum Answer {

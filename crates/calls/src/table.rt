@@ -29,6 +29,8 @@ impl Call {
             14 => Call::Receive(ObjNo(a), b),
             15 => Call::Take(ObjNo(a), b),
             16 => Call::Give(ObjNo(a)),
+            17 => Call::Tick,
+            18 => Call::Advance(a),
             _ => Call::Tick,
         }
     }

@@ -42,6 +42,7 @@ impl Call {
             Call::Take(o, w) => Frame::of(15, Names::Mutex, o.0, w),
             Call::Give(o) => Frame::of(16, Names::Mutex, o.0, 0),
             Call::Tick => Frame::of(17, Names::Nothing, 0, 0),
+            Call::Advance(n) => Frame::of(18, Names::Nothing, n, 0),
         }
     }
 }
@@ -66,7 +67,7 @@ impl Shape {
     {
         match number {
             7..=9 | 11 | 17 => Shape::plain(0),
-            1..=4 | 6 | 12 | 16 => Shape::plain(1),
+            1..=4 | 6 | 12 | 16 | 18 => Shape::plain(1),
             5 | 10 | 14..=15 => Shape::plain(2),
             13 => Shape {
                 known: true,

@@ -1,6 +1,6 @@
 -- The claims are true: each field cites its theorem.
 use Prim.Native.Nat.{ℕ}
-use mathlib.Core.Path.{_≡_}
+use mathlib.Core.Path.{_≡_, subst}
 use mathlib.Core.Logic.{inl, inr}
 use mathlib.Core.List.{List, []}
 use Rattle.journal.specs.Line.{lineOf, HasLine}
@@ -12,16 +12,20 @@ use Rattle.kernel.proofs.Kernel.sound.Met as sound-code
 use Rattle.kernel.proofs.Kernel.step.Met as step-code
 use Rattle.kernel.proofs.Kernel.step_line.Met as line-code
 use Rattle.kernel.proofs.Kernel.runs.Met as runs-code
+use Rattle.kernel.proofs.Kernel.sleeps.Met as sleeps-code
 use Rattle.kernel.proofs.Session.fresh.Met as session-code
 use Rattle.kernel.proofs.Session.answer.Met as answer-code
 use Rattle.kernel.proofs.Session.end.Met as end-code
 use Rattle.journal.proofs.read_call.Met as reader-code
 use Rattle.journal.proofs.write_call.Met as writer-code
 use Rattle.journal.proofs.write_answer.Met as teller-code
+use Rattle.rules.specs.Steps.{Stepped}
 use Rattle.kernel.specs.Stands.{shown}
+use Rattle.kernel.specs.Promises.{Is}
 use Rattle.kernel.proofs.Shown.{shown-of}
 use Rattle.promises.proofs.Gate.{both-sides-of-the-gate}
 use Rattle.promises.proofs.TurnedAway.{decided}
+use Rattle.promises.proofs.Advances.{advance-is-ticks, advance-refused, sleeps-so}
 use Rattle.promises.proofs.Reaches.{program-placed}
 use Rattle.histories.proofs.ByFullNumber.{program-pays-back-by-number}
 use Rattle.histories.proofs.UseCounts.{uses-count}
@@ -29,7 +33,7 @@ use Rattle.histories.proofs.NeverAgain.{never-again-task, never-again-object, m
 use Rattle.histories.proofs.EarlierSteps.{each-began}
 use Rattle.histories.proofs.EarlierWakes.{woken-in-order}
 use Rattle.claims.specs.Types.{Call, Read}
-use Rattle.claims.specs.Claims.{Code, Values, Refused, Ruled, Journalled, Kept, NeverAgain, EarlierFirst, Claims}
+use Rattle.claims.specs.Claims.{Code, Values, Refused, Ruled, Journalled, Kept, NeverAgain, EarlierFirst, Sleeping, Claims}
 use Rattle.claims.proofs.Values.{test-says, says-test, full-stands}
 use Rattle.claims.proofs.Exact.{step-exactly, accepted-so, unsound-stays}
 use Rattle.claims.proofs.Unique.{line-so}
@@ -45,6 +49,7 @@ code =
       step = step-code.met;
       step-line = line-code.met;
       runs = runs-code.met;
+      sleeps = sleeps-code.met;
       fresh-session = session-code.met;
       answer = answer-code.met;
       end = end-code.met;
@@ -106,5 +111,26 @@ never-again = record { task-gone = never-again-task; object-gone = never-again-o
 earlier-first : EarlierFirst
 earlier-first = record { began = each-began; woken = woken-in-order }
 
+sleeping : Sleeping
+sleeping =
+    record {
+      advance = λ k e z item s n l m r after f. subst (λ (d : Stepped). Is k d r after) (advance-is-ticks (shown k) e z item s n l m .same) f;
+      as-ticks = λ k e z item s n l m. advance-is-ticks (shown k) e z item s n l m;
+      refused = λ k e item s n w. advance-refused (shown k) item s n e w;
+      sleeps = λ k. sleeps-so (shown k);
+    }
+
 pub claims : Claims
-claims = record { code = code; values = values; total = total; refused = refused; ruled = ruled; journalled = journalled; kept = kept; never-again = never-again; earlier-first = earlier-first }
+claims =
+    record {
+      code = code;
+      values = values;
+      total = total;
+      refused = refused;
+      ruled = ruled;
+      journalled = journalled;
+      kept = kept;
+      never-again = never-again;
+      earlier-first = earlier-first;
+      sleeping = sleeping;
+    }

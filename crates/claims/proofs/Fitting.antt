@@ -1,9 +1,9 @@
 -- Each promise is met by an answer: what the definitions say, as values of the code's types.
-use Prim.Native.Nat.{ℕ, _≤_}
+use Prim.Native.Nat.{ℕ, _+_, _≤_}
 use mathlib.Core.Path.{_≡_, refl, sym, subst}
 use mathlib.Core.Bool.{Bool, true, false}
 use mathlib.Core.List.{List, [], _∷_, _++_}
-use lib.Dec.{eqb}
+use lib.Dec.{eqb, ltb}
 use lib.ListN.{length, take, drop, replicate, length-replicate}
 use Rattle.lists.specs.Choice.{if_then_else_}
 use Rattle.lists.specs.Lists.{foldl}
@@ -23,6 +23,7 @@ use Rattle.journal.proofs.Theorems.{read-is, no-second-call, no-second-answer}
 use Rattle.rules.specs.Tables.{fresh}
 use Rattle.rules.specs.Lines.{chosen}
 use Rattle.rules.specs.Sound.{sound}
+use Rattle.rules.specs.Ticks.{untilDue, sleeps}
 use Rattle.rows.specs.Asking.{makes}
 use Rattle.rules.specs.Refusals.{newSlot}
 use Rattle.rules.specs.Refusals.{refusal}
@@ -31,14 +32,14 @@ use Rattle.rules.specs.Steps.{newNumber, answered, accepted, turnedAway, step}
 use Rattle.rules.specs.Sessions.{noLine, stepTold, readLine, stepOfLine, Run, closed}
 use Rattle.rules.specs.Trace.{CallMade}
 use Rattle.kernel.specs.Stands.{kernelOf, shown, standing}
-use Rattle.kernel.specs.Promises.{Ran, Steps, ReadsAndSteps, ranOf, Answers, Closes, newSession}
+use Rattle.kernel.specs.Promises.{Ran, Steps, ReadsAndSteps, ranOf, Answers, Closes, ticksOf, newSession}
 use Rattle.promises.specs.Turns.{Turn}
 use Rattle.promises.proofs.LineForLine.{closed-stays}
-use Rattle.claims.specs.Types.{TaskNo, Call, Answer, Asked, Read, Written, Count, NotWritten, State, Kernel, Step, Session, Served}
+use Rattle.claims.specs.Types.{TaskNo, Call, Answer, Asked, Read, Written, Count, NotWritten, State, Kernel, Sleep, Ticks, ForEver, Step, Session, Served}
 use Rattle.claims.specs.Values.{Stands}
 use Rattle.claims.specs.Runs.{Called, noneCalled, call, Port, Turned, noTurn, turn}
 use Rattle.claims.specs.Claims.{OneFits, Total}
-use Rattle.claims.proofs.Unique.{no-second-step, no-second-line-step, no-second-block, no-second-end}
+use Rattle.claims.proofs.Unique.{one-sleep, no-second-step, no-second-line-step, no-second-block, no-second-end}
 use Rattle.claims.proofs.Runs.{valueAfter, called-is, turnOf, one-turn, turned-is}
 
 -- ── a kernel value: the fresh one, and whether one is sound
@@ -47,6 +48,22 @@ begins = record { it = kernelOf fresh; fits = refl; no-second = λ x f. f }
 
 tests : (k : Kernel) → Stands k → OneFits (λ (x : Bool). (x ≡ sound (shown k)) × (x ≡ true → k ≡ kernelOf (shown k)))
 tests k h = record { it = sound (shown k); fits = (refl, h); no-second = λ x f. f .0 }
+
+-- ── how long the board may sleep
+naps : (k : Kernel) → OneFits (λ (x : Sleep). ticksOf x ≡ sleeps (shown k))
+unfolding sleeps
+naps k = go (sound (shown k)) (ltb until 4294967295)
+  where
+    until : ℕ
+    until = untilDue (shown k .tick) (shown k .tasks)
+
+    one : (x : Sleep) → OneFits (λ (y : Sleep). ticksOf y ≡ ticksOf x)
+    one x = record { it = x; fits = refl; no-second = λ y f. one-sleep y x f }
+
+    go : (a b : Bool) → OneFits (λ (x : Sleep). ticksOf x ≡ (if a then (if b then (until + 1) ∷ [] else []) else []))
+    go true true = one (Ticks (until + 1))
+    go true false = one ForEver
+    go false b = one ForEver
 
 -- ── an answer for each saying of a step
 record Answered (x : Saying) : Type 0 where
@@ -190,6 +207,7 @@ total =
     record {
       begins = begins;
       tests = tests;
+      sleeps = naps;
       steps = steps;
       steps-line = steps-line;
       reads = reads;

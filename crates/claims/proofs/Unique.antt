@@ -1,6 +1,6 @@
 -- No second answer fits: two results that meet a promise are equal.
 use Prim.Native.Nat.{ℕ}
-use mathlib.Core.Path.{_≡_, refl, sym, subst, _∙_}
+use mathlib.Core.Path.{_≡_, refl, sym, ap, subst, _∙_}
 use mathlib.Core.List.{List}
 use native.Mathlib.Omega.{arith}
 use Rattle.calls.proofs.OneAnswer.{one-answer}
@@ -10,10 +10,10 @@ use Rattle.slots.specs.Leads.{whom}
 use Rattle.rules.specs.Steps.{Stepped}
 use Rattle.rules.specs.Sessions.{Run}
 use Rattle.kernel.specs.Stands.{shown}
-use Rattle.kernel.specs.Promises.{Is, Steps, ReadsAndSteps, Ran, Answers, Closes}
+use Rattle.kernel.specs.Promises.{Is, Steps, ReadsAndSteps, Ran, Answers, Closes, ticksOf}
 use Rattle.promises.specs.ByLines.{LineSteps}
 use Rattle.promises.proofs.InWords.{one-line-step}
-use Rattle.claims.specs.Types.{Call, Kernel, Step, Session, Served}
+use Rattle.claims.specs.Types.{Call, Kernel, Sleep, Ticks, ForEver, Step, Session, Served}
 
 -- the general law: two results are equal if a promise gives both the same value
 pub one-value {ℓ} : {A : Type ℓ} {a b c : A} → a ≡ c → b ≡ c → a ≡ b
@@ -44,6 +44,13 @@ one-found NoOne NoOne e = refl
 one-found NoOne (Someone t) e = let z : _≡_ {A = ℕ} 0 1 = cc in absurd (omega arith)
 one-found (Someone t) NoOne e = let z : _≡_ {A = ℕ} 0 1 = cc in absurd (omega arith)
 one-found (Someone t) (Someone u) e = cc
+
+-- how long the board may sleep
+pub one-sleep : (f g : Sleep) → ticksOf f ≡ ticksOf g → f ≡ g
+one-sleep (Ticks m) (Ticks n) e = let z : m ≡ n = cc in ap Ticks z
+one-sleep (Ticks m) ForEver e = let z : _≡_ {A = ℕ} 0 1 = cc in absurd (omega arith)
+one-sleep ForEver (Ticks n) e = let z : _≡_ {A = ℕ} 0 1 = cc in absurd (omega arith)
+one-sleep ForEver ForEver e = refl
 
 -- what was served, with the kernel value, the store and the lent output at exit
 pub one-served : (k : Kernel) (d : Run) (lent : List ℕ) (r q : Served) (s u o p : List ℕ) → Ran k d lent r s o → Ran k d lent q u p → (r ≡ q) × (s ≡ u) × (o ≡ p)

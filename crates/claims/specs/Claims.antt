@@ -11,15 +11,17 @@ use Rattle.journal.specs.Told.{tellsCall, refusedWith}
 use Rattle.journal.specs.Promise.{Tells, ReadsAs, WritesCall, WritesAnswer}
 use Rattle.rules.specs.Tables.{fresh}
 use Rattle.rules.specs.Sound.{sound}
+use Rattle.rules.specs.Ticks.{sleeps}
 use Rattle.rules.specs.Steps.{Stepped}
 use Rattle.rules.specs.Trace.{CallMade}
 use Rattle.kernel.specs.Stands.{kernelOf, shown}
-use Rattle.kernel.specs.Promises.{Is, Steps, ReadsAndSteps, Answers, Closes, newSession}
+use Rattle.kernel.specs.Promises.{Is, Steps, ReadsAndSteps, Answers, Closes, ticksOf, newSession}
 use Rattle.kernel.proofs.Kernel.fresh.Statement as fresh-code
 use Rattle.kernel.proofs.Kernel.sound.Statement as sound-code
 use Rattle.kernel.proofs.Kernel.step.Statement as step-code
 use Rattle.kernel.proofs.Kernel.step_line.Statement as line-code
 use Rattle.kernel.proofs.Kernel.runs.Statement as runs-code
+use Rattle.kernel.proofs.Kernel.sleeps.Statement as sleeps-code
 use Rattle.kernel.proofs.Session.fresh.Statement as session-code
 use Rattle.kernel.proofs.Session.answer.Statement as answer-code
 use Rattle.kernel.proofs.Session.end.Statement as end-code
@@ -33,11 +35,12 @@ use Rattle.promises.specs.Program.{linesOf, answering}
 use Rattle.promises.specs.ByLines.{LineSteps, ProgramAnswers}
 use Rattle.promises.specs.Turns.{Turn, cameIn}
 use Rattle.promises.specs.Reached.{programCalls}
+use Rattle.promises.specs.Advance.{singly, atFirst, AsTicks, AdvanceRefused, SleepsSo}
 use Rattle.histories.specs.ByFullNumber.{Numbered, PaysBackByNumber}
 use Rattle.histories.specs.Uses.{UsesCount}
 use Rattle.histories.specs.Earlier.{EachBegan, Earlier, WokenInOrder}
 use Rattle.histories.specs.Again.{namesTask, namesObject, momentFrom, madeTask, madeObject}
-use Rattle.claims.specs.Types.{TaskNo, Call, Answer, Asked, Read, Says, Written, Count, State, Kernel, Step, Session, Served}
+use Rattle.claims.specs.Types.{TaskNo, Call, Advance, Answer, Asked, Read, Says, Written, Count, State, Kernel, Sleep, Step, Session, Served}
 use Rattle.claims.specs.Values.{SoundValue, Full, Stands}
 use Rattle.claims.specs.Exact.{ValueRefused, ValueAccepted, tableFor, ValueExactly}
 use Rattle.claims.specs.Runs.{Called, Port, servedTo, Turned, freshPort, portOutcome, CameTo}
@@ -55,6 +58,7 @@ pub record Code : Type 2 where
   pub step : {M : Type 1} → step-code.statement M
   pub step-line : {M : Type 1} → line-code.statement M
   pub runs : {M : Type 1} → runs-code.statement M
+  pub sleeps : {M : Type 1} → sleeps-code.statement M
   pub fresh-session : {M : Type 1} → session-code.statement M
   pub answer : {M : Type 1} → answer-code.statement M
   pub end : {M : Type 1} → end-code.statement M
@@ -75,6 +79,7 @@ pub record Total : Type 0 where
   pub begins : OneFits (λ (x : Kernel). x ≡ kernelOf fresh)
   -- of each value that code holds: the promise itself says that it stands
   pub tests : (k : Kernel) → Stands k → OneFits (λ (x : Bool). (x ≡ sound (shown k)) × (x ≡ true → k ≡ kernelOf (shown k)))
+  pub sleeps : (k : Kernel) → OneFits (λ (x : Sleep). ticksOf x ≡ sleeps (shown k))
   pub steps : (k : Kernel) (c : Call) (item store : List ℕ) → OneFits (λ (x : Step × List ℕ). Steps k c item store (x .0) (x .1))
   pub steps-line : (k : Kernel) (line store : List ℕ) → OneFits (λ (x : Step × List ℕ). ReadsAndSteps k line store (x .0) (x .1))
   pub reads : (line : List ℕ) → OneFits (λ (x : Read). ReadsAs line x)
@@ -148,11 +153,21 @@ pub record NeverAgain : Type 0 where
       → madeObject (momentFrom (reached (ms ++ (m ∷ []) ++ ns)) l) n ≡ false
   pub uses : (ms : List CallMade) → UsesCount ms
 
--- Over any history from the fresh kernel: "Among tasks due on one tick, make ready first whoever began its delay or wait earlier", "for a tick and for release". Each delay and each wait
--- that is not over has its moment in the history, and no two have the same; of two due on the same tick the earlier is made ready first, and stands ahead where both join one line.
+-- Over any history from the fresh kernel: "Among tasks due on one tick, make ready first whoever began its delay or wait earlier", "for a tick and for release", and so for a tick
+-- of an advance. Each delay and each wait that is not over has its moment in the history, and no two have the same; of two due on the same tick the earlier is made ready first, and
+-- stands ahead where both join one line.
 pub record EarlierFirst : Type 0 where
   pub began : (ms : List CallMade) → EachBegan ms
   pub woken : (ms : List CallMade) (w : ℕ) (t u : TaskSlot) → Earlier ms w t u → WokenInOrder ms w t u
+
+-- "We want call 18, advance: n ticks, 1 to 65,535, and the result must equal n single ticks one by one, turns of the line and wakes included." Of each kernel value that is sound
+-- and not held, whatever the store; and what the board's answer is worth, of every kernel value.
+pub record Sleeping : Type 0 where
+  pub advance : (k : Kernel) → sound (shown k) ≡ true → shown k .hold ≡ 0 → (item store : List ℕ) (n : ℕ) → 1 ≤ n → n ≤ 65535 → (r : Step) (after : List ℕ)
+      → Steps k (Advance n) item store r after → Is k (singly n (atFirst (shown k) store)) r after
+  pub as-ticks : (k : Kernel) → sound (shown k) ≡ true → shown k .hold ≡ 0 → (item store : List ℕ) (n : ℕ) → 1 ≤ n → n ≤ 65535 → AsTicks (shown k) item store n
+  pub refused : (k : Kernel) → sound (shown k) ≡ true → (item store : List ℕ) (n : ℕ) → length store ≡ 9216 → AdvanceRefused (shown k) item store n
+  pub sleeps : (k : Kernel) → SleepsSo (shown k)
 
 pub record Claims : Type 2 where
   pub code : Code
@@ -164,3 +179,4 @@ pub record Claims : Type 2 where
   pub kept : Kept
   pub never-again : NeverAgain
   pub earlier-first : EarlierFirst
+  pub sleeping : Sleeping

@@ -2,6 +2,7 @@
 pub use Rattle.numbers.specs.declared.TaskSlot.{TaskSlot}
 pub use Rattle.calls.specs.declared.TaskNo.{TaskNo}
 pub use Rattle.calls.specs.declared.Call.{Call}
+pub use Rattle.calls.specs.declared.Call.the-variants.{Advance}
 pub use Rattle.calls.specs.declared.Answer.{Answer}
 pub use Rattle.calls.specs.declared.Asked.{Asked}
 pub use Rattle.journal.specs.declared.Read.{Read}
@@ -10,6 +11,8 @@ pub use Rattle.journal.specs.declared.Written.{Written}
 pub use Rattle.journal.specs.declared.Written.the-variants.{Count, Refused as NotWritten}
 pub use Rattle.rules.specs.State.{State}
 pub use Rattle.kernel.specs.declared.Kernel.{Kernel}
+pub use Rattle.kernel.specs.declared.Sleep.{Sleep}
+pub use Rattle.kernel.specs.declared.Sleep.the-variants.{Ticks, ForEver}
 pub use Rattle.kernel.specs.declared.Step.{Step}
 pub use Rattle.kernel.specs.declared.Session.{Session}
 pub use Rattle.kernel.specs.declared.Served.{Served}

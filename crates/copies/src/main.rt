@@ -98,6 +98,7 @@ fn numbered(n: u32) {
     copy(Call::Receive(ObjNo::of(n), n), 64);
     copy(Call::Take(ObjNo::of(n), n), 64);
     copy(Call::Give(ObjNo::of(n)), 64);
+    copy(Call::Advance(n), 64);
 }
 
 // Items of 0, 1, 63 and 64 bytes.

@@ -42,7 +42,7 @@ use Rattle.promises.specs.Turns.{Turn, afterTurns, atStart}
 use Rattle.promises.specs.Reached.{programCalls}
 use Rattle.promises.proofs.Reaches.{program-reached, session-so-far}
 use Rattle.histories.specs.Types.{TaskSlot, State}
-use Rattle.histories.specs.Types.{Call, Create, Delete, Suspend, Resume, SetPriority, Delay, Yield, Hold, Release, MakeQueue, MakeMutex, Remove, Send, Receive, Take, Give, Tick}
+use Rattle.histories.specs.Types.{Call, Create, Delete, Suspend, Resume, SetPriority, Delay, Yield, Hold, Release, MakeQueue, MakeMutex, Remove, Send, Receive, Take, Give, Tick, Advance}
 use Rattle.histories.specs.Moments.{onto, moments, hasMutex, notRefused}
 use Rattle.histories.specs.Borrowed.{largest, isCreated, isChanged, givenAt, lastOf, lastGiven, lentAt, countedSince, due}
 use Rattle.histories.specs.Again.{namesTask, isMade, madeTask}
@@ -111,6 +111,7 @@ changed-same us t n h e r (Receive o w) = refl
 changed-same us t n h e r (Take o w) = refl
 changed-same us t n h e r (Give o) = refl
 changed-same us t n h e r Tick = refl
+changed-same us t n h e r (Advance d) = refl
 
 -- ── an accepted call
 -- the use of a slot with a task afterwards stays
@@ -140,6 +141,7 @@ use-kept k S i t (Receive o w) P f = refl
 use-kept k S i t (Take o w) P f = refl
 use-kept k S i t (Give o) P f = refl
 use-kept k S i t Tick P f = refl
+use-kept k S i t (Advance d) P f = refl
 
 -- a create answers the number of the slot that had no task before
 module _ (k : State) (S : Sound k) (i p : ℕ) (P : Passed k (asked (k .uses) (Create p)) i) (n : ℕ) where
@@ -183,6 +185,7 @@ created-same k S i t n h e j (Receive o w) P f = refl
 created-same k S i t n h e j (Take o w) P f = refl
 created-same k S i t n h e j (Give o) P f = refl
 created-same k S i t n h e j Tick P f = refl
+created-same k S i t n h e j (Advance d) P f = refl
 
 -- ── a moment
 given-same : (m : Moment CallMade) (t : TaskSlot) (n : ℕ) → madeTask m n ≡ isCreated t m → (setsPriorityOf n (m .made .call) && notRefused m) ≡ isChanged t m → givenTo n m ≡ givenAt t m

@@ -23,7 +23,7 @@ use Rattle.rules.specs.Trace.{trace, stepMade}
 use Rattle.slots.specs.Values.{taskAt}
 use Rattle.slots.specs.Kinds.{kindAt}
 use Rattle.rules.specs.Tables.{fresh, holds, freeSlot, freeObject}
-use Rattle.rules.specs.Ticks.{wokenIfDue, wakes, oneTick, turned, ticked, ticks, released, held}
+use Rattle.rules.specs.Ticks.{wokenIfDue, wakes, oneTick, turned, ticked, ticks, released, held, advanced}
 use Rattle.rules.specs.Waits.{arrives, waitFor}
 use Rattle.histories.specs.Moments.{tasksBelow}
 use Rattle.histories.specs.Borrowed.{largest, givenAt, lastGiven, lentAt, countedSince, due}
@@ -31,7 +31,7 @@ use Rattle.histories.specs.Tales.{unlent, shownAfter, shownBy, twoGives,
 use Rattle.histories.specs.Again.{namesTask, namesObject, madeTask, madeObject, usedAgain, atEach}
 use Rattle.histories.specs.ByFullNumber.{givenTo}
 use Rattle.histories.specs.Earlier.{beganAt}
-use Rattle.histories.specs.Meters.{metersBy, asTheSlots, againstTheSlots, longerFirst, waiterFirst, delayFirst, delaysReleased, waiterReleased}
+use Rattle.histories.specs.Meters.{metersBy, asTheSlots, againstTheSlots, longerFirst, waiterFirst, delayFirst, delaysReleased, waiterReleased, delaysAdvanced, waiterAdvanced}
 
 pub record TalesFit : Type 0 where
   -- a loan is made, kept over the first of two gives, and paid back at the last
@@ -110,15 +110,17 @@ pub record MetersFit : Type 0 where
   pub delay-first : metersBy delayFirst ≡ delayFirst .expected
   pub delays-released : metersBy delaysReleased ≡ delaysReleased .expected
   pub waiter-released : metersBy waiterReleased ≡ waiterReleased .expected
+  pub delays-advanced : metersBy delaysAdvanced ≡ delaysAdvanced .expected
+  pub waiter-advanced : metersBy waiterAdvanced ≡ waiterAdvanced .expected
 
 pub meters-fit : MetersFit
-unfolding trace asTheSlots againstTheSlots longerFirst waiterFirst delayFirst delaysReleased waiterReleased beganAt every allBelow foldl upTo index any
-    kept asked ordered without count tidy putAt created deleted suspended resumed yielded delayed queueMade mutexMade removed taken handedOn given
+unfolding trace asTheSlots againstTheSlots longerFirst waiterFirst delayFirst delaysReleased waiterReleased delaysAdvanced waiterAdvanced beganAt every
+    allBelow foldl upTo index any kept asked ordered without count tidy putAt created deleted suspended resumed yielded delayed queueMade mutexMade removed taken handedOn given
     effect itemAt outlet sent storeSent received storeReceived line those begun highest leader first chosen toTail toHead leaves moved movedIf
     prioritized newPriority lent ownAgain outOfRange namesNone wrongSize notForIdle notWithHold noneFree heldOrWaited inUse notHis hisAlready
     notSuspended mustWait noDepth noTick table laterRow refusal noHigher runsFine tablesFine levelsFine listingFine clockFine usesFine sound stored
     answered usesAfter accepted step fresh freshUses taskAt kindAt holds freeSlot freeObject wokenIfDue wakes oneTick turned ticked ticks released
-    held arrives waitFor
+    held advanced arrives waitFor
 meters-fit = record {
   as-the-slots = refl;
   against-the-slots = refl;
@@ -127,4 +129,6 @@ meters-fit = record {
   delay-first = refl;
   delays-released = refl;
   waiter-released = refl;
+  delays-advanced = refl;
+  waiter-advanced = refl;
 }

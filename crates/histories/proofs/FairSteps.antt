@@ -22,25 +22,25 @@ use Rattle.rows.specs.Asking.{is, makes}
 use Rattle.rules.specs.Refusals.{newSlot}
 use Rattle.rows.specs.Applies.{namesNone}
 use Rattle.rules.specs.Refusals.{laterRow, refusal}
-use Rattle.rules.specs.Ticks.{held}
+use Rattle.rules.specs.Ticks.{held, advanced}
 use Rattle.rules.specs.Effects.{resumed, yielded, queueMade, mutexMade, removed, effect}
 use Rattle.rules.specs.Steps.{newNumber, answered, usesAfter, accepted, turnedAway, steppedBy, step}
 use Rattle.rules.proofs.SoundSays.{sound-says}
 use Rattle.rules.proofs.RowPasses.{Passed, passed}
 use Rattle.rules.specs.Trace.{Moment, momentOf, CallMade, stepMade}
 use Rattle.histories.specs.Types.{TaskSlot, Call, Create, Delete, Suspend, Resume, SetPriority, Delay, Yield, Hold, Release, MakeQueue, MakeMutex, Remove, Send, Receive}
-use Rattle.histories.specs.Types.{Take, Give, Tick, Ready, AllReady, State}
+use Rattle.histories.specs.Types.{Take, Give, Tick, Advance, Ready, AllReady, State}
 use Rattle.histories.specs.Moments.{exists, isRefusal}
 use Rattle.histories.specs.Borrowed.{givenAt, lentAt}
 use Rattle.histories.proofs.Quiet.{still}
-use Rattle.histories.proofs.QuietCalls.{arrives-quiet, suspended-quiet, delayed-quiet, send-quiet, receive-quiet, ticked-quiet, released-quiet}
+use Rattle.histories.proofs.QuietCalls.{arrives-quiet, suspended-quiet, delayed-quiet, send-quiet, receive-quiet, ticked-quiet, ticks-quiet, released-quiet}
 use Rattle.histories.proofs.Fair.{Fair, none-given, quiet-fair}
 use Rattle.histories.proofs.FairTasks.{moment, create-fair, delete-fair, change-fair}
 use Rattle.histories.proofs.FairMutexes.{take-fair, give-fair}
 
 effect-fair : (k : State) → Sound k → (n : ℕ) (a : Saying) → isRefusal (a .word) ≡ false → (t : TaskSlot) (c : Call) → Passed k (asked (k .uses) c) n
     → Fair (moment k c a (effect k (asked (k .uses) c))) t
-unfolding effect asked namesNone resumed yielded held queueMade mutexMade removed toTail
+unfolding effect asked namesNone resumed yielded held queueMade mutexMade removed advanced toTail
 effect-fair k S n a ok t (Create p) P = create-fair k S n a p P t
 effect-fair k S n a ok t (Delete u) P = delete-fair k S n a u P t
 effect-fair k S n a ok t (Suspend u) P = quiet-fair _ t (none-given t _ refl refl) (suspended-quiet k S t (taskSlot (k .uses) u) (P .named))
@@ -58,6 +58,7 @@ effect-fair k S n a ok t (Receive o w) P = quiet-fair _ t (none-given t _ refl r
 effect-fair k S n a ok t (Take o w) P = take-fair k S n a o w P t
 effect-fair k S n a ok t (Give o) P = give-fair k S n a o t
 effect-fair k S n a ok t Tick P = quiet-fair _ t (none-given t _ refl refl) (ticked-quiet t _ k)
+effect-fair k S n a ok t (Advance d) P = quiet-fair _ t (none-given t _ refl refl) (ticks-quiet t _ true d k)
 
 -- choose changes who runs, and nothing else; and with it go other uses
 chosen-fair : (k : State) (c : Call) (a : Saying) (j : State) (us : Uses) (t : TaskSlot) → Fair (moment k c a j) t → Fair (moment k c a (withUses (chosen j) us)) t

@@ -33,7 +33,7 @@ use Rattle.rules.proofs.KeepObjects.{object-low}
 use Rattle.rules.proofs.KeepUses.{up-other}
 use Rattle.rules.proofs.KeepTaken.{stands, standsAs, there-stands, used-stands, Stays, effect-stays}
 use Rattle.histories.specs.Types.{TaskSlot, ObjSlot, Place, Free, Ready, Delayed, Waiting, Suspended, Spent, Task, Ring, Nobody, Kind, Unused, SpentObject, Queue, Mutex, Object, AllReady, State}
-use Rattle.histories.specs.Types.{Call, Create, Delete, Suspend, Resume, SetPriority, Delay, Yield, Hold, Release, MakeQueue, MakeMutex, Remove, Send, Receive, Take, Give, Tick}
+use Rattle.histories.specs.Types.{Call, Create, Delete, Suspend, Resume, SetPriority, Delay, Yield, Hold, Release, MakeQueue, MakeMutex, Remove, Send, Receive, Take, Give, Tick, Advance}
 
 -- of a slot where nothing, something, or nothing ever after stands
 abbrev pub lifeIn : ℕ → ℕ → ℕ
@@ -272,6 +272,7 @@ effect-becomes k S n (Receive o w) P b s = left-alone k _ _ _ (effect-stays k S 
 effect-becomes k S n (Take o w) P b s = left-alone k _ _ _ (effect-stays k S n (Take o w) refl P) refl refl refl b s
 effect-becomes k S n (Give o) P b s = left-alone k _ _ _ (effect-stays k S n (Give o) refl P) refl refl refl b s
 effect-becomes k S n Tick P b s = left-alone k _ _ _ (effect-stays k S n Tick refl P) refl refl refl b s
+effect-becomes k S n (Advance d) P b s = left-alone k _ _ _ (effect-stays k S n (Advance d) refl P) refl refl refl b s
 
 pub effect-grows : (k : State) → Sound k → (n : ℕ) (c : Call) → Passed k (asked (k .uses) c) n → Grows k (next k c)
 effect-grows k S n c P b s = becomes-life _ _ _ _ _ (effect-becomes k S n c P b s) (range b)
@@ -310,6 +311,7 @@ effect-takes k S n (Receive o w) P x = absurd (false≢true x)
 effect-takes k S n (Take o w) P x = absurd (false≢true x)
 effect-takes k S n (Give o) P x = absurd (false≢true x)
 effect-takes k S n Tick P x = absurd (false≢true x)
+effect-takes k S n (Advance d) P x = absurd (false≢true x)
 
 -- choose changes who runs, and no slot
 pub chosen-slot : (f : ℕ → ℕ → ℕ) (b : Bool) (j : State) (us : Uses) (s : ℕ)

@@ -13,8 +13,7 @@ use Rattle.slots.specs.Places.{isFree, isBlocked, isListed, waitsOn, wakesAt, o
 use Rattle.slots.specs.Values.{brokenOff, taskAt}
 use Rattle.slots.specs.Kinds.{kindAt}
 use Rattle.rules.specs.Tables.{withTask, withTick, withHold}
-use Rattle.rules.specs.Lines.{begun, level, first, toTail, leaves}
-use Rattle.rules.specs.Sound.{noHigher}
+use Rattle.rules.specs.Lines.{begun, first, toTail, leaves}
 use Rattle.rules.specs.Sentences.{Holds, Sound}
 use Rattle.rules.specs.Waits.{later, wakeOf, arrives, waitFor}
 use Rattle.rules.specs.Ticks.{wokenIfDue, wakes, oneTick, turned, ticked, ticks, released}
@@ -23,6 +22,7 @@ use Rattle.rules.specs.Queues.{sentBy, sent, sentTo, refilledBy, received, rece
 use Rattle.rules.specs.Effects.{suspended, yielded, delayed, handedTo, handedOn}
 use Rattle.rules.proofs.TableSlots.{passes-there, by-kind}
 use Rattle.rules.proofs.TableWithin.{first-meant, first-single, by-outlet}
+use Rattle.rules.proofs.TickJumps.{turned-only, turn-only}
 use Rattle.rules.proofs.KeepTicks.{due-there}
 use Rattle.histories.specs.Types.{TaskSlot, Place, ObjSlot, Ready, Delayed, Waiting, Suspended, Ring, Queue, Object, WaitersOf, State}
 use Rattle.histories.proofs.Quiet.{Quiet, still, onward, placed-quiet}
@@ -61,30 +61,32 @@ module _ (t : TaskSlot) (os : List Object) where
   wakes-quiet [] j = still
   wakes-quiet (u ∷ l) j = onward (woken-quiet j u) (wakes-quiet l (wokenIfDue j u))
 
-  loop-quiet : (f : State → ℕ → State) → ((j : State) (n : ℕ) → Quiet t os (j .tasks) (f j n .tasks)) → (n : ℕ) (j : State) → Quiet t os (j .tasks) (upTo f n j .tasks)
-  unfolding upTo
-  loop-quiet f q zero j = still
-  loop-quiet f q (suc n) j = onward (loop-quiet f q n j) (q (upTo f n j) n)
-
   tick-quiet : (j : State) → Quiet t os (j .tasks) (oneTick j .tasks)
   unfolding oneTick wakes
   tick-quiet j = wakes-quiet (begun (j .tasks) (listed (j .order))) (withTick j (later (j .tick) 1))
 
   pub ticked-quiet : (j : State) → Quiet t os (j .tasks) (ticked j .tasks)
-  unfolding ticked turned toTail
-  ticked-quiet j = go (ltb 0 (j .hold)) (noHigher (oneTick j .tasks) (level (oneTick j .tasks) (oneTick j .running)) (listed (oneTick j .order)))
+  unfolding ticked
+  ticked-quiet j = go (ltb 0 (j .hold))
     where
-      go : (a b : Bool) → Quiet t os (j .tasks) ((if a then withHold j (j .hold) (j .pended + 1) else (if b then toTail (oneTick j) (oneTick j .running) else oneTick j)) .tasks)
-      go true b = still
-      go false true = tick-quiet j
-      go false false = tick-quiet j
+      go : (b : Bool) → Quiet t os (j .tasks) ((if b then withHold j (j .hold) (j .pended + 1) else turned (oneTick j)) .tasks)
+      go true = still
+      go false = rw (turned-only (oneTick j) .tasks) (tick-quiet j)
+
+  -- several ticks, with their turns or without
+  pub ticks-quiet : (turns : Bool) (n : ℕ) (j : State) → Quiet t os (j .tasks) (ticks turns n j .tasks)
+  unfolding ticks upTo
+  ticks-quiet turns zero j = still
+  ticks-quiet turns (suc n) j =
+      let i = ticks turns n j in
+      onward (ticks-quiet turns n j) (rw (turn-only turns (oneTick i) .tasks) (tick-quiet i))
 
   pub released-quiet : (j : State) → Quiet t os (j .tasks) (released j .tasks)
-  unfolding released ticks
+  unfolding released
   released-quiet j = go (eqb (j .hold) 1)
     where
-      go : (b : Bool) → Quiet t os (j .tasks) ((if b then ticks (j .pended) (withHold j 0 0) else withHold j (j .hold - 1) (j .pended)) .tasks)
-      go true = loop-quiet (λ x i. oneTick x) (λ x i. tick-quiet x) (j .pended) (withHold j 0 0)
+      go : (b : Bool) → Quiet t os (j .tasks) ((if b then ticks false (j .pended) (withHold j 0 0) else withHold j (j .hold - 1) (j .pended)) .tasks)
+      go true = ticks-quiet false (j .pended) (withHold j 0 0)
       go false = still
 
 -- ── the calls

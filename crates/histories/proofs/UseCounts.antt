@@ -9,7 +9,6 @@ use borrow.Author.Tests.{eqb-true}
 use Rattle.lists.specs.Choice.{if_then_else_}
 use Rattle.lists.specs.Lists.{foldl, kept}
 use Rattle.lists.proofs.Bools.{off}
-use Rattle.numbers.specs.Numbers.{task, object}
 use Rattle.calls.specs.Door.{useIn, freshUses}
 use Rattle.calls.specs.Behind.{asked}
 use Rattle.slots.specs.Places.{isFree, takesTask}

@@ -12,7 +12,7 @@ use Rattle.rules.specs.Lines.{level}
 use Rattle.rows.specs.Asking.{is}
 use Rattle.rules.specs.Trace.{Moment, CallMade}
 use Rattle.histories.specs.Types.{TaskSlot, State}
-use Rattle.histories.specs.Moments.{moments, hasMutex, appears, waited, beginsToWait, notRefused, tasksBelow}
+use Rattle.histories.specs.Moments.{hasMutex, appears, waited, beginsToWait, notRefused, tasksBelow}
 
 -- the largest of several, 0 for none
 unfoldable pub largest : List ℕ → ℕ

@@ -1,11 +1,13 @@
 -- "whoever began its delay or wait earlier": the moment at which the present one began, and what that moment decides.
-use Prim.Native.Nat.{ℕ, _<_}
+use Prim.Native.Nat.{ℕ, suc, _<_}
 use mathlib.Core.Path.{_≡_}
-use mathlib.Core.Bool.{Bool, true, not, _&&_}
+use mathlib.Core.Bool.{Bool, true, false, not, _&&_}
 use mathlib.Core.List.{List, [], _∷_, _++_}
+use lib.Dec.{eqb}
 use lib.ListN.{length}
 use Rattle.lists.specs.Choice.{if_then_else_}
 use Rattle.lists.specs.Lists.{any}
+use Rattle.calls.specs.Table.{called}
 use Rattle.order.specs.Order.{listed}
 use Rattle.slots.specs.Places.{wakesAt}
 use Rattle.slots.specs.Values.{inLine, taskAt}
@@ -15,7 +17,7 @@ use Rattle.rules.specs.Waits.{later}
 use Rattle.rules.specs.Ticks.{ReadyFirst, ticks}
 use Rattle.rules.specs.Trace.{Moment, CallMade}
 use Rattle.promises.specs.History.{reached}
-use Rattle.histories.specs.Types.{TaskSlot}
+use Rattle.histories.specs.Types.{TaskSlot, Call, State}
 use Rattle.histories.specs.Moments.{moments}
 
 -- it is delayed or waits after the moment, and did neither before
@@ -38,15 +40,29 @@ pub record Earlier (ms : List CallMade) (w : ℕ) (t u : TaskSlot) : Type 0 wher
   pub second-due : wakesAt w (taskAt (reached ms .tasks) u .place) ≡ true
   pub sooner : beganAt t (moments ms) < beganAt u (moments ms)
 
--- "Among tasks due on one tick, make ready first whoever began its delay or wait earlier", "for a tick and for release"
+-- the next tick of k, if it is the one on which both are due and the delay or wait of u has not ended before, makes t ready first
+abbrev pub WakesFirst : ℕ → TaskSlot → TaskSlot → State → Type 0
+WakesFirst w t u k = later (k .tick) 1 ≡ w → hasBegun (k .tasks) u ≡ true → ReadyFirst t u (withTick k w) (begun (k .tasks) (listed (k .order)))
+
+-- where both stand in the line of p, t stands ahead
+abbrev pub AheadIfBoth : ℕ → TaskSlot → TaskSlot → State → Type 0
+AheadIfBoth p t u k = inLine p (taskAt (k .tasks) t) ≡ true → inLine p (taskAt (k .tasks) u) ≡ true → Ahead t u (line (k .tasks) p (listed (k .order)))
+
+-- the call is an advance
+abbrev pub advances : Call → Bool
+advances c = eqb (called c .number) 18
+
+-- "Among tasks due on one tick, make ready first whoever began its delay or wait earlier", "for a tick and for release", and so for each tick of an advance
 pub record WokenInOrder (ms : List CallMade) (w : ℕ) (t u : TaskSlot) : Type 0 where
   -- the order that is remembered says so
   pub remembered : Ahead t u (begun (reached ms .tasks) (listed (reached ms .order)))
   -- a tick makes it ready first
   pub at-tick : later (reached ms .tick) 1 ≡ w → ReadyFirst t u (withTick (reached ms) w) (begun (reached ms .tasks) (listed (reached ms .order)))
   -- so does the pended tick of a release on which both are due, after i others
-  pub at-release : (i : ℕ) → let k = ticks i (withHold (reached ms) 0 0) in
-      later (k .tick) 1 ≡ w → hasBegun (k .tasks) u ≡ true → ReadyFirst t u (withTick k w) (begun (k .tasks) (listed (k .order)))
-  -- so it stands ahead where both join one line, whatever the call after which they stand there
-  pub in-line : (m : CallMade) (p : ℕ) → let k = reached (ms ++ (m ∷ [])) in
-      inLine p (taskAt (k .tasks) t) ≡ true → inLine p (taskAt (k .tasks) u) ≡ true → Ahead t u (line (k .tasks) p (listed (k .order)))
+  pub at-release : (i : ℕ) → WakesFirst w t u (ticks false i (withHold (reached ms) 0 0))
+  -- so does the tick of an advance on which both are due, after i others, each with its turn of the line
+  pub at-advance : (i : ℕ) → reached ms .hold ≡ 0 → WakesFirst w t u (ticks true i (reached ms))
+  -- so it stands ahead where both join one line, whatever the call after which they stand there, but for an advance: there more ticks may come, and turn the line
+  pub in-line : (m : CallMade) (p : ℕ) → advances (m .call) ≡ false → AheadIfBoth p t u (reached (ms ++ (m ∷ [])))
+  -- in an advance it stands ahead after the tick, behind i others, that ends the delay or wait of u
+  pub in-advance : (i p : ℕ) → reached ms .hold ≡ 0 → hasBegun (ticks true i (reached ms) .tasks) u ≡ true → AheadIfBoth p t u (ticks true (suc i) (reached ms))

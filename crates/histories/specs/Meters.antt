@@ -7,7 +7,7 @@ use Rattle.order.specs.Order.{listed}
 use Rattle.rules.specs.Tables.{fresh}
 use Rattle.rules.specs.Lines.{begun}
 use Rattle.rules.specs.Trace.{Moment, trace, CallMade, stepMade}
-use Rattle.histories.specs.Types.{TaskSlot, State, Call, Create, Delay, Yield, Hold, Release, MakeQueue, Receive, Tick}
+use Rattle.histories.specs.Types.{TaskSlot, State, Call, Create, Delay, Yield, Hold, Release, MakeQueue, Receive, Tick, Advance}
 use Rattle.histories.specs.Moments.{moments}
 use Rattle.histories.specs.Tales.{unlent}
 use Rattle.histories.specs.Earlier.{beganAt}
@@ -111,6 +111,28 @@ waiterReleased = record {
   expected = record {
     waiting = [] ∷ [] ∷ [] ∷ [] ∷ (2 ∷ []) ∷ (2 ∷ 1 ∷ []) ∷ (2 ∷ 1 ∷ []) ∷ (2 ∷ 1 ∷ []) ∷ (2 ∷ 1 ∷ []) ∷ (2 ∷ 1 ∷ []) ∷ [] ∷ [];
     running = 1 ∷ 1 ∷ 1 ∷ 2 ∷ 1 ∷ 0 ∷ 0 ∷ 0 ∷ 0 ∷ 0 ∷ 2 ∷ [];
+    began = 5 ∷ 4 ∷ [];
+  };
+}
+
+-- the two delays in an advance that ends with their tick
+unfoldable pub delaysAdvanced : MeterTale
+delaysAdvanced = record {
+  calls = Create 3 ∷ Create 3 ∷ Yield ∷ Delay 2 ∷ Delay 2 ∷ Advance 2 ∷ [];
+  expected = record {
+    waiting = [] ∷ [] ∷ [] ∷ (2 ∷ []) ∷ (2 ∷ 1 ∷ []) ∷ [] ∷ [];
+    running = 1 ∷ 1 ∷ 2 ∷ 1 ∷ 0 ∷ 2 ∷ [];
+    began = 4 ∷ 3 ∷ [];
+  };
+}
+
+-- the waiter with the delay, in an advance with one tick more, which turns their line
+unfoldable pub waiterAdvanced : MeterTale
+waiterAdvanced = record {
+  calls = Create 3 ∷ Create 3 ∷ MakeQueue 1 4 ∷ Yield ∷ Receive (objectOf 0) 2 ∷ Delay 2 ∷ Advance 1 ∷ Advance 2 ∷ [];
+  expected = record {
+    waiting = [] ∷ [] ∷ [] ∷ [] ∷ (2 ∷ []) ∷ (2 ∷ 1 ∷ []) ∷ (2 ∷ 1 ∷ []) ∷ [] ∷ [];
+    running = 1 ∷ 1 ∷ 1 ∷ 2 ∷ 1 ∷ 0 ∷ 0 ∷ 1 ∷ [];
     began = 5 ∷ 4 ∷ [];
   };
 }

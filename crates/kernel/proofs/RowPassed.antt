@@ -12,10 +12,11 @@ use Rattle.rows.specs.Asking.{makes}
 use Rattle.rules.specs.Refusals.{newSlot}
 use Rattle.rows.specs.Applies.{sizeDiffers, firstRow, table}
 use Rattle.rules.specs.Refusals.{seen, laterRow}
-use Rattle.rules.proofs.RowPasses.{Passed, passed, InRange, in-range-of, send-sized, hold-fits, release-fits, tick-fits}
+use Rattle.rules.proofs.RowPasses.{Passed, passed, InRange, in-range-of, send-sized, hold-fits, release-fits, tick-fits, advance-free}
+use Rattle.rules.proofs.KeepTicks.{sound-unheld}
 use Rattle.kernel.specs.Types.{Core}
 use Rattle.kernel.specs.Stands.{shownCore}
-use Rattle.kernel.specs.Does.{Reads, Firm}
+use Rattle.kernel.specs.Does.{Reads, Firm, Turning}
 use Rattle.kernel.proofs.Stands.{same-hold, same-pended}
 
 -- what was seen is what the table looks at, and has the new slot
@@ -51,6 +52,9 @@ module _ (k : Core) (F : Firm k) (a : Asked) (item store : ℕ) (e : laterRow (s
       ap (λ (h : ℕ). ltb 0 h && eqb (k .pended) 65535) (same-hold k (shownCore k) (F .stands))
       ∙ ap (λ (p : ℕ). ltb 0 (shownCore k .hold) && eqb p 65535) (same-pended k (shownCore k) (F .stands))
       ∙ tick-fits (shownCore k) a n (P .ticks)
+
+  pub may-turn : a .number ≡ 18 → Turning k
+  may-turn n = record { stands = F .stands; unheld = sound-unheld (shownCore k) (F .sound) (advance-free (shownCore k) a n (P .held)) }
 
 -- the slot that was found is that of the call's own table
 module _ {k : Core} {n : ℕ} (a : Asked) (f : makes a ≡ true → Reads k (λ s. newSlot s a) n) where

@@ -5,7 +5,6 @@ use mathlib.Core.Bool.{Bool, true, false, _&&_}
 use mathlib.Core.List.{List}
 use native.Mathlib.Omega.{arith}
 use Rattle.lists.specs.Choice.{if_then_else_}
-use Rattle.lists.specs.Lists.{every, allBelow}
 use Rattle.lists.proofs.Bools.{and-left, and-right, and-intro, same-test}
 use Rattle.calls.specs.Door.{freshUses, usesFine}
 use Rattle.tasks.specs.Columns.{tasksOf}
@@ -18,6 +17,7 @@ use Rattle.rules.specs.State.{State}
 use Rattle.rules.specs.Tables.{withUses}
 use Rattle.rules.specs.Sound.{sound}
 use Rattle.rules.specs.Steps.{Stepped}
+use Rattle.rules.proofs.SoundUses.{fresh-fine}
 use Rattle.rules.proofs.SoundSays.{sound-tested, tested-sound, sound-says}
 use Rattle.kernel.specs.Types.{Core, Kernel, Uses, Step}
 use Rattle.kernel.specs.Stands.{coreOf, kernelOf, plain, asRows, withoutTables, shownWith, shown, shownCore, standing}
@@ -57,10 +57,6 @@ shown-uses k = go (plain (k .core))
     go false = refl
 
 -- the test, in two parts: what stands behind the door, and the uses
-pub fresh-fine : usesFine freshUses ≡ true
-unfolding usesFine freshUses every allBelow
-fresh-fine = refl
-
 module _ (k : Core) (us : Uses) where
   change : (vs : Uses) → usesFine vs ≡ true → sound (asRows k us) ≡ true → sound (asRows k vs) ≡ true
   change vs f e =

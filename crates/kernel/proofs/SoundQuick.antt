@@ -54,7 +54,8 @@ use Rattle.rules.proofs.SoundSays.{Tested, sound-tested, tested-sound}
 use Rattle.kernel.specs.Types.{Core}
 use Rattle.kernel.specs.Stands.{coreOf, plain, asRows, withoutTables as noTables, shownWith, shownCore}
 use Rattle.calls.specs.Door.{freshUses}
-use Rattle.kernel.proofs.Shown.{fresh-fine, no-tables}
+use Rattle.rules.proofs.SoundUses.{fresh-fine}
+use Rattle.kernel.proofs.Shown.{no-tables}
 use Rattle.slots.specs.declared.Place.the-variants.{Spent}
 
 -- ── small laws

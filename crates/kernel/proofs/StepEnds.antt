@@ -25,13 +25,15 @@ use Rattle.rules.specs.Refusals.{newSlot}
 use Rattle.rules.specs.Refusals.{heldOrWaited, inUse, laterRow, refusal}
 use Rattle.rules.specs.Effects.{effect}
 use Rattle.rules.specs.Steps.{newNumber, stored, answered, usesAfter, accepted, step}
-use Rattle.rules.proofs.KeepChosen.{chosen-tasks}
-use Rattle.rules.proofs.RowPasses.{sound-steady}
+use Rattle.rules.proofs.SoundSays.{sound-says}
+use Rattle.rules.proofs.Keeps.{ready-low}
+use Rattle.rules.proofs.KeepChosen.{sound-with, chosen-tasks}
+use Rattle.rules.proofs.KeepTicks.{fresh-used}
 use Rattle.kernel.specs.Types.{Core, Kernel, Uses, Step}
 use Rattle.kernel.specs.Stands.{coreOf, kernelOf, shownCore, shown, standing}
 use Rattle.kernel.specs.Does.{Reads, Does, answerOf, Firm}
 use Rattle.kernel.specs.Promises.{SoundSteps, Steps}
-use Rattle.rules.specs.Sentences.{Steady}
+use Rattle.rules.specs.Sentences.{Sound}
 use Rattle.kernel.proofs.Stands.{same-running}
 use Rattle.kernel.proofs.Shown.{shown-with, shown-uses}
 
@@ -41,9 +43,6 @@ stands-on k e h = rw h
 pub stays : (k : Kernel) (e : State) → sound (shown k) ≡ false → standing k e ≡ k
 stays k e h = rw h
 
-steady-with : {s : State} (us : Uses) → Steady s → Steady (withUses s us)
-steady-with us S = record { task-slots = S .task-slots; object-slots = S .object-slots; runs = S .runs; fit = S .fit }
-
 module _ (k : Kernel) (fine : sound (shown k) ≡ true) (h : k ≡ kernelOf (shown k)) where
   pub core-stands : k .core ≡ coreOf (shown k)
   core-stands = ap (λ (x : Kernel). x .core) h
@@ -51,13 +50,16 @@ module _ (k : Kernel) (fine : sound (shown k) ≡ true) (h : k ≡ kernelOf (sho
   behind : shownCore (k .core) ≡ withUses (shown k) freshUses
   behind = ap shownCore core-stands ∙ shown-with (shown k) freshUses
 
+  S : Sound (shown k)
+  S = sound-says (shown k) fine
+
   pub firm : Firm (k .core)
   unfolding coreOf
   firm =
       record {
         stands = core-stands ∙ sym (ap coreOf behind);
-        steady = subst Steady (sym behind) (steady-with freshUses (sound-steady (shown k) fine));
-        runs = rw (same-running (k .core) (shown k) core-stands) (sound-steady (shown k) fine .runs);
+        sound = subst Sound (sym behind) (sound-with (shown k) S fresh-used);
+        runs = rw (same-running (k .core) (shown k) core-stands) (ready-low (shown k .tasks) (shown k .running) (S .tables .task-slots) (S .running .runs .ready));
       }
 
   -- no row looks at the uses

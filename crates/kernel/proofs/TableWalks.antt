@@ -45,7 +45,7 @@ pub lines-are : (s : State) → linesIn (tasksOf (s .tasks)) (listed (s .order))
 unfolding linesOf
 lines-are s = lines-of (s .tasks) (listed (s .order))
 
-top-highest : (ts : List Task) (l : List TaskSlot) → topIn (tasksOf ts) l ≡ highest ts (those ts AllReady l)
+pub top-highest : (ts : List Task) (l : List TaskSlot) → topIn (tasksOf ts) l ≡ highest ts (those ts AllReady l)
 unfolding those
 top-highest ts l = top-of ts l ∙ largest-highest ts (kept (λ t. isReady (taskAt ts t .place)) l)
 
@@ -68,7 +68,7 @@ stays-running s h = rw (ne-eqb (s .hold) 0 h)
 
 -- whether a higher line is occupied
 module _ (k : Core) (s : State) (y : Task) (n : ℕ) (h : k ≡ coreOf s) (q : y ≡ taskAt (s .tasks) (k .running)) (e : n ≡ topIn (k .tasks) (listed (k .order))) where
-  no-higher-of : noHigher (s .tasks) (level (s .tasks) (s .running)) (listed (s .order)) ≡ leb n (y .effective)
+  pub no-higher-of : noHigher (s .tasks) (level (s .tasks) (s .running)) (listed (s .order)) ≡ leb n (y .effective)
   unfolding coreOf
   no-higher-of =
       no-higher-by (s .tasks) (level (s .tasks) (s .running)) (listed (s .order))

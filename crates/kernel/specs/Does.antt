@@ -9,7 +9,7 @@ use Rattle.slots.specs.Places.{isBlocked}
 use Rattle.slots.specs.Values.{taskAt}
 use Rattle.rules.specs.State.{State}
 use Rattle.rows.specs.Asking.{makes}
-use Rattle.rules.specs.Sentences.{Steady}
+use Rattle.rules.specs.Sentences.{Sound, Unheld}
 use Rattle.kernel.specs.Types.{Core}
 use Rattle.kernel.specs.Stands.{coreOf, shownCore}
 
@@ -28,8 +28,13 @@ answerOf a n u e =
     else if isBlocked (taskAt (e .tasks) u .place) then says waiting 0
     else says done 0
 
--- the value stands for a state, and that state is steady
+-- the value stands for a state, and that state is sound
 pub record Firm (k : Core) : Type 0 where
   pub stands : k ≡ coreOf (shownCore k)
-  pub steady : Steady (shownCore k)
+  pub sound : Sound (shownCore k)
   pub runs : k .running .0 < 16
+
+-- the value stands for a state, and of that state the line may be turned
+pub record Turning (k : Core) : Type 0 where
+  pub stands : k ≡ coreOf (shownCore k)
+  pub unheld : Unheld (shownCore k)

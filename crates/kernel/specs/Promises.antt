@@ -1,7 +1,7 @@
 -- What the public functions promise, for every kernel value.
 use Prim.Native.Nat.{ℕ}
 use mathlib.Core.Path.{_≡_}
-use mathlib.Core.List.{List, _++_}
+use mathlib.Core.List.{List, [], _∷_, _++_}
 use lib.ListN.{length, drop}
 use Rattle.calls.specs.declared.Call.{Call}
 use Rattle.calls.specs.declared.Asked.{Asked}
@@ -11,7 +11,7 @@ use Rattle.rules.specs.Tables.{fresh}
 use Rattle.rules.specs.Refusals.{laterRow}
 use Rattle.rules.specs.Steps.{Stepped, steppedBy, step}
 use Rattle.rules.specs.Sessions.{stepOfLine, Run, run, begun, closed}
-use Rattle.kernel.specs.Types.{Kernel, Step, Session, Served}
+use Rattle.kernel.specs.Types.{Kernel, Sleep, Ticks, ForEver, Step, Session, Served}
 use Rattle.kernel.specs.Stands.{kernelOf, shown, standing}
 
 -- the step r from the kernel value k, with the store s afterwards, is what the definition d says: refused as not sound, k comes back as it was
@@ -53,6 +53,11 @@ Answers n block s lent r after o = Ran (standing (n .kernel) (ranOf n block s le
 -- the promise of the input's end, which changes no kernel and no store
 abbrev pub Closes : Session → List ℕ → List ℕ → Served → List ℕ → Type 0
 Closes n s lent r o = Ran (n .kernel) (closed (length lent) (shown (n .kernel)) s (n .cut)) lent r s o
+
+-- so many ticks, or none: for ever
+abbrev pub ticksOf : Sleep → List ℕ
+ticksOf (Ticks n) = n ∷ []
+ticksOf ForEver = []
 
 -- "The program starts from the fresh kernel and a store of zeros."
 unfoldable pub newSession : Session

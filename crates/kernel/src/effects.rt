@@ -1,20 +1,21 @@
-// The 17 calls, accepted: each does its row of the call table.
+// The 18 calls, accepted: each does its row of the call table.
 ghost use mathlib.Core.Path.{_≡_};
 ghost use mathlib.Core.Bool.{_&&_, true, false};
 ghost use lib.Dec.{eqb, ltb};
 ghost use lib.ListN.{length};
 ghost use Rattle.slots.specs.Kinds.{kindAt};
 ghost use Rattle.rules.specs.Tables.{freeSlot, freeObject};
-ghost use Rattle.rows.specs.Asking.{makes};
+ghost use Rattle.lists.specs.Choice.{if_then_else_};
+ghost use Rattle.rows.specs.Asking.{is, makes};
 ghost use Rattle.rules.specs.Refusals.{newSlot};
 ghost use Rattle.rows.specs.Applies.{sizeDiffers};
 ghost use Rattle.rules.specs.Refusals.{laterRow};
-ghost use Rattle.rules.specs.Ticks.{ticked, held, released};
+ghost use Rattle.rules.specs.Ticks.{ticked, held, released, advanced};
 ghost use Rattle.rules.specs.Queues.{sentTo, receivedFrom, storeSentTo, storeReceivedFrom};
 ghost use Rattle.rules.specs.Effects.{created, deleted, suspended, resumed, delayed, queueMade, mutexMade, removed, taken, handedOn, given, effect};
 ghost use Rattle.rules.specs.Steps.{stored};
 ghost use Rattle.kernel.specs.Stands.{shownCore};
-ghost use Rattle.kernel.specs.Does.{Reads, Does, Firm};
+ghost use Rattle.kernel.specs.Does.{Reads, Does, Firm, Turning};
 use crate::Core;
 use calls::Asked;
 use numbers::ObjSlot;
@@ -25,6 +26,17 @@ use slots::Kind;
 use slots::Place;
 use slots::Ring;
 use slots::Task;
+
+// How many ticks pass.
+fn so_many(a: Asked, pended: u16) -> u32
+    ensures { λ r. ⌜ r ≡ if is 18 a then a .ticks else pended ⌝ }
+{
+    if a.number == 18 {
+        a.ticks
+    } else {
+        pended as u32
+    }
+}
 
 impl Core {
     fn create(self, n: u8, p: u8) -> Core
@@ -100,15 +112,17 @@ impl Core {
         self.with_hold(self.hold + 1, self.pended)
     }
 
-    fn release(self) -> Core
-        requires { ⌜ eqb (self .hold) 0 ≡ false ⌝ }
-        ensures { λ r. ⌜ Does self released r ⌝ }
+    // Time passes: at the last release the pended ticks, in an advance those asked for, with their turns. Both here, so that the ticks stand in one place of the
+    // compiled step: a kernel that is handed on is copied.
+    fn time_passes(self, a: Asked) -> Core
+        requires { ⌜ (is 18 a ≡ true → Turning self) × (is 18 a ≡ false → eqb (self .hold) 0 ≡ false) ⌝ }
+        ensures { λ r. ⌜ Does self (λ s. if is 18 a then advanced s (a .ticks) else released s) r ⌝ }
     {
-        if self.hold == 1 {
-            self.with_hold(0, 0).ticks(self.pended)
-        } else {
-            self.with_hold(self.hold - 1, self.pended)
+        if 1 < self.hold {
+            return self.with_hold(self.hold - 1, self.pended);
         }
+        self.with_hold(0, 0)
+            .ticks(so_many(a, self.pended), a.number == 18)
     }
 
     fn make_queue(self, n: u8, capacity: u8, size: u8) -> Core
@@ -215,7 +229,7 @@ impl Core {
             6 => self.delay(a.ticks),
             7 => self.to_tail(self.running),
             8 => self.hold_deeper(),
-            9 => self.release(),
+            9 | 18 => self.time_passes(a),
             10 => self.make_queue(n, a.capacity as u8, a.size as u8),
             11 => self.make_mutex(n),
             12 => self.remove(a.object, a.last),

@@ -44,6 +44,12 @@ pub struct Step {
     pub answer: Answer,
 }
 
+// How long the board may sleep: until the tick, so many from now, on which somebody is due.
+pub enum Sleep {
+    Ticks(u32),
+    ForEver,
+}
+
 // Where a sent item goes: to the first waiting receiver, into the queue, or to the slip of the caller, who waits.
 pub(crate) enum Outlet {
     Waiter(TaskSlot),

@@ -1,10 +1,18 @@
-// The tick's count and wakes, and the turn of the line.
-ghost use Prim.Native.Nat.{_≤_};
+// The tick's count and wakes, the turn of the line, and several ticks one by one.
+ghost use Prim.Native.Nat.{_<_, _≤_};
+ghost use mathlib.Core.Path.{_≡_};
+ghost use mathlib.Core.Bool.{true};
 ghost use Rattle.order.specs.Order.{listed};
+ghost use Rattle.rules.specs.Tables.{withTick};
 ghost use Rattle.rules.specs.Lines.{begun};
-ghost use Rattle.rules.specs.Ticks.{wakes, untilDue, oneTick, turned, ticks};
-ghost use Rattle.kernel.specs.Does.{Reads, Does};
+ghost use Rattle.rules.specs.Waits.{later};
+ghost use Rattle.rules.specs.Ticks.{wakes, oneTick, untilDue, untilSome, turned, turnedIf, turnings, ticks, sleeps};
+ghost use Rattle.kernel.specs.Stands.{shown};
+ghost use Rattle.kernel.specs.Does.{Reads, Does, Turning};
+ghost use Rattle.kernel.specs.Promises.{ticksOf};
 use crate::Core;
+use crate::Kernel;
+use crate::Sleep;
 
 impl Core {
     // The due are made ready, first whoever began its delay or wait earlier.
@@ -41,25 +49,6 @@ impl Core {
         self.tasks.until_due(self.tick)
     }
 
-    // The next `n` ticks, counts and wakes, without the turn of the line: a jump to the next one on which somebody is due, that tick, and so on. Each turn but the
-    // last wakes somebody, so there are at most 16.
-    pub(crate) fn ticks(self, n: u16) -> Core
-        ensures { λ r. ⌜ Does self (ticks n) r ⌝ }
-    {
-        let mut k = self;
-        let mut left = n as u32;
-        while 0 < left {
-            let d = k.until_due();
-            if left <= d {
-                return k.with_tick(std::num::wrapping_add_u32(k.tick, left));
-            }
-            k = k.with_tick(std::num::wrapping_add_u32(k.tick, d))
-                .one_tick();
-            left = left - d - 1;
-        }
-        k
-    }
-
     // If no higher line is occupied, the running task goes to the tail of its line.
     pub(crate) fn turned(self) -> Core
         ensures { λ r. ⌜ Does self turned r ⌝ }
@@ -70,6 +59,96 @@ impl Core {
             self
         } else {
             self.to_tail(u)
+        }
+    }
+
+    // The line of the running task turned `n` times in one go, with the choose after each: whoever then heads it runs.
+    fn turned_by(mut self, n: u32) -> Core
+        requires { ⌜ Turning self × (0 < n) ⌝ }
+        ensures { λ r. ⌜ Does self (turnings true n) r ⌝ }
+    {
+        let y = self.task(self.running);
+        let line = self.tasks.line(self.order, y.effective);
+        let times = n as usize;
+        self.order = self.order.turns(line, times);
+        self.running = line.head_after(times);
+        self
+    }
+
+    // `n` ticks on which nobody is due: only the count and the turn change.
+    fn passed(self, n: u32, turns: bool) -> Core
+        requires { ⌜ (turns ≡ true → Turning self) ⌝ }
+        ensures { λ r. ⌜ Does self (λ s. withTick (turnings turns n s) (later (s .tick) n)) r ⌝ }
+    {
+        let next = std::num::wrapping_add_u32(self.tick, n);
+        if turns {
+            if 0 < n {
+                return self.turned_by(n).with_tick(next);
+            }
+        }
+        self.with_tick(next)
+    }
+
+    // A tick on which somebody may be due. Who then outranks the running task runs; where nobody does, the line turns. (`turned` and `chosen` are the tick's and the
+    // step's: called from here too, they would no longer be compiled into these.)
+    fn tick_turned(self, turns: bool) -> Core
+        requires { ⌜ (turns ≡ true → Turning self) ⌝ }
+        ensures { λ r. ⌜ Does self (λ s. turnedIf turns (oneTick s)) r ⌝ }
+    {
+        let mut k = self.one_tick();
+        if !turns {
+            return k;
+        }
+        let y = k.task(k.running);
+        let top = k.tasks.top(k.order);
+        if y.effective < top {
+            k.running = k.tasks.line(k.order, top).head_after(0);
+            return k;
+        }
+        k.turned_by(1)
+    }
+
+    // The next `n` ticks one by one, with each one's turn of the line and choose or without: a jump to the next tick on which somebody is due, that tick, and so on. Each
+    // round but the last wakes somebody, so there are at most 16.
+    pub(crate) fn ticks(self, n: u32, turns: bool) -> Core
+        requires { ⌜ (turns ≡ true → Turning self) ⌝ }
+        ensures { λ r. ⌜ Does self (ticks turns n) r ⌝ }
+    {
+        let mut k = self;
+        let mut left = n;
+        while 0 < left {
+            let d = k.until_due();
+            if left <= d {
+                return k.passed(left, turns);
+            }
+            k = k.passed(d, turns).tick_turned(turns);
+            left = left - d - 1;
+        }
+        k
+    }
+
+    // How many ticks from now somebody is due; for ever where nobody is.
+    fn sleeps(self) -> Sleep
+        ensures { λ r. ⌜ Reads self (λ s. untilSome (untilDue (s .tick) (s .tasks))) (ticksOf r) ⌝ }
+    {
+        let d = self.until_due();
+        if d < 4294967295 {
+            Sleep::Ticks(d + 1)
+        } else {
+            Sleep::ForEver
+        }
+    }
+}
+
+impl Kernel {
+    // For the board: how many ticks from now the next one is on which somebody is due. Nobody ever is in a kernel that is not sound, which refuses every call.
+    pub fn sleeps(self) -> Sleep
+        ensures { λ r. ⌜ ticksOf r ≡ sleeps (shown self) ⌝ }
+    {
+        if self.sound() {
+            self.core.sleeps()
+        } else {
+            Sleep::ForEver
         }
     }
 }

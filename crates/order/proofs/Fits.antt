@@ -6,10 +6,14 @@ use mathlib.Core.List.{List, [], _∷_, _++_}
 use native.Mathlib.Omega.{arith}
 use lib.Dec.{eqb}
 use borrow.Author.Tests.{eqb-true, eqb-false}
+use Rattle.lists.specs.Choice.{if_then_else_}
+use Rattle.lists.specs.Lists.{kept}
 use Rattle.numbers.specs.declared.TaskSlot.{TaskSlot}
+use Rattle.numbers.specs.Numbers.{task}
 use Rattle.order.specs.Order.{listed, ordered, without}
 use Rattle.order.specs.Tidy.{count}
 use Rattle.order.proofs.Counts.{count-append, count-one, count-other, count-gone, count-stays}
+use Rattle.order.proofs.CountPassing.{count-kept}
 use Rattle.order.proofs.Rooms.{exactly-room}
 use Rattle.order.proofs.Orders.{listed-ordered}
 
@@ -19,6 +23,17 @@ pub record HasRoom (xs : List TaskSlot) : Type 0 where
 
 pub fits-listed : (xs : List TaskSlot) → HasRoom xs → listed (ordered xs) ≡ xs
 fits-listed xs f = listed-ordered xs (exactly-room {e = λ n. count n xs} xs (record { counts = λ n. refl }) (f .once) (f .low))
+
+-- those of them that pass a test
+pub fits-kept : (q : TaskSlot → Bool) (xs : List TaskSlot) → HasRoom xs → HasRoom (kept q xs)
+fits-kept q xs f = record { once = λ n. omega (arith, fewer n, f .once n); low = λ n h. omega (arith, fewer n, f .low n h) }
+  where
+    cut : (b : Bool) (c : ℕ) → (if b then c else 0) ≤ c
+    cut true c = omega arith
+    cut false c = omega arith
+
+    fewer : (n : ℕ) → count n (kept q xs) ≤ count n xs
+    fewer n = rw (count-kept q n xs) (cut (q (task n)) (count n xs))
 
 module _ (t : TaskSlot) (xs : List TaskSlot) (f : HasRoom xs) where
   -- without t, and then with it

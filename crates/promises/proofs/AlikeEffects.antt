@@ -26,12 +26,12 @@ use Rattle.slots.specs.Places.{isReady, isListed, wakesAt, outcomeDue}
 use Rattle.slots.specs.Values.{freeTask, spentTask, readyAt, placed, ranked, brokenOff, taskAt}
 use Rattle.rules.specs.State.{State}
 use Rattle.slots.specs.Kinds.{kindAt}
-use Rattle.rules.specs.Tables.{holds, freeSlot, freeObject, withTask, withObject, withOrder, withHold}
-use Rattle.rules.specs.Lines.{begun, level, first, toTail, toHead, leaves}
+use Rattle.rules.specs.Tables.{holds, freeSlot, freeObject, withTask, withObject, withOrder, withRunning, withHold}
+use Rattle.rules.specs.Lines.{begun, level, first, runsIf, chosen, toTail, toHead, leaves}
 use Rattle.rules.specs.Sound.{noHigher}
 use Rattle.rules.specs.Waits.{later, wakeOf, arrives, waitFor}
 use Rattle.rules.specs.Loans.{moved, movedIf, prioritized, newPriority, lent, ownAgain}
-use Rattle.rules.specs.Ticks.{wokenIfDue, wakes, oneTick, turned, ticked, ticks, released, held}
+use Rattle.rules.specs.Ticks.{wokenIfDue, wakes, oneTick, turned, ticked, ticks, released, held, advanced}
 use Rattle.rules.specs.Rings.{oneLess, oneMore}
 use Rattle.rules.specs.Queues.{outlet, outletFor, sentBy, sent, refilledBy, received, sentTo, receivedFrom}
 use Rattle.rules.specs.Effects.{created, deleted, suspended, resumed, yielded, delayed, queueMade, mutexMade, removed, takenFrom, taken, handedTo, handedOn, given}
@@ -39,7 +39,7 @@ use Rattle.rules.proofs.TableSlots.{past-tasks}
 use Rattle.rules.proofs.TableWithin.{first-within, first-single, by-outlet}
 use Rattle.promises.specs.Alike.{Alike}
 use Rattle.promises.proofs.AlikeFirsts.{same-leader, same-higher}
-use Rattle.promises.proofs.AlikeTwins.{Twins, twice, to-tail, to-head, out, moving, changed, unseen, beside}
+use Rattle.promises.proofs.AlikeTwins.{Twins, two-orders, twice, to-tail, to-head, out, moving, changed, unseen, beside}
 use Rattle.slots.specs.declared.Kind.the-variants.{Spent as SpentObject}
 
 -- a task that passes a test which free slots fail has one of the 16 numbers
@@ -56,8 +56,24 @@ unfolding first
 first-same k m a AllReady = same-leader (k .tasks) (listed (k .order)) (listed m) (a .lines)
 first-same k m a (WaitersOf o) = rw (a .lists o)
 
-first-low : (k : State) (o : ObjSlot) (t : TaskSlot) (r : List TaskSlot) → length (k .tasks) ≤ 16 → first k (WaitersOf o) ≡ t ∷ r → t .0 < 16
-first-low k o t r h e = omega (arith, first-within k (WaitersOf o) t (first-single k (WaitersOf o) t r e))
+first-low : (k : State) (w : Who) (t : TaskSlot) (r : List TaskSlot) → length (k .tasks) ≤ 16 → first k w ≡ t ∷ r → t .0 < 16
+first-low k w t r h e = omega (arith, first-within k w t (first-single k w t r e))
+
+pub chosen-too : {k j : State} → Twins k j → Twins (chosen k) (chosen j)
+unfolding chosen
+chosen-too {k} w = twice (λ z. chosen z) w (λ o v. rw (← first-same k o (v .alike) AllReady) (go o v (eqb (k .hold) 0) (first k AllReady) refl))
+  where
+    go : (o : Order) → Twins k (withOrder k o) → (b : Bool) (f : List TaskSlot) → first k AllReady ≡ f → Twins (if b then runsIf k f else k) (if b then runsIf (withOrder k o) f else withOrder k o)
+    go o v true [] e = v
+    go o v true (t ∷ f) e =
+        record {
+          alike = two-orders (withRunning k t) o (v .alike .lines) (v .alike .lists) (v .alike .begun);
+          slots = v .slots;
+          runs = first-low k AllReady t f (v .slots) e;
+          here = v .here;
+          there = v .there;
+        }
+    go o v false f e = v
 
 -- ── waits
 pub arrives-too : {k j : State} (t : TaskSlot) (p : Place) (n : ℕ) → t .0 < 16 → Twins k j → Twins (arrives k t p n) (arrives j t p n)
@@ -189,12 +205,6 @@ unfolding foldl
 wakes-too [] w = w
 wakes-too (t ∷ l) w = wakes-too l (woken-too t w)
 
--- what every step of a loop keeps, the loop keeps
-each-too : {k j : State} (f : State → ℕ → State) → ((x y : State) (n : ℕ) → Twins x y → Twins (f x n) (f y n)) → (n : ℕ) → Twins k j → Twins (upTo f n k) (upTo f n j)
-unfolding upTo
-each-too f g zero w = w
-each-too {k} {j} f g (suc n) w = g (upTo f n k) (upTo f n j) n (each-too f g n w)
-
 one-tick-too : {k j : State} → Twins k j → Twins (oneTick k) (oneTick j)
 unfolding oneTick wakes
 one-tick-too {k} w = twice (λ z. oneTick z) w
@@ -219,15 +229,26 @@ ticked-too {k} w = twice (λ z. ticked z) w (λ o v. go o v (ltb 0 (k .hold)))
     go o v true = count-too (k .hold) (k .pended + 1) v
     go o v false = turned-too (one-tick-too v)
 
+-- several ticks, with their turns or without
+ticks-too : {k j : State} (turns : Bool) (n : ℕ) → Twins k j → Twins (ticks turns n k) (ticks turns n j)
+unfolding ticks upTo
+ticks-too turns zero w = w
+ticks-too true (suc n) w = chosen-too (turned-too (one-tick-too (ticks-too true n w)))
+ticks-too false (suc n) w = one-tick-too (ticks-too false n w)
+
 pub released-too : {k j : State} → Twins k j → Twins (released k) (released j)
-unfolding released ticks
+unfolding released
 released-too {k} w = twice (λ z. released z) w (λ o v. go o v (eqb (k .hold) 1))
   where
     go : (o : Order) → Twins k (withOrder k o) → (b : Bool)
-        → Twins (if b then ticks (k .pended) (withHold k 0 0) else withHold k (k .hold - 1) (k .pended))
-        (if b then ticks (k .pended) (withHold (withOrder k o) 0 0) else withHold (withOrder k o) (k .hold - 1) (k .pended))
-    go o v true = each-too (λ x i. oneTick x) (λ x y n. one-tick-too) (k .pended) (count-too 0 0 v)
+        → Twins (if b then ticks false (k .pended) (withHold k 0 0) else withHold k (k .hold - 1) (k .pended))
+        (if b then ticks false (k .pended) (withHold (withOrder k o) 0 0) else withHold (withOrder k o) (k .hold - 1) (k .pended))
+    go o v true = ticks-too false (k .pended) (count-too 0 0 v)
     go o v false = count-too (k .hold - 1) (k .pended) v
+
+pub advanced-too : {k j : State} (n : ℕ) → Twins k j → Twins (advanced k n) (advanced j n)
+unfolding advanced
+advanced-too n w = ticks-too true n w
 
 pub held-too : {k j : State} → Twins k j → Twins (held k) (held j)
 unfolding held
@@ -245,7 +266,7 @@ sent-too {k} o q n w = twice (λ z. sent z o q n) w (λ m v. rw (← outlet-same
     go : (m : Order) → Twins k (withOrder k m) → Twins (sentBy k o q n (outlet k o q)) (sentBy (withOrder k m) o q n (outlet k o q))
     go m v =
         by-outlet k o q (λ x. Twins (sentBy k o q n x) (sentBy (withOrder k m) o q n x))
-        (λ t e. arrives-too t Ready 1 (first-low k o t [] (v .slots) e) v)
+        (λ t e. arrives-too t Ready 1 (first-low k (WaitersOf o) t [] (v .slots) e) v)
         (object-too o (Queue (oneMore q)) v)
         (wait-too o n v)
 
@@ -257,7 +278,7 @@ received-too {k} o q n w = twice (λ z. received z o q n) w (λ m v. rw (← fir
         → Twins (if b then waitFor k o n else refilledBy k o (oneLess q) f) (if b then waitFor (withOrder k m) o n else refilledBy (withOrder k m) o (oneLess q) f)
     go m v f e true = wait-too o n v
     go m v [] e false = object-too o (Queue (oneLess q)) v
-    go m v (t ∷ r) e false = arrives-too t Ready 1 (first-low k o t r (v .slots) e) (object-too o (Queue (oneMore (oneLess q))) v)
+    go m v (t ∷ r) e false = arrives-too t Ready 1 (first-low k (WaitersOf o) t r (v .slots) e) (object-too o (Queue (oneMore (oneLess q))) v)
 
 pub sent-to-too : {k j : State} (o : ObjSlot) (x : Kind) (n : ℕ) → Twins k j → Twins (sentTo k o x n) (sentTo j o x n)
 sent-to-too o Unused n w = w
@@ -288,7 +309,7 @@ handed-on-too {k} o w = twice (λ z. handedOn z o) w (λ m v. rw (← first-same
   where
     go : (m : Order) → Twins k (withOrder k m) → (f : List TaskSlot) → first k (WaitersOf o) ≡ f → Twins (handedTo k o f) (handedTo (withOrder k m) o f)
     go m v [] e = object-too o (Mutex Nobody) v
-    go m v (t ∷ r) e = object-too o (Mutex (By t)) (arrives-too t Ready 1 (first-low k o t r (v .slots) e) v)
+    go m v (t ∷ r) e = object-too o (Mutex (By t)) (arrives-too t Ready 1 (first-low k (WaitersOf o) t r (v .slots) e) v)
 
 pub given-too : {k j : State} (o : ObjSlot) → Twins k j → Twins (given k o) (given j o)
 unfolding given

@@ -13,7 +13,7 @@ use Rattle.rules.specs.Sound.{sound}
 use Rattle.rules.specs.Sentences.{Sound}
 use Rattle.rules.proofs.SoundLists.{begun-agrees, listing-room}
 use Rattle.rules.proofs.SoundSays.{sound-says, says-sound}
-use Rattle.rules.proofs.RowPasses.{sound-steady}
+use Rattle.rules.proofs.Keeps.{ready-low}
 use Rattle.promises.specs.Alike.{Alike, Ordered}
 use Rattle.promises.proofs.AlikeTwins.{Twins, one-kernel}
 
@@ -68,4 +68,11 @@ sound-fits k e = let s = sound-says k e in listing-room (k .tasks) (k .order) (s
 
 pub twins : (k j : State) → sound k ≡ true → sound j ≡ true → Alike k j → Twins k j
 twins k j e f a =
-    record { alike = a; slots = omega (arith, sound-says k e .tables .task-slots); runs = sound-steady k e .runs; here = sound-fits k e; there = sound-fits j f }
+    let S = sound-says k e in
+    record {
+      alike = a;
+      slots = omega (arith, S .tables .task-slots);
+      runs = ready-low (k .tasks) (k .running) (S .tables .task-slots) (S .running .runs .ready);
+      here = sound-fits k e;
+      there = sound-fits j f;
+    }

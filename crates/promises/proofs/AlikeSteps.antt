@@ -2,16 +2,15 @@
 use Prim.Native.Nat.{ℕ}
 use mathlib.Core.Path.{_≡_, refl, sym, ap, subst, _∙_}
 use mathlib.Core.Bool.{Bool, true, false}
-use mathlib.Core.List.{List, [], _∷_}
+use mathlib.Core.List.{List}
 use native.Mathlib.Omega.{arith}
 use lib.Dec.{eqb}
 use lib.ListN.{length}
 use borrow.Author.Tests.{eqb-true}
 use Rattle.lists.specs.Choice.{if_then_else_}
-use Rattle.numbers.specs.declared.TaskSlot.{TaskSlot}
 use Rattle.numbers.specs.declared.ObjSlot.{ObjSlot}
 use Rattle.calls.specs.declared.Call.{Call}
-use Rattle.calls.specs.declared.Call.the-variants.{Create, Delete, Suspend, Resume, SetPriority, Delay, Yield, Hold, Release, MakeQueue, MakeMutex, Remove, Send, Receive, Take, Give, Tick}
+use Rattle.calls.specs.declared.Call.the-variants.{Create, Delete, Suspend, Resume, SetPriority, Delay, Yield, Hold, Release, MakeQueue, MakeMutex, Remove, Send, Receive, Take, Give, Tick, Advance}
 use Rattle.calls.specs.declared.Uses.{Uses}
 use Rattle.calls.specs.declared.Asked.{Asked}
 use Rattle.calls.specs.Door.{lastIn, taskSlot, objSlot}
@@ -19,11 +18,10 @@ use Rattle.calls.specs.Behind.{asked}
 use Rattle.order.specs.declared.Order.{Order}
 use Rattle.slots.specs.declared.Kind.{Kind}
 use Rattle.slots.specs.declared.Kind.the-variants.{Unused, Queue, Mutex}
-use Rattle.slots.specs.Who.{AllReady, WaitersOf}
+use Rattle.slots.specs.Who.{WaitersOf}
 use Rattle.rules.specs.State.{State}
 use Rattle.slots.specs.Kinds.{kindAt}
-use Rattle.rules.specs.Tables.{withOrder, withRunning, withUses}
-use Rattle.rules.specs.Lines.{first, runsIf, chosen}
+use Rattle.rules.specs.Tables.{withOrder, withUses}
 use Rattle.rules.specs.Sound.{sound}
 use Rattle.items.specs.Bytes.{putAt}
 use Rattle.rules.specs.Queues.{placeBy, storeSent, storeReceived, sentTo, receivedFrom, storeSentTo, storeReceivedFrom}
@@ -32,9 +30,9 @@ use Rattle.rules.specs.Effects.{effect}
 use Rattle.rules.specs.Steps.{stored, answered, usesAfter, accepted, turnedAway, steppedBy, step}
 use Rattle.rules.proofs.TableWithin.{by-outlet}
 use Rattle.promises.specs.Alike.{Alike, AlikeSteps, Ordered}
-use Rattle.promises.proofs.AlikeTwins.{Twins, two-orders, shared, twice}
-use Rattle.promises.proofs.AlikeEffects.{first-same, outlet-same, created-too, deleted-too, suspended-too, resumed-too, new-priority-too, yielded-too}
-use Rattle.promises.proofs.AlikeEffects.{delayed-too, queue-made-too, mutex-made-too, removed-too, ticked-too, released-too, held-too, sent-to-too}
+use Rattle.promises.proofs.AlikeTwins.{Twins, shared, twice}
+use Rattle.promises.proofs.AlikeEffects.{first-same, chosen-too, outlet-same, created-too, deleted-too, suspended-too, resumed-too, new-priority-too, yielded-too}
+use Rattle.promises.proofs.AlikeEffects.{delayed-too, queue-made-too, mutex-made-too, removed-too, ticked-too, released-too, held-too, advanced-too, sent-to-too}
 use Rattle.promises.proofs.AlikeEffects.{received-from-too, taken-too, given-too}
 use Rattle.promises.proofs.AlikeSound.{alike-sound, twins}
 use Rattle.promises.proofs.AlikeRefusals.{alike-refusal, create-low, resume-low}
@@ -62,15 +60,7 @@ effect-too k j (Receive o n) item store e w = twice (λ z. receivedFrom z (objSl
 effect-too k j (Take o n) item store e w = taken-too (objSlot (k .uses) o) n w
 effect-too k j (Give o) item store e w = given-too (objSlot (k .uses) o) w
 effect-too k j Tick item store e w = ticked-too w
-
-chosen-too : (k j : State) → Twins k j → Alike (chosen k) (chosen j)
-unfolding chosen
-chosen-too k j w = shared (λ z. Alike (chosen k) (chosen z)) k j w (λ o v. rw (← first-same k o (v .alike) AllReady) (go o (v .alike) (eqb (k .hold) 0) (first k AllReady)))
-  where
-    go : (o : Order) → Alike k (withOrder k o) → (b : Bool) (f : List TaskSlot) → Alike (if b then runsIf k f else k) (if b then runsIf (withOrder k o) f else withOrder k o)
-    go o a true [] = a
-    go o a true (t ∷ f) = two-orders (withRunning k t) o (a .lines) (a .lists) (a .begun)
-    go o a false f = a
+effect-too k j (Advance n) item store e w = advanced-too n w
 
 uses-too : {k j : State} {us vs : Uses} → Alike k j → us ≡ vs → Alike (withUses k us) (withUses j vs)
 uses-too a e =
@@ -116,7 +106,7 @@ accepted-too : (k j : State) (c : Call) (item s : List ℕ) → laterRow k (aske
     → AlikeSteps (accepted k (asked (k .uses) c) item s) (accepted j (asked (k .uses) c) item s)
 unfolding accepted
 accepted-too k j c item s e w =
-    let next = chosen-too (effect k (asked (k .uses) c)) (effect j (asked (k .uses) c)) (effect-too k j c (length item) (length s) e w) in
+    let next = chosen-too (effect-too k j c (length item) (length s) e w) .alike in
     record {
       answer = answered-too (asked (k .uses) c) (w .alike) next;
       store = stored-too k j (asked (k .uses) c) item s w;
@@ -124,7 +114,7 @@ accepted-too k j c item s e w =
     }
 
 -- ── every call
-not-refused : (k : State) (a : Asked) (item store : ℕ) → refusal k a item store ≡ 0 → (sound k ≡ true) × (laterRow k a item store ≡ 0)
+pub not-refused : (k : State) (a : Asked) (item store : ℕ) → refusal k a item store ≡ 0 → (sound k ≡ true) × (laterRow k a item store ≡ 0)
 unfolding refusal
 not-refused k a item store h = go (sound k) refl h
   where

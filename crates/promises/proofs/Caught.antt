@@ -1,4 +1,5 @@
--- The idle programs, the easy mistakes, the mistakes of numbers, of the highest line and of the order of wakes are caught: one claim over the whole list, computed; so none of them is the step.
+-- The idle programs, the easy mistakes, the mistakes of numbers, of the highest line, of the order of wakes and of an advance are caught: one claim over the whole list,
+-- computed; so none of them is the step.
 use Prim.Native.Nat.{ℕ, zero, suc}
 use mathlib.Core.Path.{_≡_, refl, ap, sym, _∙_}
 use mathlib.Core.Bool.{Bool, true, false, not, false≢true}
@@ -17,7 +18,8 @@ use Rattle.items.specs.Bytes.{putAt}
 use Rattle.promises.specs.Types.{Asked, Call, State}
 use Rattle.promises.specs.Cases.{View}
 use Rattle.promises.specs.Wrong.{Stepping, raised, stepOf, stepBy, Numbers, turnsAllAway, alwaysDone, changesNothing, asBegun, tickedBy, releasedBy, madeUp, Wrong, showsBy, ofWord}
-use Rattle.promises.specs.Wrong.{sameNumber, sameList, sameView, Verdict, found, verdict, idlePrograms, easyMistakes, numberMistakes, chosenBy, lineMistakes, wakesAlong, wakeMistakes, wrongs}
+use Rattle.promises.specs.Wrong.{sameNumber, sameList, sameView, Verdict, found, verdict, idlePrograms, easyMistakes, numberMistakes, chosenBy, lineMistakes, wakesAlong, wakeMistakes}
+use Rattle.promises.specs.Wrong.{advancesBy, asAsked, allBegun, nothingMore, advanceMistakes, wrongs}
 use Rattle.rules.specs.Effects.{created, deleted, suspended, resumed, yielded, delayed, queueMade, mutexMade, removed, taken, handedOn, given, effect}
 use Rattle.rules.specs.Parts.{itemAt}
 use Rattle.rules.specs.Queues.{outlet, sent, storeSent, received, storeReceived}
@@ -37,7 +39,7 @@ use Rattle.rules.specs.Trace.{trace}
 use Rattle.slots.specs.Values.{taskAt}
 use Rattle.slots.specs.Kinds.{kindAt}
 use Rattle.rules.specs.Tables.{fresh, holds, freeSlot, freeObject}
-use Rattle.rules.specs.Ticks.{wokenIfDue, wakes, oneTick, turned, ticked, ticks, released, held}
+use Rattle.rules.specs.Ticks.{wokenIfDue, wakes, oneTick, turned, turnedIf, ticked, ticks, released, held, advanced}
 use Rattle.rules.specs.Waits.{arrives, waitFor}
 
 -- what is changed is changed in the step itself: with the kernel's own parts the frame is the step
@@ -61,14 +63,23 @@ wakes-as-begun k a = go (is 17 a) refl (is 9 a) refl
     go false e true f = rw (eqb-true (a .number) 9 f)
     go false e false f = refl
 
+-- with the right parts an advance is the effect
+pub advances-as-asked : (k : State) (a : Asked) → advancesBy asAsked allBegun (turnedIf true) nothingMore k a ≡ effect k a
+unfolding effect oneTick ticks advanced
+advances-as-asked k a = go (is 18 a) refl
+  where
+    go : (b : Bool) → is 18 a ≡ b → (if b then ticks true (a .ticks) k else effect k a) ≡ effect k a
+    go true e = rw (eqb-true (a .number) 18 e)
+    go false e = refl
+
 pub caught : (number : Numbers) (n : ℕ) → map found (wrongs number n) ≡ map verdict (wrongs number n)
-unfolding wrongs idlePrograms easyMistakes numberMistakes lineMistakes wakeMistakes linesOf occupied lit top leadingZeros trailingZeros stepOf turnsAllAway
+unfolding wrongs idlePrograms easyMistakes numberMistakes lineMistakes wakeMistakes advanceMistakes linesOf occupied lit top leadingZeros trailingZeros stepOf turnsAllAway
     alwaysDone changesNothing trace showsBy sameNumber sameList sameView every allBelow foldl upTo values index any kept asked ordered without count tidy
     putAt created deleted suspended resumed yielded delayed queueMade mutexMade removed taken handedOn given effect itemAt outlet sent storeSent
     received storeReceived line those begun highest leader first chosen toTail toHead leaves moved movedIf prioritized newPriority lent ownAgain outOfRange
     namesNone wrongSize notForIdle notWithHold noneFree heldOrWaited inUse notHis hisAlready notSuspended mustWait noDepth noTick table laterRow
     refusal noHigher runsFine tablesFine levelsFine listingFine clockFine usesFine sound stored answered usesAfter accepted step fresh freshUses
-    taskAt kindAt holds freeSlot freeObject wokenIfDue wakes oneTick turned ticked ticks released held arrives waitFor
+    taskAt kindAt holds freeSlot freeObject wokenIfDue wakes oneTick turned ticked ticks released held advanced arrives waitFor
 caught number n = refl
 
 same-number : (n : ℕ) → sameNumber n n ≡ true

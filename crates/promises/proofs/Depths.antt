@@ -11,16 +11,14 @@ use Rattle.lists.specs.Choice.{if_then_else_}
 use Rattle.lists.specs.Lists.{foldl, upTo}
 use Rattle.calls.specs.Door.{taskSlot, objSlot}
 use Rattle.calls.specs.Behind.{asked}
-use Rattle.order.specs.Order.{listed}
-use Rattle.slots.specs.Places.{isListed, wakesAt, outcomeDue}
+use Rattle.slots.specs.Places.{isListed}
 use Rattle.slots.specs.Values.{brokenOff, taskAt}
 use Rattle.slots.specs.Kinds.{kindAt}
-use Rattle.rules.specs.Tables.{fresh, holds, withTask, withTick, withHold}
-use Rattle.rules.specs.Lines.{begun, level, first, runsIf, chosen, toTail, leaves}
-use Rattle.rules.specs.Sound.{noHigher}
+use Rattle.rules.specs.Tables.{fresh, holds, withTask, withHold}
+use Rattle.rules.specs.Lines.{first, toTail, leaves}
 use Rattle.rules.specs.Waits.{later, arrives, waitFor}
 use Rattle.rules.specs.Loans.{prioritized, newPriority, lent, ownAgain}
-use Rattle.rules.specs.Ticks.{wokenIfDue, wakes, oneTick, turned, ticked, ticks, released, held}
+use Rattle.rules.specs.Ticks.{oneTick, turned, ticked, ticks, released, held, advanced}
 use Rattle.rules.specs.Rings.{oneLess}
 use Rattle.rules.specs.Queues.{sentBy, sent, sentTo, refilledBy, received, receivedFrom}
 use Rattle.rules.specs.Effects.{created, deleted, suspended, resumed, yielded, delayed, queueMade, mutexMade, removed, takenFrom, taken, handedTo, handedOn, given, effect}
@@ -28,42 +26,19 @@ use Rattle.rules.specs.Refusals.{refusal}
 use Rattle.rules.specs.Steps.{accepted, turnedAway, step}
 use Rattle.rules.specs.Trace.{momentOf, trace, stateAfter, CallMade, stepMade}
 use Rattle.rules.proofs.TableWithin.{by-outlet}
+use Rattle.rules.proofs.TickJumps.{chosen-only, turned-only, turn-only}
 use Rattle.rules.proofs.KeepBlocks.{prioritized-same}
+use Rattle.rules.proofs.KeepTicks.{tick-after}
 use Rattle.promises.specs.Types.{TaskSlot, ObjSlot, Call, Create, Delete, Suspend, Resume, SetPriority, Delay, Yield, Hold, Release, MakeQueue, MakeMutex, Remove, Send}
-use Rattle.promises.specs.Types.{Receive, Take, Give, Tick, Ready, Delayed, AllReady, WaitersOf, Nobody, By, Kind, Unused, SpentObject, Queue, Mutex, State}
+use Rattle.promises.specs.Types.{Receive, Take, Give, Tick, Advance, Delayed, WaitersOf, Nobody, By, Kind, Unused, SpentObject, Queue, Mutex, State}
 use Rattle.promises.specs.History.{reached}
 use Rattle.promises.specs.Depth.{deeper, isAccepted, depthAt, depth}
 
 -- ── what leaves the depth as it was
-woken-hold : (k : State) (t : TaskSlot) → wokenIfDue k t .hold ≡ k .hold
-unfolding wokenIfDue arrives toTail
-woken-hold k t = go (wakesAt (k .tick) (taskAt (k .tasks) t .place))
-  where
-    go : (b : Bool) → (if b then arrives k t Ready (outcomeDue (taskAt (k .tasks) t .place)) else k) .hold ≡ k .hold
-    go true = refl
-    go false = refl
-
-wakes-hold : (l : List TaskSlot) (k : State) → foldl wokenIfDue k l .hold ≡ k .hold
-unfolding foldl
-wakes-hold [] k = refl
-wakes-hold (t ∷ l) k = wakes-hold l (wokenIfDue k t) ∙ woken-hold k t
-
-tick-hold : (k : State) → oneTick k .hold ≡ k .hold
-unfolding oneTick wakes
-tick-hold k = wakes-hold (begun (k .tasks) (listed (k .order))) (withTick k (later (k .tick) 1))
-
-ticks-hold : (n : ℕ) (k : State) → upTo (λ x i. oneTick x) n k .hold ≡ k .hold
-unfolding upTo
-ticks-hold zero k = refl
-ticks-hold (suc n) k = tick-hold (upTo (λ x i. oneTick x) n k) ∙ ticks-hold n k
-
-turned-hold : (k : State) → turned k .hold ≡ k .hold
-unfolding turned toTail
-turned-hold k = go (noHigher (k .tasks) (level (k .tasks) (k .running)) (listed (k .order)))
-  where
-    go : (b : Bool) → (if b then toTail k (k .running) else k) .hold ≡ k .hold
-    go true = refl
-    go false = refl
+ticks-hold : (turns : Bool) (n : ℕ) (k : State) → ticks turns n k .hold ≡ k .hold
+unfolding ticks upTo
+ticks-hold turns zero k = refl
+ticks-hold turns (suc n) k = let j = ticks turns n k in turn-only turns (oneTick j) .hold ∙ tick-after j .hold ∙ ticks-hold turns n k
 
 module _ (k : State) where
   ticked-hold : ticked k .hold ≡ k .hold
@@ -72,7 +47,7 @@ module _ (k : State) where
     where
       go : (b : Bool) → (if b then withHold k (k .hold) (k .pended + 1) else turned (oneTick k)) .hold ≡ k .hold
       go true = refl
-      go false = turned-hold (oneTick k) ∙ tick-hold k
+      go false = turned-only (oneTick k) .hold ∙ tick-after k .hold
 
   suspended-hold : (t : TaskSlot) → suspended k t .hold ≡ k .hold
   unfolding suspended leaves
@@ -130,15 +105,15 @@ module _ (k : State) where
       hand (t ∷ l) = refl
 
   released-hold : released k .hold ≡ k .hold - 1
-  unfolding released ticks
+  unfolding released
   released-hold = go (eqb (k .hold) 1) refl
     where
-      go : (b : Bool) → eqb (k .hold) 1 ≡ b → (if b then upTo (λ x i. oneTick x) (k .pended) (withHold k 0 0) else withHold k (k .hold - 1) (k .pended)) .hold ≡ k .hold - 1
-      go true e = ticks-hold (k .pended) (withHold k 0 0) ∙ omega (arith, eqb-true (k .hold) 1 e)
+      go : (b : Bool) → eqb (k .hold) 1 ≡ b → (if b then ticks false (k .pended) (withHold k 0 0) else withHold k (k .hold - 1) (k .pended)) .hold ≡ k .hold - 1
+      go true e = ticks-hold false (k .pended) (withHold k 0 0) ∙ omega (arith, eqb-true (k .hold) 1 e)
       go false e = refl
 
   effect-hold : (c : Call) → effect k (asked (k .uses) c) .hold ≡ deeper (asked (k .uses) c) (k .hold)
-  unfolding effect asked created deleted resumed yielded queueMade mutexMade removed taken newPriority held arrives leaves toTail
+  unfolding effect asked created deleted resumed yielded queueMade mutexMade removed taken newPriority held advanced arrives leaves toTail
   effect-hold (Create p) = refl
   effect-hold (Delete t) = refl
   effect-hold (Suspend t) = suspended-hold (taskSlot (k .uses) t)
@@ -156,15 +131,7 @@ module _ (k : State) where
   effect-hold (Take o w) = taken-hold (objSlot (k .uses) o) (kindAt (k .objects) (objSlot (k .uses) o)) w
   effect-hold (Give o) = given-hold (objSlot (k .uses) o)
   effect-hold Tick = ticked-hold
-
-  chosen-hold : chosen k .hold ≡ k .hold
-  unfolding chosen
-  chosen-hold = go (eqb (k .hold) 0) (first k AllReady)
-    where
-      go : (b : Bool) (l : List TaskSlot) → (if b then runsIf k l else k) .hold ≡ k .hold
-      go true [] = refl
-      go true (t ∷ l) = refl
-      go false l = refl
+  effect-hold (Advance n) = ticks-hold true n k
 
 -- ── one step: an accepted hold is one deeper, an accepted release one less, and nothing else changes the depth
 pub step-depth : (k : State) (s : List ℕ) (m : CallMade) → stepMade k s m .kernel .hold ≡ depthAt (k .hold) (momentOf stepMade k s m)
@@ -176,7 +143,7 @@ step-depth k s m = go (isAccepted k m)
 
     go : (b : Bool) → (if b then accepted k (asked (k .uses) (m .call)) (m .item) (m .store) else turnedAway k no (m .store)) .kernel .hold
         ≡ (if b then deeper (asked (k .uses) (m .call)) (k .hold) else k .hold)
-    go true = chosen-hold (effect k (asked (k .uses) (m .call))) ∙ effect-hold k (m .call)
+    go true = chosen-only (effect k (asked (k .uses) (m .call))) .hold ∙ effect-hold k (m .call)
     go false = refl
 
 run-depth : (k : State) (n : ℕ) (s : List ℕ) (ms : List CallMade) → k .hold ≡ n

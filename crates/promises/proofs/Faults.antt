@@ -12,7 +12,6 @@ use Rattle.calls.specs.Door.{taskSlot}
 use Rattle.calls.specs.Behind.{asked}
 use Rattle.slots.specs.Values.{ranked, taskAt}
 use Rattle.slots.specs.Kinds.{isUnused, kindAt}
-use Rattle.rules.specs.Tables.{fresh}
 use Rattle.rules.specs.Lines.{level}
 use Rattle.rules.specs.Sentences.{Holds, Exists, MayWait, receiver, sender, taker, Sound}
 use Rattle.rules.specs.Loans.{prioritized, newPriority}

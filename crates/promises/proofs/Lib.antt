@@ -20,3 +20,4 @@ pub mod Reaches
 pub mod WholeBlocks
 pub mod EachLine
 pub mod Typing
+pub mod Advances

@@ -10,3 +10,4 @@ pub mod Reached
 pub mod TurnedAway
 pub mod Depth
 pub mod Typed
+pub mod Advance

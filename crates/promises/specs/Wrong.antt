@@ -1,5 +1,5 @@
--- The idle programs, the easy mistakes of document 01, those of numbers, of the highest line and of the order of wakes: each is the step with one mistake made,
--- with a few calls that tell the two apart.
+-- The idle programs, the easy mistakes of document 01, those of numbers, of the highest line, of the order of wakes and of an advance: each is the step with one
+-- mistake made, with a few calls that tell the two apart.
 use Prim.Native.Nat.{ℕ, zero, suc, _+_, _-_, _%_}
 use mathlib.Core.Bool.{Bool, true, false, not, _&&_, _||_}
 use mathlib.Core.List.{List, [], _∷_, _++_, map}
@@ -24,14 +24,14 @@ use Rattle.slots.specs.Places.{isReady, isDelayed, isWaiting, isSuspended, wait
 use Rattle.slots.specs.Values.{brokenOff, taskAt}
 use Rattle.slots.specs.Kinds.{holderOf, kindAt}
 use Rattle.promises.specs.Types.{TaskSlot, ObjSlot, Asked, Call, Create, Delete, Suspend, SetPriority, Delay, Yield, Hold, Release, MakeQueue, MakeMutex, Remove, Send, Receive}
-use Rattle.promises.specs.Types.{Take, Give, Tick, Place, Ready, Task, State}
+use Rattle.promises.specs.Types.{Take, Give, Tick, Advance, Place, Ready, Task, State}
 use Rattle.promises.specs.Cases.{View, view, viewOf}
 use Rattle.rules.specs.Tables.{fresh, freeSlot, withTask, withTick, withHold, withUses}
 use Rattle.rules.specs.Lines.{line, hasBegun, begun, level, leader, runsIf, chosen, toTail}
 use Rattle.rules.specs.Occupied.{linesOf}
 use Rattle.rules.specs.Waits.{later, arrives}
 use Rattle.rules.specs.Loans.{prioritized, newPriority}
-use Rattle.rules.specs.Ticks.{wakes, oneTick, turned, ticked, released}
+use Rattle.rules.specs.Ticks.{wakes, oneTick, turned, turnedIf, ticked, released}
 use Rattle.rules.specs.Parts.{slipOf}
 use Rattle.rows.specs.Asking.{is}
 use Rattle.rows.specs.Applies.{isEmpty}
@@ -276,6 +276,51 @@ setAnew = changed 5 (λ k a. newPriority (beginsAnew k (a .task)) (a .task) (a .
 abbrev pub lentAnew : State → Asked → State
 lentAnew = changed 15 (λ k a. taken (beginsAnew k (holderOf (kindAt (k .objects) (a .object)))) (a .object) (a .wait))
 
+-- "n ticks .. and the result must equal n single ticks one by one, turns of the line and wakes included": the effect with an advance of other parts: how many ticks,
+-- the list along which each wakes, which may look at the count from which the advance began, what comes after each one's wakes, and what after the last
+abbrev pub advancesBy : (ℕ → ℕ) → (ℕ → State → List TaskSlot) → (State → State) → (State → State) → State → Asked → State
+advancesBy many along each last = changed 18 (λ k a. last (upTo (λ x i. each (oneTickBy (λ j. wakes j (along (k .tick) j)) x)) (many (a .ticks)) k))
+
+-- the right parts: as many as asked; along those who began; with turn and choose; and nothing more
+abbrev pub asAsked : ℕ → ℕ
+asAsked n = n
+
+abbrev pub allBegun : ℕ → State → List TaskSlot
+allBegun from k = asBegun k
+
+abbrev pub nothingMore : State → State
+nothingMore k = k
+
+-- the count jumps over the wakes
+abbrev pub jumpsWakes : State → Asked → State
+jumpsWakes = advancesBy asAsked (λ from k. []) (turnedIf true) nothingMore
+
+-- no turn of the line; one, however many the ticks
+abbrev pub neverTurns : State → Asked → State
+neverTurns = advancesBy asAsked allBegun chosen nothingMore
+
+abbrev pub turnsOnce : State → Asked → State
+turnsOnce = advancesBy asAsked allBegun chosen turned
+
+-- "the wake tick minus the count", without the wrap: a wake tick that is no larger than the count at the start is never met
+abbrev pub withoutWrap : ℕ → State → List TaskSlot
+withoutWrap from k = kept (λ t. ofWake false (λ w. ltb from w) (taskAt (k .tasks) t .place)) (asBegun k)
+
+abbrev pub missesWrap : State → Asked → State
+missesWrap = advancesBy asAsked withoutWrap (turnedIf true) nothingMore
+
+-- a tick too few
+abbrev pub oneTooFew : State → Asked → State
+oneTooFew = advancesBy (λ n. n - 1) allBegun (turnedIf true) nothingMore
+
+-- one choose, at the end, so that who is woken on the way does not run before it
+abbrev pub choosesOnce : State → Asked → State
+choosesOnce = advancesBy asAsked allBegun turned nothingMore
+
+-- by slot number
+abbrev pub numbersFirst : State → Asked → State
+numbersFirst = advancesBy asAsked (λ from k. byNumber k) (turnedIf true) nothingMore
+
 -- a wrong step; a start, and calls from there; what is looked at; and what the right step and the wrong one show after the last call
 pub record Wrong : Type 0 where
   pub step : Stepping
@@ -468,5 +513,29 @@ wakeMistakes =
     (view done 0 2 [])
     ∷ []
 
+unfoldable pub advanceMistakes : List Wrong
+advanceMistakes =
+    -- task 1 is due on the second of three ticks
+    fails (stepBy jumpsWakes chosen) (Create 3 ∷ Delay 2 ∷ Advance 3 ∷ []) outcomes (view done 0 1 (1 ∷ 0 ∷ [])) (view done 0 0 (0 ∷ 0 ∷ []))
+    -- two tasks take turns, three times and twice
+    ∷ fails (stepBy neverTurns chosen) (Create 3 ∷ Create 3 ∷ Advance 3 ∷ []) saysNothing (view done 0 2 []) (view done 0 1 [])
+    ∷ fails (stepBy turnsOnce chosen) (Create 3 ∷ Create 3 ∷ Advance 2 ∷ []) saysNothing (view done 0 1 []) (view done 0 2 [])
+    -- the wake tick is 1, the count 4,294,967,294, and 2 after the advance
+    ∷ record {
+      step = stepBy missesWrap chosen;
+      start = withTick fresh 4294967294;
+      calls = Create 3 ∷ Delay 3 ∷ Advance 4 ∷ [];
+      look = λ r. r .kernel .tick ∷ [];
+      right = view done 0 1 (2 ∷ []);
+      wrong = view done 0 0 (2 ∷ []);
+    }
+    -- the tick count
+    ∷ fails (stepBy oneTooFew chosen) (Advance 5 ∷ []) (λ r. r .kernel .tick ∷ []) (view done 0 0 (5 ∷ [])) (view done 0 0 (4 ∷ []))
+    -- the first tick wakes tasks 1 and 2, and the second turns their line
+    ∷ fails (stepBy choosesOnce chosen) (Create 3 ∷ Delay 1 ∷ Create 3 ∷ Delay 1 ∷ Advance 2 ∷ []) saysNothing (view done 0 2 []) (view done 0 1 [])
+    -- task 2 began before task 1
+    ∷ fails (stepBy numbersFirst chosen) (Create 3 ∷ Create 3 ∷ Yield ∷ Delay 2 ∷ Delay 2 ∷ Advance 2 ∷ []) saysNothing (view done 0 2 []) (view done 0 1 [])
+    ∷ []
+
 unfoldable pub wrongs : Numbers → ℕ → List Wrong
-wrongs number n = idlePrograms number n ++ (easyMistakes ++ (numberMistakes ++ (lineMistakes ++ wakeMistakes)))
+wrongs number n = idlePrograms number n ++ (easyMistakes ++ (numberMistakes ++ (lineMistakes ++ (wakeMistakes ++ advanceMistakes))))

@@ -10,15 +10,20 @@ use Rattle.slots.specs.Kinds.{isUnused, isQueue, isMutex, heldBy, isHeld}
 use Rattle.rows.specs.Types.{Names, Nothing, ATask, AnObject, AQueue, AMutex, Asked, Kind, Unused, SpentObject, Queue, Mutex, Seen}
 use Rattle.rows.specs.Asking.{is, stops, waits}
 
--- 4: "priority, capacity, size or product out of range; delay of 4,294,967,295"
+-- of an advance: "n ticks, 1 to 65,535"
+abbrev pub notSoMany : Asked → Bool
+notSoMany a = is 18 a && (ltb (a .ticks) 1 || ltb 65535 (a .ticks))
+
+-- 4: "priority, capacity, size or product out of range; delay of 4,294,967,295"; "4 for n out of range"
 unfoldable pub outOfRange : Asked → Bool
 outOfRange a =
     ltb 31 (a .priority)
     || (leb 4294967295 (a .ticks)
+    || (notSoMany a
     || (ltb (a .capacity) 1
     || (ltb 64 (a .capacity)
     || (ltb 64 (a .size)
-    || ltb 512 (a .capacity * a .size)))))
+    || ltb 512 (a .capacity * a .size))))))
 
 -- 5: "task or object number names none, or an object of the wrong kind"
 abbrev pub namesNoneAs : Seen → Names → Bool
@@ -48,10 +53,10 @@ notForIdle s a =
     || ((is 5 a && (isIdle (a .task) && not (eqb (a .priority) 0)))
     || ((is 6 a || (is 15 a || waits a)) && isIdle (s .running)))
 
--- 8: "with a hold: delay, yield, any wait other than 0, delete or suspend of the caller"
+-- 8: "with a hold: delay, yield, any wait other than 0, delete or suspend of the caller"; of an advance "8 with a hold"
 unfoldable pub notWithHold : Seen → Asked → Bool
 notWithHold s a =
-    ltb 0 (s .hold) && (is 6 a || (is 7 a || (waits a || (stops a && sameTask (a .task) (s .running)))))
+    ltb 0 (s .hold) && (is 6 a || (is 7 a || (is 18 a || (waits a || (stops a && sameTask (a .task) (s .running))))))
 
 -- 9: "create or make with no free slot"
 unfoldable pub noneFree : Seen → Bool

@@ -1,6 +1,6 @@
 // The table: a method for each row, and the first row that applies. A row that speaks of one call looks at the call's number first.
 ghost use mathlib.Core.Path.{_≡_};
-ghost use Rattle.rows.specs.Applies.{outOfRange, namesNone, sizeDiffers, wrongSize, notForIdle, notWithHold, notHis};
+ghost use Rattle.rows.specs.Applies.{notSoMany, outOfRange, namesNone, sizeDiffers, wrongSize, notForIdle, notWithHold, notHis};
 ghost use Rattle.rows.specs.Applies.{hisAlready, notSuspended, isFull, isEmpty, stopsAt, mustWait, noDepth, noTick};
 ghost use Rattle.rows.specs.Applies.{firstRow, orRow, row, table};
 use crate::Seen;
@@ -8,6 +8,15 @@ use crate::asking;
 use calls::Asked;
 use calls::Names;
 use slots::Kind;
+
+fn not_so_many(a: Asked) -> bool
+    ensures { λ r. ⌜ r ≡ notSoMany a ⌝ }
+{
+    if a.number == 18 {
+        return lists::either(a.ticks < 1, 65535 < a.ticks);
+    }
+    false
+}
 
 fn out_of_range(a: Asked) -> bool
     ensures { λ r. ⌜ r ≡ outOfRange a ⌝ }
@@ -18,6 +27,9 @@ fn out_of_range(a: Asked) -> bool
         return true;
     }
     if 4294967295 <= a.ticks {
+        return true;
+    }
+    if not_so_many(a) {
         return true;
     }
     if c < 1 {
@@ -141,7 +153,8 @@ impl Seen {
         let u = self.running;
         let own = lists::both(asking::stops(a), t.same(u));
         let waits = lists::either(a.wait != 0, own);
-        lists::either(a.number == 6, lists::either(a.number == 7, waits))
+        let blocked = lists::either(a.number == 7, lists::either(a.number == 18, waits));
+        lists::either(a.number == 6, blocked)
     }
 
     fn not_his(self, a: Asked) -> bool

@@ -16,14 +16,14 @@ use Rattle.slots.specs.Places.{isBlocked, isListed, wakesAt, outcomeDue}
 use Rattle.slots.specs.Values.{freeTask, spentTask, readyAt, placed, brokenOff, taskAt}
 use Rattle.slots.specs.Kinds.{kindAt}
 use Rattle.rules.specs.Types.{TaskSlot, ObjSlot, Place, Ready, Delayed, Waiting, Task, Ring, WaitersOf}
-use Rattle.rules.specs.Types.{Call, Create, Delete, Suspend, Resume, SetPriority, Delay, Yield, Hold, Release, MakeQueue, MakeMutex, Remove, Send, Receive, Take, Give, Tick, State}
+use Rattle.rules.specs.Types.{Call, Create, Delete, Suspend, Resume, SetPriority, Delay, Yield, Hold, Release, MakeQueue, MakeMutex, Remove, Send, Receive, Take, Give, Tick, Advance, State}
 use Rattle.rules.specs.Tables.{freeSlot, holds, withTask, withHold}
-use Rattle.rules.specs.Lines.{hasBegun, begun, level, first, toTail, leaves}
+use Rattle.rules.specs.Lines.{hasBegun, begun, level, first, chosen, toTail, leaves}
 use Rattle.rules.specs.Sound.{noHigher}
-use Rattle.rules.specs.Sentences.{Sound}
+use Rattle.rules.specs.Sentences.{Sound, Unheld}
 use Rattle.rules.specs.Waits.{later, wakeOf, arrives, waitFor}
 use Rattle.rules.specs.Loans.{newPriority, lent, ownAgain, prioritized}
-use Rattle.rules.specs.Ticks.{held, wokenIfDue, wakes, oneTick, turned, ticked, ticks, released}
+use Rattle.rules.specs.Ticks.{held, wokenIfDue, wakes, oneTick, turned, turnedIf, ticked, ticks, released, advanced}
 use Rattle.rules.specs.Rings.{oneLess}
 use Rattle.rules.specs.Queues.{sentBy, sent, sentTo, refilledBy, received, receivedFrom}
 use Rattle.rules.specs.Effects.{effect, created, deleted, suspended, resumed, yielded, delayed, queueMade, mutexMade, removed, takenFrom, taken, handedTo, handedOn, given}
@@ -31,12 +31,12 @@ use Rattle.rows.specs.Applies.{namesNone, noneFree}
 use Rattle.rules.proofs.TableSlots.{passes-there, passes-blocked, by-kind}
 use Rattle.rules.proofs.TableWithin.{first-within, first-single, by-outlet}
 use Rattle.rules.proofs.SoundLists.{listing-room}
-use Rattle.rules.proofs.RowPasses.{Passed}
+use Rattle.rules.proofs.RowPasses.{Passed, advance-free}
 use Rattle.rules.proofs.Keeps.{there-low, ready-low}
 use Rattle.rules.proofs.KeepBlocks.{prioritized-same}
 use Rattle.rules.proofs.KeepTasks.{has-slot}
-use Rattle.rules.proofs.TickJumps.{passed-over}
-use Rattle.rules.proofs.KeepTicks.{due-there, tick-after}
+use Rattle.rules.proofs.TickJumps.{passed-over, chosen-only, chosen-order}
+use Rattle.rules.proofs.KeepTicks.{due-there, tick-after, sound-unheld, ticks-unheld}
 use Rattle.rules.proofs.KeepTaken.{each-task}
 use Rattle.rules.proofs.Begun.{Fades, Remembers, RoomyIn, Fade, Remember, onward, none-begins, then-begins, stays, tail-fades, leave-fades}
 use Rattle.rules.proofs.Begun.{set-roomy, set-fades, set-at, arrives-fades, prioritized-fades, arrives-begins}
@@ -95,18 +95,46 @@ pub tick-fades : (k : State) → RoomyIn k → Fade k (oneTick k)
 unfolding oneTick wakes
 tick-fades k R = wakes-fade (begun (k .tasks) (listed (k .order))) _ R
 
-loop-fades : (n : ℕ) (k : State) → RoomyIn k → Fade k (upTo (λ x i. oneTick x) n k)
-unfolding upTo
-loop-fades zero k R = stays R
-loop-fades (suc n) k R = let f = loop-fades n k R in onward f (tick-fades (upTo (λ x i. oneTick x) n k) (f .roomy))
+-- in the turn of the line the running task moves, and nobody else
+pub turned-fades : (k : State) → RoomyIn k → taskAt (k .tasks) (k .running) .place ≡ Ready → Fade k (turned k)
+unfolding turned toTail
+turned-fades k R e = go (noHigher (k .tasks) (level (k .tasks) (k .running)) (listed (k .order)))
+  where
+    go : (b : Bool) → Fade k (if b then toTail k (k .running) else k)
+    go true = tail-fades R (k .running) (ap isBlocked e) (ready-low (k .tasks) (k .running) (R .many) e)
+    go false = stays R
+
+-- choose moves nobody
+chosen-fades : (k : State) → RoomyIn k → Fade k (chosen k)
+chosen-fades k R = rw (chosen-only k .tasks, chosen-order k) (stays R)
+
+released-loop : (n : ℕ) (k : State) → RoomyIn k → Fade k (ticks false n k)
+unfolding ticks upTo
+released-loop zero k R = stays R
+released-loop (suc n) k R = let f = released-loop n k R in onward f (tick-fades (ticks false n k) (f .roomy))
 
 pub released-fades : (k : State) → RoomyIn k → Fade k (released k)
-unfolding released ticks
+unfolding released
 released-fades k R = go (eqb (k .hold) 1)
   where
-    go : (b : Bool) → Fade k (if b then ticks (k .pended) (withHold k 0 0) else withHold k (k .hold - 1) (k .pended))
-    go true = loop-fades (k .pended) (withHold k 0 0) R
+    go : (b : Bool) → Fade k (if b then ticks false (k .pended) (withHold k 0 0) else withHold k (k .hold - 1) (k .pended))
+    go true = released-loop (k .pended) (withHold k 0 0) R
     go false = stays R
+
+-- who runs is ready still after a tick's wakes
+pub still-ready : (k : State) → taskAt (k .tasks) (k .running) .place ≡ Ready → taskAt (oneTick k .tasks) (oneTick k .running) .place ≡ Ready
+still-ready k e = let A = tick-after k in ap (λ r. taskAt (oneTick k .tasks) r .place) (A .running) ∙ A .ready (k .running) e
+
+one-by-one : (k : State) → RoomyIn k → Unheld k → Fade k (turnedIf true (oneTick k))
+one-by-one k R U =
+    let f = tick-fades k R in
+    let g = turned-fades (oneTick k) (f .roomy) (still-ready k (U .sound .running .runs .ready)) in
+    onward f (onward g (chosen-fades (turned (oneTick k)) (g .roomy)))
+
+pub advanced-fades : (n : ℕ) (k : State) → RoomyIn k → Unheld k → Fade k (ticks true n k)
+unfolding ticks upTo
+advanced-fades zero k R U = stays R
+advanced-fades (suc n) k R U = let f = advanced-fades n k R U in onward f (one-by-one (ticks true n k) (f .roomy) (ticks-unheld n k U))
 
 -- ── the calls
 module _ (k : State) (S : Sound k) where
@@ -128,19 +156,15 @@ module _ (k : State) (S : Sound k) where
   yielded-fades = tail-fades roomy-in (k .running) caller-ready caller-low
 
   ticked-fades : Fade k (ticked k)
-  unfolding ticked turned toTail
-  ticked-fades = go (ltb 0 (k .hold)) (noHigher (oneTick k .tasks) (level (oneTick k .tasks) (oneTick k .running)) (listed (oneTick k .order)))
+  unfolding ticked
+  ticked-fades = go (ltb 0 (k .hold))
     where
       f : Fade k (oneTick k)
       f = tick-fades k roomy-in
 
-      ready : taskAt (oneTick k .tasks) (oneTick k .running) .place ≡ Ready
-      ready = let A = tick-after k in ap (λ r. taskAt (oneTick k .tasks) r .place) (A .running) ∙ A .ready (k .running) (S .running .runs .ready)
-
-      go : (a b : Bool) → Fade k (if a then withHold k (k .hold) (k .pended + 1) else (if b then toTail (oneTick k) (oneTick k .running) else oneTick k))
-      go true b = stays roomy-in
-      go false true = onward f (tail-fades (f .roomy) (oneTick k .running) (ap isBlocked ready) (ready-low (oneTick k .tasks) (oneTick k .running) (f .roomy .many) ready))
-      go false false = f
+      go : (b : Bool) → Fade k (if b then withHold k (k .hold) (k .pended + 1) else turned (oneTick k))
+      go true = stays roomy-in
+      go false = onward f (turned-fades (oneTick k) (f .roomy) (still-ready k (S .running .runs .ready)))
 
   suspended-fades : (t : TaskSlot) → Fade k (suspended k t)
   unfolding suspended leaves
@@ -160,7 +184,9 @@ module _ (k : State) (S : Sound k) where
   deleted-fades t last low = go last
     where
       gone : (x : Task) → isBlocked (x .place) ≡ false → Fade k (leaves (withTask k t x) t)
-      gone x e = onward (set-fades k roomy-in t x (λ b. absurd (false≢true (sym e ∙ b)))) (leave-fades (set-roomy k roomy-in t x) t (ap (λ (y : Task). isBlocked (y .place)) (set-at k roomy-in t x low) ∙ e))
+      gone x e =
+          onward (set-fades k roomy-in t x (λ b. absurd (false≢true (sym e ∙ b))))
+          (leave-fades (set-roomy k roomy-in t x) t (ap (λ (y : Task). isBlocked (y .place)) (set-at k roomy-in t x low) ∙ e))
 
       go : (b : Bool) → Fade k (leaves (withTask k t (if b then spentTask else freeTask)) t)
       go true = gone spentTask refl
@@ -170,7 +196,8 @@ module _ (k : State) (S : Sound k) where
   unfolding created toTail
   created-fades p low =
       let t = task (freeSlot (k .tasks)) in
-      onward (set-fades k roomy-in t (readyAt p) (λ b. absurd (false≢true b))) (tail-fades (set-roomy k roomy-in t (readyAt p)) t (ap (λ (y : Task). isBlocked (y .place)) (set-at k roomy-in t (readyAt p) low)) low)
+      onward (set-fades k roomy-in t (readyAt p) (λ b. absurd (false≢true b)))
+      (tail-fades (set-roomy k roomy-in t (readyAt p)) t (ap (λ (y : Task). isBlocked (y .place)) (set-at k roomy-in t (readyAt p) low)) low)
 
   own-again-fades : (j : State) → RoomyIn j → (t : TaskSlot) → Fade j (ownAgain j t)
   unfolding ownAgain
@@ -220,7 +247,8 @@ module _ (k : State) (S : Sound k) where
 
   send-remembers : (o : ObjSlot) (w : ℕ) → Remember k (sentTo k o (kindAt (k .objects) o) w)
   send-remembers o w =
-      by-kind (kindAt (k .objects) o) (λ x. Remember k (sentTo k o x w)) (quietly (stays roomy-in)) (quietly (stays roomy-in)) (λ q e. sent-remembers o q w) (λ e. quietly (stays roomy-in)) (λ h e. quietly (stays roomy-in))
+      by-kind (kindAt (k .objects) o) (λ x. Remember k (sentTo k o x w)) (quietly (stays roomy-in)) (quietly (stays roomy-in)) (λ q e. sent-remembers o q w)
+      (λ e. quietly (stays roomy-in)) (λ h e. quietly (stays roomy-in))
 
   receive-remembers : (o : ObjSlot) (w : ℕ) → Remember k (receivedFrom k o (kindAt (k .objects) o) w)
   receive-remembers o w =
@@ -255,7 +283,7 @@ module _ (k : State) (S : Sound k) where
 
 -- ── every call
 pub effect-remembers : (k : State) → Sound k → (n : ℕ) (c : Call) → Passed k (asked (k .uses) c) n → Remember k (effect k (asked (k .uses) c))
-unfolding effect asked namesNone noneFree resumed newPriority held queueMade mutexMade removed
+unfolding effect asked namesNone noneFree resumed newPriority held queueMade mutexMade removed advanced
 effect-remembers k S n (Create p) P = quietly k S (created-fades k S p (omega (arith, has-slot k S n p P, S .tables .task-slots)))
 effect-remembers k S n (Delete t) P =
     let u = taskSlot (k .uses) t in quietly k S (deleted-fades k S u (lastIn (k .uses .tasks) (u .0)) (there-low (k .tasks) u (S .tables .task-slots) (P .named)))
@@ -275,3 +303,4 @@ effect-remembers k S n (Receive o w) P = receive-remembers k S (objSlot (k .uses
 effect-remembers k S n (Take o w) P = taken-remembers k S (objSlot (k .uses) o) w
 effect-remembers k S n (Give o) P = quietly k S (given-fades k S (objSlot (k .uses) o))
 effect-remembers k S n Tick P = quietly k S (ticked-fades k S)
+effect-remembers k S n (Advance d) P = quietly k S (advanced-fades d k (roomy-in k S) (sound-unheld k S (advance-free k (asked (k .uses) (Advance d)) refl (P .held))))

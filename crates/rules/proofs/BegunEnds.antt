@@ -1,5 +1,5 @@
--- But for a tick and a release, no call ends more than one delay or wait. So of two who are due on one tick and both ready after a call, whatever the call, who began
--- earlier stands ahead.
+-- But for a tick, a release and an advance, no call ends more than one delay or wait. So of two who are due on one tick and both ready after a call, whatever the call,
+-- who began earlier stands ahead. (In an advance, so it is after the tick on which they are due; the ticks behind it may turn their line.)
 use Prim.Native.Nat.{ℕ, _+_, _-_}
 use mathlib.Core.Path.{_≡_, refl, sym, ap, _∙_}
 use mathlib.Core.Bool.{Bool, true, false, false≢true}
@@ -10,18 +10,17 @@ use lib.ListN.{set}
 use borrow.Author.Tests.{eqb-true, eqb-false}
 use Rattle.lists.specs.Choice.{if_then_else_}
 use Rattle.numbers.specs.Numbers.{task}
+use Rattle.calls.specs.Table.{called}
 use Rattle.calls.specs.Door.{taskSlot, objSlot}
 use Rattle.calls.specs.Behind.{asked}
 use Rattle.order.specs.Order.{listed}
-use Rattle.order.proofs.Fits.{fits-listed, fits-tail}
 use Rattle.slots.specs.Places.{isBlocked, isListed, wakesAt}
 use Rattle.slots.specs.Values.{readyAt, placed, brokenOff, ranked, taskAt}
 use Rattle.slots.specs.Kinds.{kindAt}
 use Rattle.rules.specs.Types.{TaskSlot, ObjSlot, Place, Ready, Delayed, Waiting, Task, Ring, WaitersOf}
-use Rattle.rules.specs.Types.{Call, Create, Delete, Suspend, Resume, SetPriority, Delay, Yield, Hold, Release, MakeQueue, MakeMutex, Remove, Send, Receive, Take, Give, Tick, State}
+use Rattle.rules.specs.Types.{Call, Create, Delete, Suspend, Resume, SetPriority, Delay, Yield, Hold, Release, MakeQueue, MakeMutex, Remove, Send, Receive, Take, Give, Tick, Advance, State}
 use Rattle.rules.specs.Tables.{freeSlot, holds, withTask, withHold}
-use Rattle.rules.specs.Lines.{hasBegun, level, Ahead, first, toTail, leaves}
-use Rattle.rules.specs.Sound.{noHigher}
+use Rattle.rules.specs.Lines.{hasBegun, Ahead, first, toTail, leaves}
 use Rattle.rules.specs.Waits.{later, wakeOf, arrives, waitFor}
 use Rattle.rules.specs.Loans.{prioritized, newPriority, lent, ownAgain}
 use Rattle.rules.specs.Ticks.{held, oneTick, turned, ticked, ticks, released}
@@ -30,14 +29,14 @@ use Rattle.rules.specs.Queues.{sentBy, sent, sentTo, refilledBy, receive
 use Rattle.rules.specs.Effects.{effect, created, deleted, suspended, resumed, yielded, delayed, queueMade, mutexMade, removed, takenFrom, taken, handedTo, handedOn, given}
 use Rattle.rules.proofs.TableSlots.{by-kind}
 use Rattle.rules.proofs.TableWithin.{by-outlet}
-use Rattle.rules.proofs.Keeps.{ready-low, apart}
+use Rattle.rules.proofs.Keeps.{apart}
 use Rattle.rules.proofs.KeepSlot.{at-other}
 use Rattle.rules.proofs.KeepBlocks.{prioritized-tasks}
 use Rattle.rules.proofs.KeepTaken.{each-task}
 use Rattle.rules.proofs.KeepTicks.{tick-after}
-use Rattle.rules.proofs.Begun.{RoomyIn}
-use Rattle.rules.proofs.BegunCalls.{due-blocked, tick-fades}
-use Rattle.rules.proofs.BegunPairs.{BothDue, Together, tick-together, ticks-together, other-to-tail}
+use Rattle.rules.proofs.TickJumps.{turned-only}
+use Rattle.rules.proofs.BegunCalls.{due-blocked, tick-fades, still-ready}
+use Rattle.rules.proofs.BegunPairs.{BothDue, Together, tick-together, ticks-together, turned-pair}
 
 -- ── at most one ends
 pub record OneEnds (ts us : List Task) : Type 0 where
@@ -171,45 +170,23 @@ module _ (t u : TaskSlot) (differ : t .0 ≡ u .0 → ⊥) (k : State) (w : ℕ)
       start : Together t u differ w (withHold k 0 0)
       start = inl record { roomy = D .roomy; first = D .first; second = D .second; ahead = D .ahead }
 
-      go : (b : Bool) → let j = if b then ticks (k .pended) (withHold k 0 0) else withHold k (k .hold - 1) (k .pended) in NowReady j → Ahead t u (listed (j .order))
-      go true W = ahead-then (ticks (k .pended) (withHold k 0 0)) (ticks-together t u differ w (k .pended) (withHold k 0 0) start) W
+      go : (b : Bool) → let j = if b then ticks false (k .pended) (withHold k 0 0) else withHold k (k .hold - 1) (k .pended) in NowReady j → Ahead t u (listed (j .order))
+      go true W = ahead-then (ticks false (k .pended) (withHold k 0 0)) (ticks-together t u differ w (k .pended) (withHold k 0 0) start) W
       go false W = absurd (not-ready (taskAt (k .tasks) t .place) (D .first) (W .first))
 
   module _ (ready : taskAt (k .tasks) (k .running) .place ≡ Ready) where
     -- after the turn of the line, in which the caller alone moves
-    turned-ahead : NowReady (turned (oneTick k)) → Ahead t u (listed (turned (oneTick k) .order))
-    unfolding turned toTail
-    turned-ahead = go (noHigher (oneTick k .tasks) (level (oneTick k .tasks) (oneTick k .running)) (listed (oneTick k .order)))
+    pub turned-ahead : NowReady (turned (oneTick k)) → Ahead t u (listed (turned (oneTick k) .order))
+    turned-ahead W =
+        let same = turned-only j .tasks in
+        turned-pair t u differ j (tick-fades k (D .roomy) .roomy) (still-ready k ready) (other t t-begun) (other u u-begun)
+        (ahead-then j (tick-together t u differ w k (inl D)) record { first = rw (sym same) (W .first); second = rw (sym same) (W .second) })
       where
         j : State
         j = oneTick k
 
-        runs : j .running ≡ k .running
-        runs = tick-after k .running
-
-        r : TaskSlot
-        r = j .running
-
-        ready-now : taskAt (j .tasks) r .place ≡ Ready
-        ready-now = ap (λ v. taskAt (j .tasks) v .place) runs ∙ tick-after k .ready (k .running) ready
-
-        other : (v : TaskSlot) → hasBegun (k .tasks) v ≡ true → r .0 ≡ v .0 → ⊥
-        other v e q = apart (k .tasks) v (k .running) isBlocked e (ap isBlocked ready) (sym q ∙ ap (λ (x : TaskSlot). x .0) runs)
-
-        R : RoomyIn j
-        R = tick-fades k (D .roomy) .roomy
-
-        to-tail : Ahead t u (listed (j .order)) → Ahead t u (listed (toTail j r .order))
-        to-tail a =
-            rw (fits-listed _ (fits-tail r (listed (j .order)) (R .room) (ready-low (j .tasks) r (R .many) ready-now)))
-            (other-to-tail t u differ r (other t t-begun) (other u u-begun) (listed (j .order)) ∙ a)
-
-        before-turn : NowReady j → Ahead t u (listed (j .order))
-        before-turn = ahead-then j (tick-together t u differ w k (inl D))
-
-        go : (b : Bool) → let i = if b then toTail j r else j in NowReady i → Ahead t u (listed (i .order))
-        go true W = to-tail (before-turn record { first = W .first; second = W .second })
-        go false W = before-turn W
+        other : (v : TaskSlot) → hasBegun (k .tasks) v ≡ true → j .running .0 ≡ v .0 → ⊥
+        other v e q = apart (k .tasks) v (k .running) isBlocked e (ap isBlocked ready) (sym q ∙ ap (λ (x : TaskSlot). x .0) (tick-after k .running))
 
     ticked-ahead : NowReady (ticked k) → Ahead t u (listed (ticked k .order))
     unfolding ticked
@@ -220,22 +197,23 @@ module _ (t u : TaskSlot) (differ : t .0 ≡ u .0 → ⊥) (k : State) (w : ℕ)
         go false W = turned-ahead W
 
     -- whatever the call
-    pub effect-ahead : (c : Call) → NowReady (effect k (asked (k .uses) c)) → Ahead t u (listed (effect k (asked (k .uses) c) .order))
+    pub effect-ahead : (c : Call) → eqb (called c .number) 18 ≡ false → NowReady (effect k (asked (k .uses) c)) → Ahead t u (listed (effect k (asked (k .uses) c) .order))
     unfolding effect asked created deleted resumed newPriority yielded held queueMade mutexMade removed toTail leaves
-    effect-ahead (Create p) W = absurd (never-both _ (changes (k .tasks) (task (freeSlot (k .tasks))) (readyAt p)) W)
-    effect-ahead (Delete v) W = absurd (never-both _ (changes (k .tasks) (taskSlot (k .uses) v) _) W)
-    effect-ahead (Suspend v) W = absurd (never-both _ (suspended-ends k (taskSlot (k .uses) v)) W)
-    effect-ahead (Resume v) W = absurd (never-both _ (arrives-ends k (taskSlot (k .uses) v) Ready _) W)
-    effect-ahead (SetPriority v p) W = absurd (never-both _ (none-ends (k .running) (prioritized-ends k (taskSlot (k .uses) v) p _)) W)
-    effect-ahead (Delay n) W = absurd (never-both _ (delayed-ends k n) W)
-    effect-ahead Yield W = absurd (never-both _ (nothing-ends k) W)
-    effect-ahead Hold W = absurd (never-both _ (nothing-ends k) W)
-    effect-ahead Release W = released-ahead W
-    effect-ahead (MakeQueue c z) W = absurd (never-both _ (nothing-ends k) W)
-    effect-ahead MakeMutex W = absurd (never-both _ (nothing-ends k) W)
-    effect-ahead (Remove o) W = absurd (never-both _ (nothing-ends k) W)
-    effect-ahead (Send o n) W = absurd (never-both _ (send-ends k (objSlot (k .uses) o) n) W)
-    effect-ahead (Receive o n) W = absurd (never-both _ (receive-ends k (objSlot (k .uses) o) n) W)
-    effect-ahead (Take o n) W = absurd (never-both _ (taken-ends k (objSlot (k .uses) o) n) W)
-    effect-ahead (Give o) W = absurd (never-both _ (given-ends k (objSlot (k .uses) o)) W)
-    effect-ahead Tick W = ticked-ahead W
+    effect-ahead (Create p) e W = absurd (never-both _ (changes (k .tasks) (task (freeSlot (k .tasks))) (readyAt p)) W)
+    effect-ahead (Delete v) e W = absurd (never-both _ (changes (k .tasks) (taskSlot (k .uses) v) _) W)
+    effect-ahead (Suspend v) e W = absurd (never-both _ (suspended-ends k (taskSlot (k .uses) v)) W)
+    effect-ahead (Resume v) e W = absurd (never-both _ (arrives-ends k (taskSlot (k .uses) v) Ready _) W)
+    effect-ahead (SetPriority v p) e W = absurd (never-both _ (none-ends (k .running) (prioritized-ends k (taskSlot (k .uses) v) p _)) W)
+    effect-ahead (Delay n) e W = absurd (never-both _ (delayed-ends k n) W)
+    effect-ahead Yield e W = absurd (never-both _ (nothing-ends k) W)
+    effect-ahead Hold e W = absurd (never-both _ (nothing-ends k) W)
+    effect-ahead Release e W = released-ahead W
+    effect-ahead (MakeQueue c z) e W = absurd (never-both _ (nothing-ends k) W)
+    effect-ahead MakeMutex e W = absurd (never-both _ (nothing-ends k) W)
+    effect-ahead (Remove o) e W = absurd (never-both _ (nothing-ends k) W)
+    effect-ahead (Send o n) e W = absurd (never-both _ (send-ends k (objSlot (k .uses) o) n) W)
+    effect-ahead (Receive o n) e W = absurd (never-both _ (receive-ends k (objSlot (k .uses) o) n) W)
+    effect-ahead (Take o n) e W = absurd (never-both _ (taken-ends k (objSlot (k .uses) o) n) W)
+    effect-ahead (Give o) e W = absurd (never-both _ (given-ends k (objSlot (k .uses) o)) W)
+    effect-ahead Tick e W = ticked-ahead W
+    effect-ahead (Advance n) e W = absurd (false≢true (sym e))

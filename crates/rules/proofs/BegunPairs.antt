@@ -22,15 +22,17 @@ use Rattle.slots.specs.Places.{isBlocked, wakesAt}
 use Rattle.slots.specs.Values.{inLine, taskAt}
 use Rattle.rules.specs.Types.{TaskSlot, Never, At, Place, Free, Ready, Delayed, Waiting, Suspended, Spent, Task, State}
 use Rattle.rules.specs.Tables.{withTick}
-use Rattle.rules.specs.Lines.{line, hasBegun, begun, isOneOf, Ahead, toTail}
+use Rattle.rules.specs.Lines.{line, hasBegun, begun, isOneOf, Ahead, level, toTail}
+use Rattle.rules.specs.Sound.{noHigher}
+use Rattle.rules.specs.Sentences.{Unheld}
 use Rattle.rules.specs.Waits.{later, arrives}
-use Rattle.rules.specs.Ticks.{wokenIfDue, wakes, ReadyFirst, oneTick, ticks}
+use Rattle.rules.specs.Ticks.{wokenIfDue, wakes, ReadyFirst, oneTick, turned, turnedIf, ticks}
 use Rattle.rules.proofs.KeepSlot.{at-same, at-other}
-use Rattle.rules.proofs.Keeps.{there-low}
-use Rattle.rules.proofs.TickJumps.{passed-over}
-use Rattle.rules.proofs.KeepTicks.{due-there}
+use Rattle.rules.proofs.Keeps.{there-low, ready-low, apart}
+use Rattle.rules.proofs.TickJumps.{passed-over, chosen-only, chosen-order, turn-only}
+use Rattle.rules.proofs.KeepTicks.{due-there, ticks-unheld}
 use Rattle.rules.proofs.Begun.{RoomyIn}
-use Rattle.rules.proofs.BegunCalls.{due-blocked, woken-fades}
+use Rattle.rules.proofs.BegunCalls.{due-blocked, woken-fades, tick-fades, turned-fades, still-ready, advanced-fades}
 
 -- who is due at w is due at n exactly if n is w
 pub due-at : (w n : ℕ) (p : Place) → wakesAt w p ≡ true → wakesAt n p ≡ eqb w n
@@ -50,7 +52,7 @@ module _ (k : State) (R : RoomyIn k) (x : TaskSlot) (e : dueNow k x ≡ true) wh
   low : x .0 < 16
   low = there-low (k .tasks) x (R .many) (due-there (k .tick) (taskAt (k .tasks) x .place) e)
 
-  woken-last : listed (wokenIfDue k x .order) ≡ without x (listed (k .order)) ++ (x ∷ [])
+  pub woken-last : listed (wokenIfDue k x .order) ≡ without x (listed (k .order)) ++ (x ∷ [])
   unfolding wokenIfDue arrives toTail
   woken-last = rw e (fits-listed (without x (listed (k .order)) ++ (x ∷ [])) (fits-tail x (listed (k .order)) (R .room) low))
 
@@ -297,7 +299,56 @@ module _ (t u : TaskSlot) (differ : t .0 ≡ u .0 → ⊥) where
           let a = tick-spares k (D .roomy) (due-at w (later (k .tick) 1) (taskAt (k .tasks) t .place) (D .first) ∙ e) (due-at w (later (k .tick) 1) (taskAt (k .tasks) u .place) (D .second) ∙ e) in
           inl record { roomy = a .roomy; first = rw (a .first) (D .first); second = rw (a .second) (D .second); ahead = a .order ∙ D .ahead }
 
-  pub ticks-together : (w n : ℕ) (k : State) → Together w k → Together w (ticks n k)
+  pub ticks-together : (w n : ℕ) (k : State) → Together w k → Together w (ticks false n k)
   unfolding ticks upTo
   ticks-together w zero k T = T
-  ticks-together w (suc n) k T = tick-together w (ticks n k) (ticks-together w n k T)
+  ticks-together w (suc n) k T = tick-together w (ticks false n k) (ticks-together w n k T)
+
+  -- ── the turn of the line, in which neither of them moves
+  module _ (k : State) (R : RoomyIn k) (ready : taskAt (k .tasks) (k .running) .place ≡ Ready) (a : k .running .0 ≡ t .0 → ⊥) (b : k .running .0 ≡ u .0 → ⊥) where
+    pub turned-pair : Ahead t u (listed (k .order)) → Ahead t u (listed (turned k .order))
+    unfolding turned toTail
+    turned-pair h = go (noHigher (k .tasks) (level (k .tasks) (k .running)) (listed (k .order)))
+      where
+        go : (c : Bool) → Ahead t u (listed ((if c then toTail k (k .running) else k) .order))
+        go true =
+            rw (fits-listed _ (fits-tail (k .running) (listed (k .order)) (R .room) (ready-low (k .tasks) (k .running) (R .many) ready)))
+            (other-to-tail (k .running) a b (listed (k .order)) ∙ h)
+        go false = h
+
+  -- ── an advance: both are due still, as long as u has not ended
+  not-running : (k : State) (v : TaskSlot) → taskAt (k .tasks) (k .running) .place ≡ Ready → hasBegun (k .tasks) v ≡ true → k .running .0 ≡ v .0 → ⊥
+  not-running k v e b q = apart (k .tasks) v (k .running) isBlocked b (ap isBlocked e) (sym q)
+
+  due-turned : (w : ℕ) (k : State) → BothDue w k → taskAt (k .tasks) (k .running) .place ≡ Ready → BothDue w (turnedIf true k)
+  due-turned w k D e =
+      let o = turn-only true k in
+      let f = turned-fades k (D .roomy) e in
+      let n : (v : TaskSlot) → wakesAt w (taskAt (k .tasks) v .place) ≡ true → k .running .0 ≡ v .0 → ⊥ = λ v d. not-running k v e (due-blocked w (taskAt (k .tasks) v .place) d) in
+      record {
+        roomy = rw (chosen-only (turned k) .tasks, chosen-order (turned k)) (f .roomy);
+        first = rw (o .tasks) (D .first);
+        second = rw (o .tasks) (D .second);
+        ahead = rw (chosen-order (turned k)) (turned-pair k (D .roomy) e (n t (D .first)) (n u (D .second)) (D .ahead));
+      }
+
+  pub ticks-due : (w n : ℕ) (k : State) → Unheld k → BothDue w k → hasBegun (ticks true n k .tasks) u ≡ true → BothDue w (ticks true n k)
+  unfolding ticks upTo
+  ticks-due w zero k U D b = D
+  ticks-due w (suc n) k U D b = go (λ f. tick-together w j (inl (ticks-due w n k U D f)))
+    where
+      j : State
+      j = ticks true n k
+
+      now : hasBegun (oneTick j .tasks) u ≡ true
+      now = rw (turn-only true (oneTick j) .tasks) at b
+
+      before : hasBegun (j .tasks) u ≡ true
+      before = tick-fades j (advanced-fades n k (D .roomy) U .roomy) .fewer u now
+
+      either-way : Together w (oneTick j) → BothDue w (turnedIf true (oneTick j))
+      either-way (inl X) = due-turned w (oneTick j) X (still-ready j (ticks-unheld n k U .sound .running .runs .ready))
+      either-way (inr B) = absurd (false≢true (sym (ap isBlocked (B .second)) ∙ now))
+
+      go : (hasBegun (j .tasks) u ≡ true → Together w (oneTick j)) → BothDue w (turnedIf true (oneTick j))
+      go f = either-way (f before)

@@ -39,6 +39,10 @@ nearly-sound k N R U =
       uses = U;
     }
 
+-- with other uses
+pub sound-with : (k : State) → Sound k → {us : Uses} → Used us → Sound (withUses k us)
+sound-with k S U = record { tables = S .tables; levels = S .levels; listing = S .listing; clock = S .clock; running = S .running; uses = U }
+
 pub sound-nearly : (k : State) → Sound k → Nearly (settled (k .tick)) k
 sound-nearly k S =
     record {
@@ -51,7 +55,7 @@ sound-nearly k S =
 
 -- ── choose
 -- no line stands above the highest priority of the ready
-above-highest : (ts : List Task) (p : ℕ) (l : List TaskSlot) → highest ts (those ts AllReady l) < p → line ts p l ≡ []
+pub above-highest : (ts : List Task) (p : ℕ) (l : List TaskSlot) → highest ts (those ts AllReady l) < p → line ts p l ≡ []
 unfolding those line kept highest
 above-highest ts p [] h = refl
 above-highest ts p (t ∷ l) h = go (isReady (taskAt ts t .place)) (ltb (level ts t) (highest ts rest)) refl h (above-highest ts p l)
@@ -78,7 +82,7 @@ unfolding count
 none-counts q = omega arith
 
 -- idle is ready, so someone is
-some-ready : {w : Owing} (k : State) → Nearly w k → isNone (first k AllReady) ≡ false
+pub some-ready : {w : Owing} (k : State) → Nearly w k → isNone (first k AllReady) ≡ false
 unfolding first those
 some-ready k N = leader-none (k .tasks) (those (k .tasks) AllReady (listed (k .order))) ∙ go (those (k .tasks) AllReady (listed (k .order))) once
   where

@@ -9,7 +9,7 @@ use Rattle.calls.specs.Door.{usesFine, taskSlot, objSlot, freshUses}
 use Rattle.calls.specs.Behind.{asked}
 use Rattle.order.specs.Order.{ordered}
 use Rattle.order.specs.Tidy.{count, tidy}
-use Rattle.rules.specs.Types.{Call, Create, Delete, Suspend, Resume, SetPriority, Delay, Yield, Hold, Release, MakeQueue, MakeMutex, Remove, Send, Receive, Take, Give, Tick, State}
+use Rattle.rules.specs.Types.{Call, Create, Delete, Suspend, Resume, SetPriority, Delay, Yield, Hold, Release, MakeQueue, MakeMutex, Remove, Send, Receive, Take, Give, Tick, Advance, State}
 use Rattle.slots.specs.Values.{taskAt}
 use Rattle.slots.specs.Kinds.{kindAt}
 use Rattle.rules.specs.Tables.{fresh, holds}
@@ -21,7 +21,7 @@ use Rattle.rules.specs.Steps.{step}
 use Rattle.rules.proofs.RowPasses.{Passed}
 use Rattle.rules.proofs.Keeps.{Keeps, effect-kept as step-keeps, delete-not-idle}
 use Rattle.rules.proofs.KeepTasks.{create-keeps, delete-keeps, suspend-keeps, resume-keeps, priority-keeps, delay-keeps, yield-keeps}
-use Rattle.rules.proofs.KeepTicks.{hold-keeps, release-keeps, tick-keeps}
+use Rattle.rules.proofs.KeepTicks.{hold-keeps, release-keeps, tick-keeps, advance-keeps}
 use Rattle.rules.proofs.KeepObjects.{queue-keeps, mutex-keeps, remove-keeps}
 use Rattle.rules.proofs.KeepQueues.{send-keeps, receive-keeps}
 use Rattle.rules.proofs.KeepMutexes.{take-keeps, give-keeps}
@@ -50,6 +50,7 @@ effect-keeps k S n (Receive o w) = receive-keeps k S n (objSlot (k .uses) o) w
 effect-keeps k S n (Take o w) = take-keeps k S n (objSlot (k .uses) o) w
 effect-keeps k S n (Give o) = give-keeps k S n (objSlot (k .uses) o)
 effect-keeps k S n Tick = tick-keeps k S n
+effect-keeps k S n (Advance d) = advance-keeps k S n d
 
 -- whatever the item and the store
 pub step-kept : (k : State) (c : Call) (item s : List ℕ) → sound k ≡ true → sound (step k c item s .kernel) ≡ true

@@ -19,14 +19,13 @@ use Rattle.slots.specs.Places.{isFree, isListed, waitsOn, wakesAt, outcomeDue}
 use Rattle.slots.specs.Values.{placed, brokenOff, ranked, taskAt}
 use Rattle.slots.specs.Kinds.{isUnused, isMutex, kindAt}
 use Rattle.rules.specs.Types.{TaskSlot, ObjSlot, Place, Free, Ready, Delayed, Waiting, Suspended, Spent, Task, Ring, Kind, Unused, SpentObject, Queue, Mutex, By, Object, WaitersOf}
-use Rattle.rules.specs.Types.{Call, Create, Delete, Suspend, Resume, SetPriority, Delay, Yield, Hold, Release, MakeQueue, MakeMutex, Remove, Send, Receive, Take, Give, Tick, State}
+use Rattle.rules.specs.Types.{Call, Create, Delete, Suspend, Resume, SetPriority, Delay, Yield, Hold, Release, MakeQueue, MakeMutex, Remove, Send, Receive, Take, Give, Tick, Advance, State}
 use Rattle.rules.specs.Tables.{holds, withTask, withObject, withTick, withHold}
 use Rattle.rules.specs.Lines.{begun, level, first, toTail, leaves}
-use Rattle.rules.specs.Sound.{noHigher}
 use Rattle.rules.specs.Sentences.{Sound}
 use Rattle.rules.specs.Waits.{later, wakeOf, arrives, waitFor}
 use Rattle.rules.specs.Loans.{prioritized, newPriority, lent, ownAgain}
-use Rattle.rules.specs.Ticks.{held, wokenIfDue, wakes, oneTick, turned, ticked, ticks, released}
+use Rattle.rules.specs.Ticks.{held, wokenIfDue, wakes, oneTick, turned, ticked, ticks, released, advanced}
 use Rattle.rules.specs.Rings.{oneLess}
 use Rattle.rules.specs.Queues.{sentBy, sent, sentTo, refilledBy, received, receivedFrom}
 use Rattle.rules.specs.Effects.{effect, suspended, resumed, yielded, delayed, takenFrom, taken, handedTo, handedOn, given}
@@ -35,6 +34,7 @@ use Rattle.rules.proofs.TableWithin.{first-meant, first-single, by-outl
 use Rattle.rules.proofs.KeepSlot.{at-same, at-other}
 use Rattle.rules.proofs.KeepObject.{kinds, kind-same, kind-other}
 use Rattle.rules.proofs.KeepBlocks.{prioritized-same, prioritized-tasks}
+use Rattle.rules.proofs.TickJumps.{OnlyTurned, turned-only, turn-only}
 use Rattle.rules.proofs.KeepTicks.{due-there}
 use Rattle.rules.proofs.RowPasses.{Passed}
 use Rattle.rows.specs.Applies.{namesNone}
@@ -165,33 +165,36 @@ tick-stays : (k : State) → Stays k (oneTick k)
 unfolding oneTick wakes
 tick-stays k = let s = wakes-stay (begun (k .tasks) (listed (k .order))) (withTick k (later (k .tick) 1)) in record { tasks = s .tasks; objects = s .objects }
 
-loop-stays : (n : ℕ) (k : State) → Stays k (upTo (λ x i. oneTick x) n k)
-unfolding upTo
-loop-stays zero k = stays
-loop-stays (suc n) k = onward (loop-stays n k) (tick-stays (upTo (λ x i. oneTick x) n k))
+turned-stays : {k j : State} → OnlyTurned k j → Stays k j
+turned-stays o = record { tasks = λ t. ap (λ (ts : List Task). stands (taskAt ts t .place)) (o .tasks); objects = λ b. ap (λ (os : List Object). standsAs (kindAt os b)) (o .objects) }
+
+ticks-stay : (b : Bool) (n : ℕ) (k : State) → Stays k (ticks b n k)
+unfolding ticks upTo
+ticks-stay b zero k = stays
+ticks-stay b (suc n) k = onward (ticks-stay b n k) (onward (tick-stays (ticks b n k)) (turned-stays (turn-only b (oneTick (ticks b n k)))))
 
 pub ticked-stays : (k : State) → Stays k (ticked k)
-unfolding ticked turned toTail
-ticked-stays k = go (ltb 0 (k .hold)) (noHigher (oneTick k .tasks) (level (oneTick k .tasks) (oneTick k .running)) (listed (oneTick k .order)))
+unfolding ticked
+ticked-stays k = go (ltb 0 (k .hold))
   where
-    s : Stays k (oneTick k)
-    s = tick-stays k
-
-    go : (a b : Bool) → Stays k (if a then withHold k (k .hold) (k .pended + 1) else (if b then toTail (oneTick k) (oneTick k .running) else oneTick k))
-    go true b = record { tasks = λ t. refl; objects = λ o. refl }
-    go false true = record { tasks = s .tasks; objects = s .objects }
-    go false false = s
+    go : (b : Bool) → Stays k (if b then withHold k (k .hold) (k .pended + 1) else turned (oneTick k))
+    go true = record { tasks = λ t. refl; objects = λ o. refl }
+    go false = onward (tick-stays k) (turned-stays (turned-only (oneTick k)))
 
 pub released-stays : (k : State) → Stays k (released k)
-unfolding released ticks
+unfolding released
 released-stays k = go (eqb (k .hold) 1)
   where
-    s : Stays (withHold k 0 0) (upTo (λ x i. oneTick x) (k .pended) (withHold k 0 0))
-    s = loop-stays (k .pended) (withHold k 0 0)
+    s : Stays (withHold k 0 0) (ticks false (k .pended) (withHold k 0 0))
+    s = ticks-stay false (k .pended) (withHold k 0 0)
 
-    go : (b : Bool) → Stays k (if b then ticks (k .pended) (withHold k 0 0) else withHold k (k .hold - 1) (k .pended))
+    go : (b : Bool) → Stays k (if b then ticks false (k .pended) (withHold k 0 0) else withHold k (k .hold - 1) (k .pended))
     go true = record { tasks = s .tasks; objects = s .objects }
     go false = record { tasks = λ t. refl; objects = λ o. refl }
+
+pub advanced-stays : (k : State) (n : ℕ) → Stays k (advanced k n)
+unfolding advanced
+advanced-stays k n = ticks-stay true n k
 
 -- ── the calls
 module _ (k : State) (S : Sound k) where
@@ -304,6 +307,7 @@ changesSlots (Receive o w) = false
 changesSlots (Take o w) = false
 changesSlots (Give o) = false
 changesSlots Tick = false
+changesSlots (Advance n) = false
 
 pub effect-stays : (k : State) → Sound k → (n : ℕ) (c : Call) → changesSlots c ≡ false → Passed k (asked (k .uses) c) n → Stays k (effect k (asked (k .uses) c))
 unfolding effect asked namesNone resumed newPriority held
@@ -324,3 +328,4 @@ effect-stays k S n (Receive o w) x P = receive-stays k S (objSlot (k .uses) o) w
 effect-stays k S n (Take o w) x P = take-stays k S (objSlot (k .uses) o) w
 effect-stays k S n (Give o) x P = give-stays k S (objSlot (k .uses) o) (mutex-used (kindAt (k .objects) (objSlot (k .uses) o)) (P .named))
 effect-stays k S n Tick x P = ticked-stays k
+effect-stays k S n (Advance d) x P = advanced-stays k d

@@ -1,4 +1,4 @@
--- Hold, release and tick keep soundness.
+-- Hold, release, tick and advance keep soundness.
 use Prim.Native.Nat.{ℕ, zero, suc, _+_, _-_, _<_, _≤_}
 use mathlib.Core.Path.{_≡_, refl, sym, ap, _∙_, subst}
 use mathlib.Core.Bool.{Bool, true, false, not, _||_, false≢true}
@@ -10,6 +10,7 @@ use Rattle.lists.specs.Choice.{if_then_else_}
 use Rattle.lists.specs.Lists.{foldl, upTo}
 use Rattle.lists.proofs.Bools.{and-left, and-intro, not-off, or-off, or-left, or-right}
 use Rattle.numbers.specs.Numbers.{sameTask}
+use Rattle.calls.specs.Door.{freshUses}
 use Rattle.calls.specs.Behind.{asked, nothing}
 use Rattle.order.specs.Order.{listed}
 use Rattle.order.specs.Tidy.{count}
@@ -18,19 +19,21 @@ use Rattle.slots.specs.Places.{isFree, isBlocked, wakesAt, outcomeDue}
 use Rattle.slots.specs.Values.{taskAt}
 use Rattle.slots.specs.SoundSlots.{wakesInRange, notDue}
 use Rattle.rules.specs.Types.{TaskSlot, Place, Free, Ready, Delayed, Waiting, Suspended, Spent, Task, State}
-use Rattle.rules.specs.Tables.{withTick, withHold}
+use Rattle.rules.specs.Tables.{withTick, withHold, withUses}
 use Rattle.rules.specs.Lines.{begun, level, toTail}
 use Rattle.rules.specs.Sound.{noHigher}
-use Rattle.rules.specs.Sentences.{Counts, Sound}
+use Rattle.rules.specs.Sentences.{Counts, Used, Sound, Unheld}
 use Rattle.rows.specs.Applies.{noDepth, noTick}
 use Rattle.rules.specs.Waits.{later, arrives}
-use Rattle.rules.specs.Ticks.{wokenIfDue, wakes, oneTick, turned, ticked, ticks, released, held}
+use Rattle.rules.specs.Ticks.{wokenIfDue, wakes, oneTick, turned, turnedIf, ticked, ticks, released, held, advanced}
 use Rattle.rules.specs.Effects.{effect}
 use Rattle.rules.proofs.TableSlots.{passes-there}
-use Rattle.rules.proofs.RowPasses.{Passed}
+use Rattle.rules.proofs.RowPasses.{Passed, advance-free}
+use Rattle.rules.proofs.SoundUses.{uses-say, fresh-fine}
+use Rattle.rules.proofs.TickJumps.{turn-only}
 use Rattle.rules.proofs.KeepNearly.{Owing, settled, level-as, Nearly, RunsIn}
 use Rattle.rules.proofs.KeepSlot.{at-other, moved-nearly}
-use Rattle.rules.proofs.KeepChosen.{sound-nearly}
+use Rattle.rules.proofs.KeepChosen.{sound-with, sound-nearly, chosen-sound}
 use Rattle.rules.proofs.KeepBlocks.{to-ready, arrives-nearly, arrives-same, arrives-at}
 use Rattle.rules.proofs.Keeps.{Keeps, there-low, ready-low}
 
@@ -234,6 +237,52 @@ module _ (k : State) (N : Nearly (settled (k .tick)) k) where
         after = tick-after k;
       }
 
+-- ── the turn of the line, and choose
+turn-keeps : (k j : State) → RunsIn k → Ticked k j → k .hold ≡ 0 → Keeps (turned j)
+unfolding turned toTail
+turn-keeps k j R T z = go (noHigher (j .tasks) (level (j .tasks) (j .running)) (listed (j .order)))
+  where
+    runs-ready : taskAt (j .tasks) (j .running) .place ≡ Ready
+    runs-ready = ap (λ v. taskAt (j .tasks) v .place) (T .after .running) ∙ T .after .ready (k .running) (R .ready)
+
+    no-hold : 0 < j .hold → ⊥
+    no-hold h = omega (arith, T .after .hold)
+
+    go : (b : Bool) → Keeps (if b then toTail j (j .running) else j)
+    go true =
+        record { nearly = moved-nearly j (T .nearly) (j .running) (ready-low (j .tasks) (j .running) (T .nearly .tables .task-slots) runs-ready) (rw runs-ready); runs = λ h. absurd (no-hold h) }
+    go false = record { nearly = T .nearly; runs = λ h. absurd (no-hold h) }
+
+pub fresh-used : Used freshUses
+fresh-used = uses-say freshUses fresh-fine
+
+pub sound-unheld : (k : State) → Sound k → k .hold ≡ 0 → Unheld k
+sound-unheld k S z = record { sound = sound-with k S fresh-used; free = z }
+
+pub unheld-nearly : (k : State) → Unheld k → Nearly (settled (k .tick)) k
+unheld-nearly k U = let N = sound-nearly (withUses k freshUses) (U .sound) in record { tables = N .tables; levels = N .levels; listing = N .listing; due = N .due; counts = N .counts }
+
+pub unheld-keeps : (k : State) → Unheld k → Keeps k
+unheld-keeps k U = record { nearly = unheld-nearly k U; runs = λ h. absurd (omega (arith, U .free)) }
+
+-- the turn and the choose, after a tick's wakes or by themselves
+module _ (k j : State) (U : Unheld k) (T : Ticked k j) where
+  pub turned-unheld : Unheld (turnedIf true j)
+  turned-unheld =
+      let K = turn-keeps k j (U .sound .running .runs) T (U .free) in
+      record { sound = chosen-sound (turned j) (K .nearly) fresh-used (K .runs); free = turn-only true j .hold ∙ T .after .hold ∙ U .free }
+
+pub tick-unheld : (k : State) → Unheld k → Unheld (turnedIf true (oneTick k))
+tick-unheld k U = turned-unheld k (oneTick k) U (one-tick k (unheld-nearly k U))
+
+pub turn-unheld : (k : State) → Unheld k → Unheld (turnedIf true k)
+turn-unheld k U = turned-unheld k k U (record { nearly = unheld-nearly k U; after = record { hold = refl; running = refl; ready = λ t e. e } })
+
+pub ticks-unheld : (n : ℕ) (k : State) → Unheld k → Unheld (ticks true n k)
+unfolding ticks upTo
+ticks-unheld zero k U = U
+ticks-unheld (suc n) k U = tick-unheld (ticks true n k) (ticks-unheld n k U)
+
 -- ── the calls
 module _ (k : State) (S : Sound k) (store : ℕ) where
   N : Nearly (settled (k .tick)) k
@@ -263,21 +312,6 @@ module _ (k : State) (S : Sound k) (store : ℕ) where
       let f : eqb (k .pended) 65535 ≡ false = rw (lt-ltb 0 (k .hold) h) at (P .ticks) in
       omega (arith, eqb-false (k .pended) 65535 f, C .pended-range)
 
-  turns : (j : State) → Ticked k j → k .hold ≡ 0 → Keeps (turned j)
-  unfolding turned toTail
-  turns j T z = go (noHigher (j .tasks) (level (j .tasks) (j .running)) (listed (j .order)))
-    where
-      runs-ready : taskAt (j .tasks) (j .running) .place ≡ Ready
-      runs-ready = ap (λ v. taskAt (j .tasks) v .place) (T .after .running) ∙ T .after .ready (k .running) (R .ready)
-
-      no-hold : 0 < j .hold → ⊥
-      no-hold h = omega (arith, T .after .hold)
-
-      go : (b : Bool) → Keeps (if b then toTail j (j .running) else j)
-      go true =
-          record { nearly = moved-nearly j (T .nearly) (j .running) (ready-low (j .tasks) (j .running) (T .nearly .tables .task-slots) runs-ready) (rw runs-ready); runs = λ h. absurd (no-hold h) }
-      go false = record { nearly = T .nearly; runs = λ h. absurd (no-hold h) }
-
   pub tick-keeps : Passed k (nothing 17 0 0 1 0) store → Keeps (effect k (nothing 17 0 0 1 0))
   unfolding effect ticked
   tick-keeps P = go (ltb 0 (k .hold)) refl
@@ -290,7 +324,7 @@ module _ (k : State) (S : Sound k) (store : ℕ) where
                 (record { tick-range = C .tick-range; hold-range = C .hold-range; pended-range = tick-pends P h; pends = λ z. absurd (omega arith) });
             runs = λ q. R;
           }
-      go false e = turns (oneTick k) (one-tick k N) (omega (arith, ltb-false 0 (k .hold) e))
+      go false e = turn-keeps k (oneTick k) R (one-tick k N) (omega (arith, ltb-false 0 (k .hold) e))
 
   -- 9: release
   all-ticks : (n : ℕ) (j : State) → Nearly (settled (j .tick)) j → j .hold ≡ 0 → Keeps (upTo (λ x i. oneTick x) n j) × (upTo (λ x i. oneTick x) n j .hold ≡ 0)
@@ -320,3 +354,11 @@ module _ (k : State) (S : Sound k) (store : ℕ) where
                 (record { tick-range = C .tick-range; hold-range = omega (arith, C .hold-range); pended-range = C .pended-range; pends = λ z. absurd (omega (arith, some, d)) });
             runs = λ h. R;
           }
+
+  -- 18: advance
+  pub advance-keeps : (n : ℕ) → Passed k (nothing 18 0 n 1 0) store → Keeps (effect k (nothing 18 0 n 1 0))
+  unfolding effect advanced
+  advance-keeps n P = unheld-keeps (ticks true n k) (ticks-unheld n k (sound-unheld k S (no-hold n P)))
+    where
+      no-hold : (m : ℕ) → Passed k (nothing 18 0 m 1 0) store → k .hold ≡ 0
+      no-hold m Q = advance-free k (nothing 18 0 m 1 0) refl (Q .held)

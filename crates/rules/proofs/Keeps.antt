@@ -65,8 +65,8 @@ wait-busy k a e w =
 pub wait-free : (k : State) (a : Asked) → notWithHold (seen k a) a ≡ false → waits a ≡ true → 0 < k .hold → ⊥
 unfolding notWithHold
 wait-free k a e w h =
-    let f : (is 6 a || (is 7 a || (waits a || (stops a && sameTask (a .task) (k .running))))) ≡ false = rw (lt-ltb 0 (k .hold) h) at e in
-    false≢true (sym (or-off (waits a) _ (or-off (is 7 a) _ (or-off (is 6 a) _ f .1) .1) .0) ∙ w)
+    let f : (is 6 a || (is 7 a || (is 18 a || (waits a || (stops a && sameTask (a .task) (k .running)))))) ≡ false = rw (lt-ltb 0 (k .hold) h) at e in
+    false≢true (sym (or-off (waits a) _ (or-off (is 18 a) _ (or-off (is 7 a) _ (or-off (is 6 a) _ f .1) .1) .1) .0) ∙ w)
 
 -- where the caller would have to wait, the wait is not 0
 pub must-wait : (k : State) (a : Asked) → mustWait (seen k a) a ≡ false → stopsAt a (kindAt (k .objects) (a .object)) ≡ true → waits a ≡ true

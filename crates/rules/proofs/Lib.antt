@@ -2,6 +2,7 @@ pub mod TableSlots
 pub mod TableHolds
 pub mod LineLeads
 pub mod LineHeights
+pub mod LineTurns
 pub mod LineMoves
 pub mod SoundLists
 pub mod SoundTables
@@ -32,5 +33,6 @@ pub mod Begun
 pub mod BegunCalls
 pub mod BegunPairs
 pub mod BegunEnds
+pub mod TickSleeps
 pub mod KeepEvery
 pub mod Traces

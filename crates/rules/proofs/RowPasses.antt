@@ -1,24 +1,19 @@
 -- What the numbers of an accepted call are: no row of the table applies.
 use Prim.Native.Nat.{ℕ, _<_, _≤_}
-use mathlib.Core.Path.{_≡_, refl, sym, ap, _∙_}
+use mathlib.Core.Path.{_≡_, refl, sym}
 use mathlib.Core.Bool.{Bool, true, false, not, _&&_, false≢true}
 use native.Mathlib.Omega.{arith}
 use lib.Dec.{eqb, ltb, leb}
 use lib.ListN.{length}
-use borrow.Author.Tests.{eqb-true, eqb-false, ltb-false, ltb-true, lt-ltb, not-false}
+use borrow.Author.Tests.{eqb-true, eqb-false, ltb-false, lt-ltb, not-false}
 use Rattle.lists.specs.Choice.{if_then_else_}
 use Rattle.lists.proofs.Bools.{or-off}
-use Rattle.slots.specs.Places.{isReady}
-use Rattle.rules.specs.Types.{Task, Ring, Kind, Queue, Asked, State}
+use Rattle.rules.specs.Types.{Ring, Kind, Queue, Asked, State}
 use Rattle.slots.specs.Kinds.{kindAt}
-use Rattle.rules.specs.Sound.{sound}
-use Rattle.rows.specs.Applies.{outOfRange, namesNone, sizeDiffers, wrongSize, notForIdle, notWithHold, noneFree}
+use Rattle.rows.specs.Applies.{notSoMany, outOfRange, namesNone, sizeDiffers, wrongSize, notForIdle, notWithHold, noneFree}
 use Rattle.rules.specs.Refusals.{seen, inUse}
 use Rattle.rows.specs.Applies.{notHis, hisAlready, notSuspended, mustWait, noDepth, noTick, table}
 use Rattle.rules.specs.Refusals.{laterRow}
-use Rattle.rules.specs.Sentences.{Sound, Steady}
-use Rattle.rules.proofs.TableSlots.{past-tasks}
-use Rattle.rules.proofs.SoundSays.{sound-says}
 
 pub record Passed (k : State) (a : Asked) (store : ℕ) : Type 0 where
   pub whole : store ≡ 9216
@@ -44,6 +39,7 @@ above-0 n e = let d = eqb-false n 0 e in omega (arith, d)
 -- what is in range
 pub record InRange (a : Asked) : Type 0 where
   pub low : a .priority ≤ 31
+  pub some-ticks : notSoMany a ≡ false
   pub few : a .capacity ≤ 64
   pub small : a .size ≤ 64
 
@@ -51,9 +47,15 @@ pub in-range-of : (a : Asked) → outOfRange a ≡ false → InRange a
 unfolding outOfRange
 in-range-of a e =
     let s = or-off (leb 4294967295 (a .ticks)) _ (or-off (ltb 31 (a .priority)) _ e .1) in
-    let u = or-off (ltb 64 (a .capacity)) _ (or-off (ltb (a .capacity) 1) _ (s .1) .1) in
+    let m = or-off (notSoMany a) _ (s .1) in
+    let u = or-off (ltb 64 (a .capacity)) _ (or-off (ltb (a .capacity) 1) _ (m .1) .1) in
     let v = or-off (ltb 64 (a .size)) _ (u .1) in
-    record { low = ltb-false 31 (a .priority) (or-off (ltb 31 (a .priority)) _ e .0); few = ltb-false 64 (a .capacity) (u .0); small = ltb-false 64 (a .size) (v .0) }
+    record {
+      low = ltb-false 31 (a .priority) (or-off (ltb 31 (a .priority)) _ e .0);
+      some-ticks = m .0;
+      few = ltb-false 64 (a .capacity) (u .0);
+      small = ltb-false 64 (a .size) (v .0);
+    }
 
 -- a row that does not apply
 row-passed : (b : Bool) (n : ℕ) {m : ℕ} → 0 < n → (if b then n else m) ≡ 0 → (b ≡ false) × (m ≡ 0)
@@ -122,28 +124,17 @@ pub tick-fits : (k : State) (a : Asked) → a .number ≡ 17 → noTick (seen k 
 unfolding noTick
 tick-fits k a e h = rw e at h
 
+-- row 8, at an advance
+pub advance-free : (k : State) (a : Asked) → a .number ≡ 18 → notWithHold (seen k a) a ≡ false → k .hold ≡ 0
+unfolding notWithHold
+advance-free k a e h = go (ltb 0 (k .hold)) refl (rw e at h)
+  where
+    go : (b : Bool) → ltb 0 (k .hold) ≡ b → (b && true) ≡ false → k .hold ≡ 0
+    go true q f = absurd (false≢true (sym f))
+    go false q f = omega (arith, ltb-false 0 (k .hold) q)
+
 pub tick-room : (h p : ℕ) → 0 < h → p ≤ 65535 → (ltb 0 h && eqb p 65535) ≡ false → p < 65535
 tick-room h p l m e =
     let f : eqb p 65535 ≡ false = rw (lt-ltb 0 h l) at e in
     let d = eqb-false p 65535 f in
     omega (arith, d)
-
--- what a step leans on
-pub sound-steady : (k : State) → sound k ≡ true → Steady k
-sound-steady k e =
-    record {
-      task-slots = s .tables .task-slots;
-      object-slots = s .tables .object-slots;
-      runs = go (ltb (k .running .0) 16) refl;
-      fit = s .tables .queue-range;
-    }
-  where
-    s : Sound k
-    s = sound-says k e
-
-    go : (b : Bool) → ltb (k .running .0) 16 ≡ b → k .running .0 < 16
-    go true h = ltb-true (k .running .0) 16 h
-    go false h =
-        let past : length (k .tasks) ≤ k .running .0 = omega (arith, ltb-false (k .running .0) 16 h, s .tables .task-slots) in
-        let z : _≡_ {A = Bool} false true = ap isReady (sym (ap (λ (x : Task). x .place) (past-tasks (k .tasks) (k .running) past)) ∙ s .running .runs .ready) in
-        absurd (false≢true z)

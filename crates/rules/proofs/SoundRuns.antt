@@ -18,7 +18,7 @@ use Rattle.slots.specs.Values.{inLine, inHigher, taskAt}
 use Rattle.rules.specs.Types.{TaskSlot, Task}
 use Rattle.rules.specs.Lines.{line, level}
 use Rattle.rules.specs.Sound.{heads, noHigher, runsFine}
-use Rattle.rules.specs.Sentences.{Running}
+use Rattle.rules.specs.Sentences.{Runs, Running}
 use Rattle.rules.proofs.TableSlots.{is-ready}
 
 heads-one : (l : List TaskSlot) (r : TaskSlot) → heads l r ≡ true → head l ≡ r ∷ []
@@ -51,6 +51,10 @@ none-higher ts p (t ∷ l) f = go (inHigher p (taskAt ts t)) refl (none-higher t
         absurd (no-cons (rw (and-intro (isReady (taskAt ts t .place)) (eqb (level ts t) (level ts t)) ready (eq-eqb (level ts t) (level ts t) refl)) at
         (f (level ts t) (ltb-true p (level ts t) (and-right (isReady (taskAt ts t .place)) _ e)))))
     go false e ih = ih (λ q m. tail-none q (inLine q (taskAt ts t)) (f q m))
+
+pub runs-highest : (ts : List Task) (l : List TaskSlot) (r : TaskSlot) → Running ts l r 0 → noHigher ts (level ts r) l ≡ true
+unfolding noHigher
+runs-highest ts l r S = rw (none-higher ts (level ts r) l (S .no-higher refl))
 
 module _ (ts : List Task) (l : List TaskSlot) (r : TaskSlot) (hold : ℕ) where
   abbrev mine : List TaskSlot
@@ -87,3 +91,9 @@ module _ (ts : List Task) (l : List TaskSlot) (r : TaskSlot) (hold : ℕ) where
   says-runs S =
       and-intro (isReady (taskAt ts r .place)) _ (rw (S .runs .ready))
       (and-intro _ _ (one-heads mine r (S .runs .heads)) (hold-or S (ltb 0 hold) refl))
+
+-- who heads its line, and has no higher one occupied
+pub highest-runs : (ts : List Task) (l : List TaskSlot) (r : TaskSlot) → Runs ts l r → noHigher ts (level ts r) l ≡ true → Running ts l r 0
+unfolding runsFine
+highest-runs ts l r R e =
+    runs-say ts l r 0 (and-intro (isReady (taskAt ts r .place)) _ (rw (R .ready)) (and-intro _ _ (one-heads (line ts (level ts r) l) r (R .heads)) e))

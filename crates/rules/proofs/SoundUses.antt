@@ -1,17 +1,17 @@
 -- The uses: the test is true exactly if each sentence about them holds.
 use Prim.Native.Nat.{ℕ, _≤_}
-use mathlib.Core.Path.{_≡_}
+use mathlib.Core.Path.{_≡_, refl}
 use mathlib.Core.Bool.{true}
 use mathlib.Core.List.{List}
 use native.Mathlib.Omega.{arith}
 use lib.Dec.{eqb, leb}
 use lib.ListN.{length, List·getD-eq-default}
 use borrow.Author.Tests.{eqb-true, eq-eqb, leb-true, le-leb}
-use Rattle.lists.specs.Lists.{every}
+use Rattle.lists.specs.Lists.{every, allBelow}
 use Rattle.lists.proofs.Bools.{and-left, and-right, and-intro, at, also, none, all-below, below-all}
 use Rattle.lists.proofs.Tests.{below-or}
 use Rattle.numbers.specs.Numbers.{task, object}
-use Rattle.calls.specs.Door.{useIn, usesInRange, usesFine}
+use Rattle.calls.specs.Door.{useIn, usesInRange, usesFine, freshUses}
 use Rattle.rules.specs.Types.{Uses}
 use Rattle.rules.specs.Sentences.{Used}
 use mathlib.Core.Logic.{⊎-elim}
@@ -43,3 +43,7 @@ unfolding usesFine
 says-uses us U =
     also _ _ (range-in (us .tasks) (U .task-slots) (λ n. U .tasks (task n)))
     (also _ _ (range-in (us .objects) (U .object-slots) (λ n. U .objects (object n))) (also _ _ (eq-eqb (useIn (us .tasks) 0) 0 (U .idle-none)) none))
+
+pub fresh-fine : usesFine freshUses ≡ true
+unfolding usesFine freshUses every allBelow
+fresh-fine = refl

@@ -14,7 +14,7 @@ use Rattle.rows.specs.Asking.{is}
 use Rattle.rules.specs.Lines.{first, toTail, leaves}
 use Rattle.rules.specs.Waits.{later, arrives, waitFor}
 use Rattle.rules.specs.Loans.{newPriority, lent, ownAgain}
-use Rattle.rules.specs.Ticks.{ticked, held, released}
+use Rattle.rules.specs.Ticks.{ticked, held, released, advanced}
 use Rattle.rules.specs.Queues.{sentTo, receivedFrom}
 
 -- 1: "lowest free slot; ready"
@@ -96,4 +96,5 @@ effect k a =
     else if is 15 a then taken k (a .object) (a .wait)
     else if is 16 a then given k (a .object)
     else if is 17 a then ticked k
+    else if is 18 a then advanced k (a .ticks)
     else k

@@ -7,13 +7,14 @@ use lib.ListN.{length, getD}
 use Rattle.lists.specs.Choice.{if_then_else_}
 use Rattle.lists.specs.Lists.{head}
 use Rattle.numbers.specs.Numbers.{idle}
-use Rattle.calls.specs.Door.{useIn}
+use Rattle.calls.specs.Door.{useIn, freshUses}
 use Rattle.order.specs.Order.{listed}
 use Rattle.order.specs.Tidy.{count}
 use Rattle.slots.specs.Places.{isFree, isBlocked, isListed, waitsOn}
 use Rattle.slots.specs.Values.{freeTask, spentTask, inLine, taskAt}
 use Rattle.rules.specs.Types.{TaskSlot, ObjSlot, Wake, At, Place, Free, Ready, Delayed, Waiting, Spent, Order, Uses, Task, Ring, By, Kind, Queue, Mutex, Object, WaitersOf, State}
 use Rattle.slots.specs.Kinds.{kindAt}
+use Rattle.rules.specs.Tables.{withUses}
 use Rattle.rules.specs.Lines.{line, those, begun, level}
 
 -- the task t holds the mutex o
@@ -159,9 +160,7 @@ pub record Sound (k : State) : Type 0 where
   pub running : Running (k .tasks) (listed (k .order)) (k .running) (k .hold)
   pub uses : Used (k .uses)
 
--- what a step leans on beside the refusals, all of which soundness gives: the tables have their slots, the caller has one, and each queue obeys the ranges
-pub record Steady (k : State) : Type 0 where
-  pub task-slots : length (k .tasks) ≡ 16
-  pub object-slots : length (k .objects) ≡ 16
-  pub runs : k .running .0 < 16
-  pub fit : (o : ObjSlot) (q : Ring) → kindAt (k .objects) o ≡ Queue q → RingFits q
+-- what ticks with their turns lean on: no hold, and soundness but for the uses, which no tick looks at
+pub record Unheld (k : State) : Type 0 where
+  pub sound : Sound (withUses k freshUses)
+  pub free : k .hold ≡ 0

@@ -1,8 +1,8 @@
--- The tick: count and wakes, the turn of the line; and the release that runs pended ticks.
+-- The tick: count and wakes, the turn of the line; the release that runs pended ticks, and the advance by several.
 use Prim.Native.Nat.{ℕ, _+_, _-_, min}
 use mathlib.Core.Path.{_≡_}
-use mathlib.Core.Bool.{true}
-use mathlib.Core.List.{List, _++_}
+use mathlib.Core.Bool.{Bool, true, false}
+use mathlib.Core.List.{List, [], _∷_, _++_}
 use lib.Dec.{eqb, ltb}
 use Rattle.lists.specs.Choice.{if_then_else_}
 use Rattle.lists.specs.Lists.{foldl, upTo}
@@ -11,8 +11,8 @@ use Rattle.slots.specs.Places.{wakesAt, outcomeDue, away}
 use Rattle.rules.specs.Types.{TaskSlot, Ready, Task, State}
 use Rattle.slots.specs.Values.{taskAt}
 use Rattle.rules.specs.Tables.{withTick, withHold}
-use Rattle.rules.specs.Lines.{hasBegun, begun, level, toTail}
-use Rattle.rules.specs.Sound.{noHigher}
+use Rattle.rules.specs.Lines.{hasBegun, begun, level, chosen, toTail}
+use Rattle.rules.specs.Sound.{noHigher, sound}
 use Rattle.rules.specs.Waits.{later, arrives}
 
 -- the task t, made ready if it is due
@@ -34,6 +34,12 @@ pub record ReadyFirst (t u : TaskSlot) (k : State) (l : List TaskSlot) : Type 0 
   pub ready : taskAt (wakes k so-far .tasks) t .place ≡ Ready
   pub not-yet : hasBegun (wakes k so-far .tasks) u ≡ true
 
+-- from k to j somebody who was delayed or waited is made ready
+pub record SomeoneWakes (k j : State) : Type 0 where
+  pub who : TaskSlot
+  pub began : hasBegun (k .tasks) who ≡ true
+  pub ready : taskAt (j .tasks) who .place ≡ Ready
+
 -- "the count goes up, then the due tasks are made ready"; "make ready first whoever began its delay or wait earlier"
 unfoldable pub oneTick : State → State
 oneTick k = wakes (withTick k (later (k .tick) 1)) (begun (k .tasks) (listed (k .order)))
@@ -50,13 +56,33 @@ turned k = if noHigher (k .tasks) (level (k .tasks) (k .running)) (listed (k .or
 unfoldable pub ticked : State → State
 ticked k = if ltb 0 (k .hold) then withHold k (k .hold) (k .pended + 1) else turned (oneTick k)
 
--- "each pended tick's count and wakes in turn, without the turn of the line"
-unfoldable pub ticks : ℕ → State → State
-ticks n k = upTo (λ x i. oneTick x) n k
+-- what comes after a tick's wakes: the turn of the line, and the choose with which "Every accepted call ends"; or neither
+abbrev pub turnedIf : Bool → State → State
+turnedIf turns k = if turns then chosen (turned k) else k
 
--- 9: "Release to depth 0 runs each pended tick's count and wakes in turn"
+-- n turns and no tick; or none
+abbrev pub turnings : Bool → ℕ → State → State
+turnings turns n k = upTo (λ x i. turnedIf turns x) n k
+
+-- n ticks one by one, with each one's turn and choose or without
+unfoldable pub ticks : Bool → ℕ → State → State
+ticks turns n k = upTo (λ x i. turnedIf turns (oneTick x)) n k
+
+-- 9: "Release to depth 0 runs each pended tick's count and wakes in turn, without the turn of the line, and chooses once"
 unfoldable pub released : State → State
-released k = if eqb (k .hold) 1 then ticks (k .pended) (withHold k 0 0) else withHold k (k .hold - 1) (k .pended)
+released k = if eqb (k .hold) 1 then ticks false (k .pended) (withHold k 0 0) else withHold k (k .hold - 1) (k .pended)
+
+-- 18: "n ticks .. and the result must equal n single ticks one by one, turns of the line and wakes included"
+unfoldable pub advanced : State → ℕ → State
+advanced k n = ticks true n k
+
+-- how many ticks from now the next one is on which somebody is due, where d come before it; none where nobody ever is
+abbrev pub untilSome : ℕ → List ℕ
+untilSome d = if ltb d 4294967295 then (d + 1) ∷ [] else []
+
+-- for the board: "how many ticks may be slept through before anybody is due". Nobody ever is in a kernel that is not sound, which refuses every call
+unfoldable pub sleeps : State → List ℕ
+sleeps k = if sound k then untilSome (untilDue (k .tick) (k .tasks)) else []
 
 -- 8: "depth up"
 unfoldable pub held : State → State

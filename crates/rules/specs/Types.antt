@@ -3,7 +3,8 @@ pub use Rattle.numbers.specs.declared.TaskSlot.{TaskSlot}
 pub use Rattle.numbers.specs.declared.ObjSlot.{ObjSlot}
 pub use Rattle.calls.specs.declared.TaskNo.{TaskNo}
 pub use Rattle.calls.specs.declared.Call.{Call}
-pub use Rattle.calls.specs.declared.Call.the-variants.{Create, Delete, Suspend, Resume, SetPriority, Delay, Yield, Hold, Release, MakeQueue, MakeMutex, Remove, Send, Receive, Take, Give, Tick}
+pub use Rattle.calls.specs.declared.Call.the-variants.{Create, Delete, Suspend, Resume, SetPriority, Delay, Yield, Hold, Release}
+pub use Rattle.calls.specs.declared.Call.the-variants.{MakeQueue, MakeMutex, Remove, Send, Receive, Take, Give, Tick, Advance}
 pub use Rattle.calls.specs.declared.Names.{Names}
 pub use Rattle.calls.specs.declared.Names.the-variants.{Nothing, Task as ATask, Object as AnObject, Queue as AQueue, Mutex as AMutex}
 pub use Rattle.calls.specs.declared.Uses.{Uses}

@@ -8,7 +8,7 @@ use calls::ObjNo;
 use calls::TaskNo;
 use kernel::Kernel;
 
-// The two calls of a pair: together they leave the kernel as it was, but for the numbers of what is given up. `m` is the last task's number,
+// The two calls of a pair: together they leave the kernel as it was, but for the count and the numbers of what is given up. `m` is the last task's number,
 // `o` that of the object after the first two.
 fn first(pair: u8, m: u32) -> Call {
     match pair {
@@ -23,6 +23,7 @@ fn first(pair: u8, m: u32) -> Call {
         105 => Call::MakeMutex,
         106 => Call::MakeQueue(4, 8),
         107 => Call::Delay(1),
+        109 => Call::Advance(65535),
         _ => Call::Resume(TaskNo::of(1)),
     }
 }
@@ -40,6 +41,7 @@ fn second(pair: u8, m: u32, o: u32) -> Call {
         105 => Call::Remove(ObjNo::of(o)),
         106 => Call::Remove(ObjNo::of(o)),
         107 => Call::Tick,
+        109 => Call::Advance(65535),
         _ => Call::Resume(TaskNo::of(1)),
     }
 }
@@ -102,8 +104,40 @@ fn renewed(start: Kernel, pair: u8, m: u32, times: u32, store: &mut [u8]) -> u32
     sum
 }
 
+// Each task delayed until a tick of its own, the last one until tick `m`.
+fn asleep(start: Kernel, m: u32, store: &mut [u8]) -> Kernel {
+    let mut k = start;
+    let mut i = 0u32;
+    while i < m {
+        k = k.step(Call::Delay(i + 1), b"", store).kernel;
+        i += 1;
+    }
+    k
+}
+
+// From there an advance that wakes every one of them.
+fn night(k: Kernel, m: u32, store: &mut [u8]) -> u32 {
+    let next = k.step(Call::Advance(m), b"", store).kernel;
+    std::num::wrapping_add_u32(next.runs().number(), next.core.tick)
+}
+
+// Twice a turn.
+fn nights(start: Kernel, m: u32, times: u32, store: &mut [u8]) -> u32 {
+    let k = asleep(start, m, store);
+    let mut sum = 0u32;
+    let mut i = 0u32;
+    while i < times {
+        sum = std::num::wrapping_add_u32(sum, night(k, m, store));
+        sum = std::num::wrapping_add_u32(sum, night(k, m, store));
+        i += 1;
+    }
+    sum
+}
+
 fn pairs(start: Kernel, pair: u8, m: u32, times: u32, store: &mut [u8]) -> u32 {
-    if lists::both(104 <= pair, pair <= 106) {
+    if pair == 110 {
+        nights(start, m, times, store)
+    } else if lists::both(104 <= pair, pair <= 106) {
         renewed(start, pair, m, times, store)
     } else {
         same(start, first(pair, m), second(pair, m, 2), times, store)
@@ -134,7 +168,7 @@ fn tests(start: Kernel, times: u32) -> u32 {
 fn each(start: Kernel, m: u32, times: u32, store: &mut [u8]) -> u32 {
     let mut sum = tests(start, times);
     let mut pair = 97u8;
-    while pair < 109 {
+    while pair < 111 {
         let one = pairs(start, pair, m, times, store);
         sum = std::num::wrapping_add_u32(sum, one);
         pair += 1;

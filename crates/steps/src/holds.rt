@@ -18,6 +18,7 @@ fn begins(p: Parlour) -> Parlour {
     let p = p.creates(4);
     let p = p.does(Call::Delay(1));
     let p = p.does(Call::Yield);
+    let p = p.does(Call::Advance(1));
     let p = p.suspends(1);
     p.deletes(1)
 }

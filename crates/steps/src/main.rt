@@ -4,6 +4,7 @@ mod holds;
 mod idle;
 mod lives;
 mod mutexes;
+mod nights;
 mod parlour;
 mod queues;
 mod session;
@@ -14,6 +15,7 @@ fn main() {
     lives::whole();
     idle::alone();
     holds::depths();
+    nights::slept();
     mutexes::loans();
     queues::items();
     edges::sizes();

@@ -3,6 +3,7 @@ use calls::Answer;
 use calls::Call;
 use calls::TaskNo;
 use kernel::Kernel;
+use kernel::Sleep;
 
 pub(crate) fn text(words: &[u8]) {
     io::write_all(libc::STDOUT_FILENO, words);
@@ -50,6 +51,7 @@ pub(crate) fn called(call: Call, length: usize) {
         Call::Take(o, w) => two(b"take", o.number(), b", wait", w),
         Call::Give(o) => one(b"give", o.number()),
         Call::Tick => text(b"tick"),
+        Call::Advance(n) => one(b"advance", n),
     }
 }
 
@@ -95,5 +97,14 @@ pub(crate) fn outcome(k: Kernel, t: TaskNo) {
 
 pub(crate) fn ticks(k: Kernel) {
     one(b"  tick count:", k.core.tick);
+    text(b"\n");
+}
+
+// How long the board may sleep.
+pub(crate) fn sleeps(k: Kernel) {
+    match k.sleeps() {
+        Sleep::Ticks(n) => one(b"  somebody is due in", n),
+        Sleep::ForEver => text(b"  nobody is due"),
+    }
     text(b"\n");
 }

@@ -1,5 +1,5 @@
 -- What each walk finds in numbers is what its definition says.
-use Prim.Native.Nat.{ℕ, _<_, _≤_, min}
+use Prim.Native.Nat.{ℕ, _+_, _<_, _≤_, min}
 use mathlib.Core.Path.{_≡_, refl, sym, ap, _∙_}
 use mathlib.Core.Bool.{Bool, true, false, _&&_, _||_}
 use mathlib.Core.List.{List}
@@ -7,7 +7,7 @@ use native.Mathlib.Omega.{arith}
 use lib.Dec.{eqb}
 use lib.ListN.{length, getD, set, List·getD-eq-default}
 use lib.Seq.{set-getD}
-use borrow.Author.Tests.{eq-eqb, ne-eqb}
+use borrow.Author.Tests.{eq-eqb, ne-eqb, lt-ltb}
 use Rattle.lists.specs.Choice.{if_then_else_}
 use Rattle.lists.specs.Lists.{foldl, upTo, kept, index}
 use Rattle.lists.proofs.Bools.{and-off}
@@ -15,6 +15,7 @@ use Rattle.numbers.specs.declared.TaskSlot.{TaskSlot}
 use Rattle.numbers.specs.declared.ObjSlot.{ObjSlot}
 use Rattle.numbers.specs.Numbers.{task}
 use Rattle.order.specs.declared.Order.{Order}
+use Rattle.order.specs.Order.{appendedTo}
 use Rattle.heights.specs.declared.Lines.{Lines}
 use Rattle.heights.specs.Heights.{noLines, noted, occupied}
 use Rattle.slots.specs.declared.Task.{Task}
@@ -42,6 +43,9 @@ linesStep states levels o t = noted o (eqb (getD states (t .0) 0) 1) (getD level
 
 abbrev pub isLevel : ℕ → List ℕ → List ℕ → TaskSlot → Bool
 isLevel p states levels t = eqb (getD states (t .0) 0) 1 && eqb (getD levels (t .0) 0) p
+
+abbrev pub lineStep : ℕ → List ℕ → List ℕ → Order → TaskSlot → Order
+lineStep p states levels o t = if isLevel p states levels t then appendedTo o t else o
 
 lead-step : (ts : Tasks) (w : Who) (b : Lead) (t : TaskSlot) → leadStep w (ts .state) (ts .object) (ts .effective) b t ≡ better w b t (rowAt ts (t .0))
 unfolding better rowAt
@@ -89,6 +93,11 @@ module _ (states : List ℕ) (n : ℕ) (t : TaskSlot) (same : n ≡ t .0) where
   module _ (p : ℕ) (levels : List ℕ) where
     pub level-at : {b : Bool} → (eqb (getD states n 0) 1 && eqb (getD levels n 0) p) ≡ b → isLevel p states levels t ≡ b
     level-at e = rw (← same) e
+
+    -- it joins the line, or not
+    pub line-joins : (out : List TaskSlot) (m : ℕ) → m < 16 → (eqb (getD states n 0) 1 && eqb (getD levels n 0) p) ≡ true
+        → record { places = set out m t; living = m + 1 } ≡ lineStep p states levels (record { places = out; living = m }) t
+    line-joins out m l e = rw (level-at e, lt-ltb m 16 l)
 
     pub level-past : length states ≡ 16 → 16 ≤ n → isLevel p states levels t ≡ false
     level-past l h = rw (past-state l h)

@@ -1,7 +1,9 @@
 // Walks of the order and of the rows. They read columns: a Task made for each turn would cost more than the walk.
 ghost use mathlib.Core.Path.{_≡_};
+ghost use mathlib.Core.Bool.{_&&_};
+ghost use lib.Dec.{eqb};
 ghost use Rattle.numbers.specs.Numbers.{task};
-ghost use Rattle.order.specs.Order.{listed};
+ghost use Rattle.order.specs.Order.{listed, ordered};
 ghost use Rattle.slots.specs.Who.{WaitersOf};
 ghost use Rattle.tasks.specs.Columns.{freeIn};
 ghost use Rattle.tasks.specs.Walks.{isMeant, leadIn, lineIn, headOr, linesIn, topIn, waitedIn};
@@ -18,6 +20,12 @@ fn waiting(state: u8, object: u8, o: ObjSlot) -> bool
     lists::both(lists::either(state == 3, state == 4), object == o.0)
 }
 
+fn in_line(state: u8, effective: u8, p: u8) -> bool
+    ensures { λ r. ⌜ r ≡ (eqb state 1 && eqb effective p) ⌝ }
+{
+    lists::both(state == 1, effective == p)
+}
+
 impl Tasks {
     // The first, in the order, of the ready tasks of priority `p`; 16 where there is none.
     pub(crate) fn head(self, o: Order, p: u8) -> TaskSlot
@@ -32,13 +40,42 @@ impl Tasks {
             let t = places[i];
             let s = t.slot();
             if s < 16 {
-                if lists::both(state[s] == 1, effective[s] == p) {
+                if in_line(state[s], effective[s], p) {
                     return t;
                 }
             }
             i += 1;
         }
         TaskSlot::of(16)
+    }
+
+    // The ready tasks of priority `p`, as they stand in the order.
+    pub fn line(self, o: Order, p: u8) -> Order
+        ensures { λ r. ⌜ r ≡ ordered (lineIn self p (listed o)) ⌝ }
+    {
+        let state = self.state;
+        let effective = self.effective;
+        let places = o.places;
+        let n = o.reach();
+        let none = Order::empty();
+        let mut out = none.places;
+        let mut m = none.living as usize;
+        let mut i = 0usize;
+        while i < n {
+            let t = places[i];
+            let s = t.slot();
+            if s < 16 {
+                if in_line(state[s], effective[s], p) {
+                    out[m] = t;
+                    m += 1;
+                }
+            }
+            i += 1;
+        }
+        Order {
+            places: out,
+            living: m as u8,
+        }
     }
 
     // The lines that the ready tasks of the order stand in.

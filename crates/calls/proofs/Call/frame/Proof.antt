@@ -107,10 +107,18 @@ returns-17 c =
     let k = c .before .enum-told5 .given in
     (c .of17 .ensures ∙ ap frameOf (sym (k .1)), rw (k .1) (search needs))
 
+returns-18 : tie.Need-returns-18
+unfolding asked
+returns-18 c =
+    let k = c .before .before .self13 .given in
+    (c .of18 .ensures ∙ ap frameOf (sym (k .1)), rw (k .1) (search needs))
+
 pub frame-spec : {M : Type 1} → statement M
 frame-spec =
     tie.close
     (tie.spec
+    (λ c. search needs)
+    (λ c κs. search needs)
     (λ c. search needs)
     (λ c κs. search needs)
     (λ c. search needs)
@@ -161,4 +169,5 @@ frame-spec =
     returns-14
     returns-15
     returns-16
-    returns-17)
+    returns-17
+    returns-18)

@@ -1,26 +1,21 @@
-use Prim.Native.Nat.{ℕ, _<_, _≤_}
+use Prim.Native.Nat.{ℕ, _<_}
 use mathlib.Core.List.{List}
 use mathlib.Core.Logic.{⊎-elim}
 use mathlib.Core.Path.{_≡_, sym}
-use native.Mathlib.Omega.{arith}
 use lib.ListN.{List·getD-eq-default}
 use borrow.Author.Needs.{needs}
 use Rattle.calls.specs.Table.{entries, callOf}
 use Rattle.calls.specs.Types.{Tick}
 use Rattle.calls.proofs.Ranges.{NotUpto, outside}
-use Rattle.lists.proofs.Tests.{below-or}
 use Rattle.calls.proofs.Call.of.Statement.{statement}
 use Rattle.calls.proofs.Call.of.Tie as tie
 
-other-call : (n : ℕ) (vs : List ℕ) → NotUpto 16 n → Tick ≡ callOf n vs
+other-call : (n : ℕ) (vs : List ℕ) → NotUpto 18 n → Tick ≡ callOf n vs
 unfolding callOf
 other-call n vs h =
     ⊎-elim (λ (e : n ≡ 0). rw e)
-    (λ (l : 16 < n).
-    ⊎-elim (λ (u : n < 18). let e : n ≡ 17 = omega arith in rw e)
-    (λ (u : 18 ≤ n). sym (List·getD-eq-default (entries vs) Tick {n = n} u))
-    (below-or n 18))
-    (outside 16 n h)
+    (λ (l : 18 < n). sym (List·getD-eq-default (entries vs) Tick {n = n} l))
+    (outside 18 n h)
 
 returns : tie.Need-returns
 unfolding callOf
@@ -87,7 +82,15 @@ unfolding callOf
 returns-16 c = rw (c .match .keys16)
 
 returns-17 : tie.Need-returns-17
-returns-17 c = other-call _ _ (c .match .rest)
+unfolding callOf
+returns-17 c = rw (c .match .keys17)
+
+returns-18 : tie.Need-returns-18
+unfolding callOf
+returns-18 c = rw (c .match .keys18)
+
+returns-19 : tie.Need-returns-19
+returns-19 c = other-call _ _ (c .match .rest)
 
 pub of-spec : {M : Type 1} → statement M
 of-spec =
@@ -111,4 +114,6 @@ of-spec =
     returns-14
     returns-15
     returns-16
-    returns-17)
+    returns-17
+    returns-18
+    returns-19)

@@ -15,15 +15,15 @@ use Rattle.calls.proofs.Shape.of.Tie as tie
 
 -- the keys of the arms, the last arm first
 abbrev arms : List (List ℕ)
-arms = (13 ∷ []) ∷ (5 ∷ 10 ∷ []) ∷ (6 ∷ 12 ∷ 16 ∷ []) ∷ (11 ∷ 17 ∷ []) ∷ []
+arms = (13 ∷ []) ∷ (5 ∷ 10 ∷ []) ∷ (6 ∷ 12 ∷ 16 ∷ 18 ∷ []) ∷ (11 ∷ 17 ∷ []) ∷ []
 
--- past the ranges only the key 17 is a call's
+-- past the ranges only the keys 17 and 18 are a call's
 beyond : (n : ℕ) → 16 ≤ n → Nones arms n → unknown ≡ shapeOf n
 unfolding shapeOf any index
 beyond n l o =
-    ⊎-elim (λ (e : n < 18). ranged unknown arms 16 2 refl n l e o)
-    (λ (e : 18 ≤ n). sym (List·getD-eq-default shapes unknown {n = n} e))
-    (below-or n 18)
+    ⊎-elim (λ (e : n < 19). ranged unknown arms 16 3 refl n l e o)
+    (λ (e : 19 ≤ n). sym (List·getD-eq-default shapes unknown {n = n} e))
+    (below-or n 19)
 
 returns : tie.Need-returns
 unfolding shapeOf any index
@@ -52,7 +52,7 @@ returns-5 c =
 returns-6 : tie.Need-returns-6
 unfolding shapeOf any index
 returns-6 c =
-    c .plain3 .ensures ∙ ⊎-elim (λ k. keyed (numbersOnly 1) (6 ∷ 12 ∷ 16 ∷ []) refl _ (k .keys2)) (λ w. ranged (numbersOnly 1) arms 1 4 refl _ (w .1 .left) (w .2 .taken) (w .0 .rest))
+    c .plain3 .ensures ∙ ⊎-elim (λ k. keyed (numbersOnly 1) (6 ∷ 12 ∷ 16 ∷ 18 ∷ []) refl _ (k .keys2)) (λ w. ranged (numbersOnly 1) arms 1 4 refl _ (w .1 .left) (w .2 .taken) (w .0 .rest))
     (c .before .match .came)
 
 pub of-spec : {M : Type 1} → statement M

@@ -14,7 +14,7 @@ to-slip-requires c κs =
     let s = c .before .before .before .before .before .before .before .before in
     let k = shownCore (s .args .self) in
     let v = waiter-within k (s .args .o) (s .args .q) _ (sym (c .before .before .before .before .outlet .ensures k (s .pre .2 .stands)) ∙ ap outletOf (c .before .before .t .given .1)) in
-    (omega (arith, v, s .pre .2 .steady .task-slots), omega arith, search needs)
+    (omega (arith, v, s .pre .2 .sound .tables .task-slots), omega arith, search needs)
 
 to-slip-requires-2 : tie.Need-to-slip-requires-2
 to-slip-requires-2 c κs = (c .before .before .before .before .before .before .before .pre .2 .runs, omega arith, search needs)

@@ -1,12 +1,13 @@
 use borrow.Author.Needs.{needs}
 use Rattle.kernel.proofs.Stands.{same-running}
-use borrow.Author.Tests.{ne-eqb}
+use borrow.Author.Tests.{eqb-true, eqb-false, ne-eqb}
 use lib.ListN.{length}
-use mathlib.Core.Path.{_∙_}
+use mathlib.Core.Logic.{inl, inr, ⊎-elim}
+use mathlib.Core.Path.{_≡_, _∙_}
 use native.Mathlib.Omega.{arith}
 use Rattle.rules.specs.Effects.{effect, yielded}
 use Rattle.rules.specs.Steps.{stored}
-use Rattle.kernel.proofs.RowPassed.{in-range, whole, right-size, may-hold, may-release, may-tick, task-slot, queue-slot, mutex-slot}
+use Rattle.kernel.proofs.RowPassed.{in-range, whole, right-size, may-hold, may-release, may-tick, may-turn, task-slot, queue-slot, mutex-slot}
 use Rattle.kernel.proofs.Core.served.Statement.{statement}
 use Rattle.kernel.proofs.Core.served.Tie as tie
 
@@ -28,10 +29,14 @@ hold-deeper-requires c κs =
     let o = c .before .before .before in
     may-hold (o .args .self) (o .pre .0) (o .args .a) (length (o .args .item .now)) (length (o .args .store .now)) (o .pre .1) (c .match .keys8)
 
-release-requires : tie.Need-release-requires
-release-requires c κs =
+time-passes-requires : tie.Need-time-passes-requires
+time-passes-requires c κs =
     let o = c .before .before .before in
-    may-release (o .args .self) (o .pre .0) (o .args .a) (length (o .args .item .now)) (length (o .args .store .now)) (o .pre .1) (c .match .keys9)
+    let a = o .args .a in (
+      λ e. may-turn (o .args .self) (o .pre .0) a (length (o .args .item .now)) (length (o .args .store .now)) (o .pre .1) (eqb-true (a .number) 18 e),
+      λ e. may-release (o .args .self) (o .pre .0) a (length (o .args .item .now)) (length (o .args .store .now)) (o .pre .1)
+          (⊎-elim (λ (q : a .number ≡ 9). q) (λ (q : a .number ≡ 18). absurd (eqb-false (a .number) 18 e q)) (c .match .keys9)),
+    )
 
 cast-make-queue : tie.Need-cast-make-queue
 cast-make-queue c =
@@ -101,7 +106,11 @@ returns-8 c = (λ s h. rw (c .before .match .keys8) (c .hold-deeper .ensures s h
 
 returns-9 : tie.Need-returns-9
 unfolding effect stored
-returns-9 c = (λ s h. rw (c .before .match .keys9) (c .release .ensures s h), λ s h. rw (c .before .match .keys9))
+returns-9 c =
+    let k = c .before .match .keys9 in (
+      λ s h. ⊎-elim (λ e. rw e (rw e at (c .time-passes .ensures s h))) (λ e. rw e (rw e at (c .time-passes .ensures s h))) k,
+      λ s h. ⊎-elim (λ e. rw e) (λ e. rw e) k,
+    )
 
 returns-10 : tie.Need-returns-10
 unfolding effect stored
@@ -155,7 +164,7 @@ returns-18 c =
         ne-eqb a 6 (r .0 .0 .0 .0 .0 .0 .0 .0 .0 .0 .0 .1),
         ne-eqb a 7 (r .0 .0 .0 .0 .0 .0 .0 .0 .0 .0 .1),
         ne-eqb a 8 (r .0 .0 .0 .0 .0 .0 .0 .0 .0 .1),
-        ne-eqb a 9 (r .0 .0 .0 .0 .0 .0 .0 .0 .1),
+        ne-eqb a 9 (λ e. r .0 .0 .0 .0 .0 .0 .0 .0 .1 (inl e)),
         ne-eqb a 10 (r .0 .0 .0 .0 .0 .0 .0 .1),
         ne-eqb a 11 (r .0 .0 .0 .0 .0 .0 .1),
         ne-eqb a 12 (r .0 .0 .0 .0 .0 .1),
@@ -164,6 +173,7 @@ returns-18 c =
         ne-eqb a 15 (r .0 .0 .1),
         ne-eqb a 16 (r .0 .1),
         ne-eqb a 17 (r .1),
+        ne-eqb a 18 (λ e. r .0 .0 .0 .0 .0 .0 .0 .0 .1 (inr e)),
       ) h,
       λ s h. rw (ne-eqb a 13 (r .0 .0 .0 .0 .1), ne-eqb a 14 (r .0 .0 .0 .1)),
     )
@@ -182,7 +192,7 @@ served-spec =
     (λ c κs. search needs)
     (λ c κs. search needs)
     hold-deeper-requires
-    release-requires
+    time-passes-requires
     cast-make-queue
     cast-make-queue-2
     make-queue-requires

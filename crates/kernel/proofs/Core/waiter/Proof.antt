@@ -13,7 +13,7 @@ returns c = (
   λ t e.
       let k = shownCore (c .before .args .self) in
       let w = first-within k (WaitersOf (c .before .args .o)) t (sym (c .first-waiter .ensures k (c .before .pre .stands)) ∙ e) in
-      omega (arith, w, c .before .pre .steady .task-slots),
+      omega (arith, w, c .before .pre .sound .tables .task-slots),
 )
 
 pub waiter-spec : {M : Type 1} → statement M

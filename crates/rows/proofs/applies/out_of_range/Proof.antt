@@ -1,3 +1,4 @@
+use borrow.Author.Needs.{needs}
 use Prim.Native.Nat.{_*_, _≤_}
 use Rattle.rows.specs.Applies.{outOfRange}
 use borrow.Author.Tests.{lt-ltb, le-ltb, le-leb, lt-leb}
@@ -16,28 +17,43 @@ returns-2 c = rw (le-ltb _ _ (c .before .before .if1 .left), le-leb _ _ (c .if2 
 
 returns-3 : tie.Need-returns-3
 unfolding outOfRange
-returns-3 c = rw (le-ltb _ _ (c .before .before .before .if1 .left), lt-leb _ _ (c .before .if2 .left), lt-ltb _ _ (c .if3 .taken))
+returns-3 c =
+    let n = c .before in
+    rw (le-ltb _ _ (n .before .before .before .if1 .left), lt-leb _ _ (n .before .if2 .left), ← n .not-so-many .ensures, c .if3 .taken)
 
 returns-4 : tie.Need-returns-4
 unfolding outOfRange
-returns-4 c = rw (le-ltb _ _ (c .before .before .before .before .if1 .left), lt-leb _ _ (c .before .before .if2 .left), le-ltb _ _ (c .before .if3 .left), lt-ltb _ _ (c .if4 .taken))
+returns-4 c =
+    let n = c .before .before in
+    rw (le-ltb _ _ (n .before .before .before .if1 .left), lt-leb _ _ (n .before .if2 .left), ← n .not-so-many .ensures, c .before .if3 .left, lt-ltb _ _ (c .if4 .taken))
 
 returns-5 : tie.Need-returns-5
 unfolding outOfRange
-returns-5 c = rw (le-ltb _ _ (c .before .before .before .before .before .if1 .left), lt-leb _ _ (c .before .before .before .if2 .left))
-    (rw (le-ltb _ _ (c .before .before .if3 .left), le-ltb _ _ (c .before .if4 .left), lt-ltb _ _ (c .if5 .taken)))
-
-mul-result : tie.Need-mul-result
-mul-result c =
-    let a = c .before .before .before .before .before .before .before .args in
-    let p : a .a .capacity * a .a .size ≤ 64 * 64 = mul-le-mul {n₂ = 64} {m₂ = 64} (omega arith) (omega arith) in
-    record { fits = omega arith }
+returns-5 c =
+    let n = c .before .before .before in
+    rw (le-ltb _ _ (n .before .before .before .if1 .left), lt-leb _ _ (n .before .if2 .left), ← n .not-so-many .ensures, c .before .before .if3 .left)
+    (rw (le-ltb _ _ (c .before .if4 .left), lt-ltb _ _ (c .if5 .taken)))
 
 returns-6 : tie.Need-returns-6
 unfolding outOfRange
-returns-6 c = rw (le-ltb _ _ (c .before .before .before .before .before .if1 .left), lt-leb _ _ (c .before .before .before .if2 .left))
-    (rw (le-ltb _ _ (c .before .before .if3 .left), le-ltb _ _ (c .before .if4 .left), le-ltb _ _ (c .if5 .left)))
+returns-6 c =
+    let n = c .before .before .before .before in
+    rw (le-ltb _ _ (n .before .before .before .if1 .left), lt-leb _ _ (n .before .if2 .left), ← n .not-so-many .ensures, c .before .before .before .if3 .left)
+    (rw (le-ltb _ _ (c .before .before .if4 .left), le-ltb _ _ (c .before .if5 .left), lt-ltb _ _ (c .if6 .taken)))
+
+mul-result : tie.Need-mul-result
+mul-result c =
+    let a = c .before .before .before .before .before .before .before .before .before .args in
+    let p : a .a .capacity * a .a .size ≤ 64 * 64 = mul-le-mul {n₂ = 64} {m₂ = 64} (omega arith) (omega arith) in
+    record { fits = omega arith }
+
+returns-7 : tie.Need-returns-7
+unfolding outOfRange
+returns-7 c =
+    let n = c .before .before .before .before in
+    rw (le-ltb _ _ (n .before .before .before .if1 .left), lt-leb _ _ (n .before .if2 .left), ← n .not-so-many .ensures, c .before .before .before .if3 .left)
+    (rw (le-ltb _ _ (c .before .before .if4 .left), le-ltb _ _ (c .before .if5 .left), le-ltb _ _ (c .if6 .left)))
 
 pub out-of-range-spec : {M : Type 1} → statement M
 out-of-range-spec =
-    tie.close (tie.spec returns returns-2 returns-3 returns-4 returns-5 mul-result returns-6)
+    tie.close (tie.spec returns returns-2 (λ c κs. search needs) returns-3 returns-4 returns-5 returns-6 mul-result returns-7)

@@ -37,7 +37,7 @@ returns c =
     let s = c .before .before .before .slot in
     let p = a .p in
     let t = getD (o .places) (l .i) idle in
-    let k = met (l .inv) (search needs) idle (level-at (ts .state) (s .result) t (s .ensures) p (ts .effective) (sym (c .before .both .ensures) ∙ c .if2 .taken)) in
+    let k = met (l .inv) (search needs) idle (level-at (ts .state) (s .result) t (s .ensures) p (ts .effective) (sym (c .before .in-line .ensures) ∙ c .if2 .taken)) in
     sym (ap (λ (m : List TaskSlot). headOr m (task 16)) k) ∙ rw (c .before .before .before .before .before .before .before .reach .ensures, reach-listed o len, line-is ts (listed o) p)
 
 loop-again : tie.Need-loop-again Inv-loop μ-loop
