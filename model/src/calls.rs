@@ -1,10 +1,11 @@
-//! The seventeen calls: what each does once it is not turned away.
+//! The eighteen calls: what each does once it is not turned away.
 
 use crate::kernel::{Kernel, Kind, ObjectSlot, Outcome, Queue, Role, Stand, Task, TaskSlot};
 use crate::refusals::refusal;
 use crate::store;
 
-/// "Call numbers 1 to 17, arguments in this order". Numbers are as the line has them.
+/// "Call numbers 1 to 17, arguments in this order"; "call 18, advance: n ticks". Numbers are
+/// as the line has them.
 #[derive(Clone, Copy, PartialEq, Eq, Debug)]
 pub enum Call<'a> {
     Create { priority: u32 },
@@ -24,6 +25,7 @@ pub enum Call<'a> {
     Take { object: u32, wait: u32 },
     Give { object: u32 },
     Tick,
+    Advance { ticks: u32 },
 }
 
 impl Call<'_> {
@@ -46,6 +48,7 @@ impl Call<'_> {
             Call::Take { .. } => 15,
             Call::Give { .. } => 16,
             Call::Tick => 17,
+            Call::Advance { .. } => 18,
         }
     }
 
@@ -159,6 +162,7 @@ fn take_effect(kernel: &mut Kernel, store: &mut [u8], call: &Call) -> Option<u32
         }
         Call::Give { object } => give(kernel, kernel.find_mutex(object).expect(NAMED).0),
         Call::Tick => tick(kernel),
+        Call::Advance { ticks } => advance(kernel, ticks),
     }
     None
 }
@@ -316,4 +320,35 @@ fn tick(kernel: &mut Kernel) {
     if kernel.highest_line() == kernel.task(kernel.running).effective as usize {
         kernel.turn_running_line();
     }
+}
+
+/// "the result must equal n single ticks one by one, turns of the line and wakes included".
+/// Each of them is a whole call 17, which ends with choose.
+pub fn single_ticks(kernel: &mut Kernel, ticks: u32) {
+    for _ in 0..ticks {
+        tick(kernel);
+        kernel.choose();
+    }
+}
+
+/// The same, with one shortcut.
+fn advance(kernel: &mut Kernel, ticks: u32) {
+    let mut left = ticks;
+    while left > 0 {
+        left -= jump(kernel, left);
+        if left > 0 {
+            single_ticks(kernel, 1);
+            left -= 1;
+        }
+    }
+}
+
+/// The shortcut: "the call can jump where the running task is alone in its line and nothing
+/// is due". On such a tick the count goes up, nobody is woken, and the turn of a line of one
+/// leaves it as it was. Gives how many ticks were passed, at most as many as are left.
+pub fn jump(kernel: &mut Kernel, left: u32) -> u32 {
+    let alone = kernel.running_line().len() == 1;
+    let ticks = if alone { kernel.quiet_ticks().min(left) } else { 0 };
+    kernel.tick = kernel.tick.wrapping_add(ticks);
+    ticks
 }

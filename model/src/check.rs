@@ -1,8 +1,9 @@
 //! The self-check: document 01's soundness sentence, with request 1's clauses on uses and
 //! request 3's on the remembered order, over the kernel's own structures, and what can be
-//! said of one step by looking at the kernel before and after.
+//! said of one step by looking at the kernel before and after; of an advance, that it is as
+//! many single ticks.
 
-use crate::calls::{step, Answer, Call, Named};
+use crate::calls::{single_ticks, step, Answer, Call, Named};
 use crate::kernel::{
     Kernel, Kind, ObjectSlot, Outcome, Role, Stand, Task, TaskSlot, IDLE, LAST_USE, MOST_HOLD, MOST_PENDED, PRIORITIES,
     RETIRED, TASKS,
@@ -197,10 +198,11 @@ fn check_step(
         check_arrival(&before.object(object).waiters, &after.object(object).waiters, caller)?;
     }
     check_arrival(&before.began, &after.began, caller)?;
-    if after.tick != before.tick {
-        check_wakes(before, after)?;
+    match *call {
+        Call::Advance { ticks } if answer == Answer::Done => check_advance(before, ticks, after),
+        _ if after.tick != before.tick => check_wakes(before, after),
+        _ => Ok(()),
     }
-    Ok(())
 }
 
 /// "in order of arrival", and the order in which delays and waits began: who stays keeps
@@ -216,16 +218,22 @@ fn check_arrival(old: &[TaskSlot], new: &[TaskSlot], caller: TaskSlot) -> Result
 /// and of two ticks of a release, those due on the first. In each line the woken stand so.
 fn check_wakes(before: &Kernel, after: &Kernel) -> Result<(), String> {
     let ticks = after.tick.wrapping_sub(before.tick);
-    let left = |task: TaskSlot| before.task(task).wake().map(|wake| wake.wrapping_sub(before.tick));
-    let is_due = |task: &TaskSlot| left(*task).is_some_and(|left| left <= ticks);
+    let is_due = |task: &TaskSlot| before.distance(*task).is_some_and(|distance| distance <= ticks);
     let mut due: Vec<TaskSlot> = before.began.iter().copied().filter(is_due).collect();
-    due.sort_by_key(|&task| left(task));
+    due.sort_by_key(|&task| before.distance(task));
     for (priority, line) in after.lines.iter().enumerate() {
         let woken = line.iter().filter(|&&task| before.is_blocked(task));
         let wanted = due.iter().filter(|&&task| after.task(task).effective as usize == priority);
         must(woken.eq(wanted), "who began its delay or wait earlier is made ready first")?;
     }
     Ok(())
+}
+
+/// "the result must equal n single ticks one by one". Here each of them is run.
+fn check_advance(before: &Kernel, ticks: u32, after: &Kernel) -> Result<(), String> {
+    let mut kernel = before.clone();
+    single_ticks(&mut kernel, ticks);
+    must(kernel == *after, "the result must equal n single ticks one by one")
 }
 
 /// A use "goes up by one at each delete or remove", that of the slot whose number is in the

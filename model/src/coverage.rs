@@ -1,7 +1,9 @@
 //! What a journal exercises: calls, refusals, damage and events inside the kernel.
 
-use crate::calls::{Answer, Call, Named};
-use crate::kernel::{apart, number_of, Kernel, ObjectSlot, Outcome, Stand, TaskSlot, IDLE, RETIRED, TASKS};
+use crate::calls::{jump, single_ticks, Answer, Call, Named};
+use crate::kernel::{
+    apart, number_of, Kernel, ObjectSlot, Outcome, Role, Stand, TaskSlot, FOR_EVER, IDLE, MOST_ADVANCE, RETIRED, TASKS,
+};
 use crate::refusals::refusal;
 use std::collections::BTreeMap;
 
@@ -33,12 +35,13 @@ const OF_OBJECTS: Reasons = Reasons {
     only_use: "object: refused for the use alone",
 };
 
-/// How two tasks were woken on the same tick.
+/// How two tasks were woken on the same tick, and on two ticks of one call.
 struct Together {
     against_slots: &'static str,
     against_slots_in_a_line: &'static str,
     delayed_and_waiting: &'static str,
     begun_apart: &'static str,
+    later: &'static str,
 }
 
 const BY_A_TICK: Together = Together {
@@ -46,6 +49,7 @@ const BY_A_TICK: Together = Together {
     against_slots_in_a_line: "tick: woken together into one line, not in order of slots",
     delayed_and_waiting: "tick: woken together, one delayed and one waiting",
     begun_apart: "tick: woken together, begun on different ticks",
+    later: "tick: never, it is one",
 };
 
 const BY_A_PENDED_TICK: Together = Together {
@@ -53,13 +57,74 @@ const BY_A_PENDED_TICK: Together = Together {
     against_slots_in_a_line: "release: woken together into one line, not in order of slots",
     delayed_and_waiting: "release: woken together, one delayed and one waiting",
     begun_apart: "release: woken together, begun on different ticks",
+    later: "release: began earlier, woken on a later tick into one line",
 };
+
+const BY_AN_ADVANCE: Together = Together {
+    against_slots: "advance: woken together, not in order of slots",
+    against_slots_in_a_line: "advance: woken together into one line, not in order of slots",
+    delayed_and_waiting: "advance: woken together, one delayed and one waiting",
+    begun_apart: "advance: woken together, begun on different ticks",
+    later: "advance: began earlier, woken on a later tick into one line",
+};
+
+/// What the single ticks of an advance did, one by one; those that change the count alone are
+/// passed over.
+#[derive(Default)]
+struct Ticks {
+    woken: usize,
+    /// Ticks that woke somebody, and that woke more than one.
+    waking: u32,
+    waking_several: u32,
+    /// Ticks that turned a line of several, and of these the ones after the running task was
+    /// overtaken, and the ones that also woke a task into that line.
+    turns: u32,
+    turns_of_a_higher_line: u32,
+    turns_behind_the_woken: u32,
+    /// Ticks on which the running task was overtaken, and the ticks left after the last of these.
+    overtaken: u32,
+    after_overtaken: u32,
+    /// Ticks that woke somebody before the count was 0 again.
+    waking_before_0: u32,
+}
+
+impl Ticks {
+    fn of_advance(before: &Kernel, ticks: u32) -> Ticks {
+        let mut seen = Ticks::default();
+        let mut kernel = before.clone();
+        let mut left = ticks;
+        loop {
+            left -= jump(&mut kernel, left);
+            if left == 0 {
+                return seen;
+            }
+            let (running, blocked, line) = (kernel.running, kernel.began.len(), kernel.running_line().len());
+            let level = kernel.task(running).effective as usize;
+            single_ticks(&mut kernel, 1);
+            left -= 1;
+            let woken = blocked - kernel.began.len();
+            let higher = kernel.task(kernel.running).effective as usize > level;
+            let turned = !higher && kernel.running != running;
+            seen.woken += woken;
+            seen.turns += u32::from(turned);
+            seen.turns_of_a_higher_line += u32::from(turned && seen.overtaken > 0);
+            seen.turns_behind_the_woken += u32::from(turned && kernel.lines[level].len() > line);
+            if higher {
+                seen.overtaken += 1;
+                seen.after_overtaken = left;
+            }
+            seen.waking += u32::from(woken > 0);
+            seen.waking_several += u32::from(woken > 1);
+            seen.waking_before_0 += u32::from(woken > 0 && kernel.tick > before.tick);
+        }
+    }
+}
 
 #[derive(Default)]
 pub struct Coverage {
     pub lines: u64,
-    pub accepted: [u64; 18],
-    pub waiting: [u64; 18],
+    pub accepted: [u64; 19],
+    pub waiting: [u64; 19],
     pub refused: [u64; 17],
     pub refused_by_call: BTreeMap<(usize, u8), u64>,
     pub damaged: BTreeMap<&'static str, u64>,
@@ -95,8 +160,24 @@ impl Coverage {
         }
     }
 
+    /// Names what there is to say of a refused call.
+    pub fn observe_refused(&mut self, kernel: &Kernel, store: &[u8], call: &Call, row: u8) {
+        if row == 5 {
+            self.observe_unnamed(kernel, store, call);
+        }
+        if let Call::Advance { ticks } = *call {
+            let held = kernel.hold > 0;
+            self.event_if(row == 4 && ticks == 0, "advance: 0 ticks refused");
+            self.event_if(row == 4 && ticks == MOST_ADVANCE + 1, "advance: 65,536 ticks refused");
+            self.event_if(row == 4 && ticks == FOR_EVER, "advance: 4,294,967,295 ticks refused");
+            self.event_if(row == 4 && held, "advance: out of range and with a hold");
+            self.event_if(row == 8, "advance: refused with a hold");
+            self.event_if(row == 8 && kernel.pended > 0, "advance: refused with ticks pended");
+        }
+    }
+
     /// Names why a call's number names nothing; the call was refused 5.
-    pub fn observe_unnamed(&mut self, kernel: &Kernel, store: &[u8], call: &Call) {
+    fn observe_unnamed(&mut self, kernel: &Kernel, store: &[u8], call: &Call) {
         let (reasons, named) = match call.named() {
             Named::Nothing => return,
             Named::Task(number) => (OF_TASKS, number),
@@ -136,8 +217,17 @@ impl Coverage {
         self.event_if(before.lines[0].len() > 1, "idle: shares its line");
         let below_another = after.hold > 0 && after.highest_line() > after.task(caller).effective as usize;
         self.event_if(below_another, "hold: a higher line is occupied");
+        if after.tick < before.tick {
+            self.event(match call {
+                Call::Tick => "count: returned to 0 by a tick",
+                Call::Release => "count: returned to 0 by a release",
+                _ => "count: returned to 0 by an advance",
+            });
+        }
         if after.is_blocked(caller) {
             self.began_at[caller.index()] = before.tick;
+            let wake = after.task(caller).wake();
+            self.event_if(wake.is_some_and(|wake| wake < after.tick), "wait: a wake tick smaller than the count");
         }
         match *call {
             Call::Tick if before.hold == 0 => {
@@ -147,7 +237,7 @@ impl Coverage {
                 self.event_if(timed_out > 0, "tick: a waiter timed out");
                 self.event_if(due == 1, "tick: one task due");
                 self.event_if(due > 1, "tick: several tasks due together");
-                let line = &before.lines[before.task(caller).effective as usize];
+                let line = before.running_line();
                 let higher = after.task(after.running).effective > before.task(caller).effective;
                 self.event_if(line.len() > 1 && !higher, "tick: a line of two or more turned");
                 self.event_if(higher, "tick: no turn, a higher line was woken");
@@ -169,6 +259,10 @@ impl Coverage {
                 });
                 self.event_if(long_wait, "release: a wait of over 60,000 ticks ran out");
                 self.event_if(before.running != after.running, "release: another task runs");
+            }
+            Call::Advance { ticks } => {
+                self.observe_wakes(before, ticks, after, &BY_AN_ADVANCE);
+                self.observe_advance(before, ticks, after);
             }
             Call::Hold => self.event_if(after.hold == 255, "hold: depth 255 reached"),
             Call::Send { object, .. } => {
@@ -264,7 +358,7 @@ impl Coverage {
 
     /// Names how a call that ran so many ticks woke any two tasks.
     fn observe_wakes(&mut self, before: &Kernel, ticks: u32, after: &Kernel, names: &Together) {
-        let left = |task: TaskSlot| before.task(task).wake().map(|wake| wake.wrapping_sub(before.tick));
+        let left = |task: TaskSlot| before.distance(task);
         let is_due = |task: &TaskSlot| left(*task).is_some_and(|left| left <= ticks);
         let due: Vec<TaskSlot> = before.began.iter().copied().filter(is_due).collect();
         let [mut against, mut in_a_line, mut mixed, mut begun_apart, mut later] = [false; 5];
@@ -284,7 +378,55 @@ impl Coverage {
         self.event_if(in_a_line, names.against_slots_in_a_line);
         self.event_if(mixed, names.delayed_and_waiting);
         self.event_if(begun_apart, names.begun_apart);
-        self.event_if(later, "release: began earlier, woken on a later tick into one line");
+        self.event_if(later, names.later);
+    }
+
+    /// Names what an advance did, by its single ticks.
+    fn observe_advance(&mut self, before: &Kernel, ticks: u32, after: &Kernel) {
+        let seen = Ticks::of_advance(before, ticks);
+        let line = before.running_line().len() as u32;
+        let nobody_due = seen.woken == 0;
+        self.event_if(nobody_due, "advance: nobody due");
+        self.event_if(seen.woken == 1, "advance: one task due");
+        self.event_if(seen.waking_several > 0, "advance: several tasks due on one tick");
+        self.event_if(seen.waking > 1, "advance: tasks due on different ticks");
+        self.event_if(seen.waking > 3, "advance: tasks due on four ticks and more");
+        let alone = line == 1 && ticks > 1;
+        self.event_if(alone && nobody_due, "advance: alone in the line and nobody due");
+        self.event_if(alone && before.quiet_ticks() == ticks - 1, "advance: alone in the line, due on the last tick");
+        self.event_if(before.quiet_ticks() == ticks, "advance: due one tick after the last");
+        self.event_if(seen.turns > 0, "advance: a line of several turned");
+        let turns_only = line > 1 && nobody_due;
+        self.event_if(turns_only && ticks > line, "advance: more ticks than the line is long");
+        self.event_if(turns_only && ticks.is_multiple_of(line), "advance: whole rounds of the line");
+        self.event_if(turns_only && ticks < line, "advance: less than a round of the line");
+        self.event_if(seen.turns_behind_the_woken > 0, "advance: turned behind a woken task");
+        self.event_if(seen.overtaken > 0, "advance: running task overtaken");
+        self.event_if(seen.overtaken > 1, "advance: running task overtaken twice");
+        self.event_if(seen.after_overtaken > 0, "advance: overtaken, then more ticks");
+        self.event_if(seen.turns_of_a_higher_line > 0, "advance: overtaken, then a higher line turned");
+        let timed_out = |role: Role| {
+            TaskSlot::all().any(|task| match before.task(task).stand {
+                Stand::Waiting { role: its, .. } => its == role && after.task(task).stand == Stand::Ready,
+                _ => false,
+            })
+        };
+        self.event_if(timed_out(Role::Sender), "advance: a sender timed out");
+        self.event_if(timed_out(Role::Receiver), "advance: a receiver timed out");
+        self.event_if(timed_out(Role::Taker), "advance: a taker timed out");
+        let has_loan = |task: TaskSlot| after.task(task).effective > after.task(task).own;
+        self.event_if(has_loan(before.running), "advance: by a task with a loan");
+        let loan_woken =
+            TaskSlot::all().any(|task| before.is_blocked(task) && !after.is_blocked(task) && has_loan(task));
+        self.event_if(loan_woken, "advance: a task with a loan woken");
+        let smaller = before.tasks.iter().any(|task| task.wake().is_some_and(|wake| wake < before.tick));
+        self.event_if(smaller, "advance: a wake tick smaller than the count");
+        self.event_if(smaller && !nobody_due, "advance: a wake tick smaller than the count, and others due");
+        self.event_if(ticks == MOST_ADVANCE, "advance: 65,535 ticks");
+        self.event_if(ticks >= 100 && line > 1, "advance: 100 ticks and more by one of several in a line");
+        self.event_if(ticks >= 60_000 && seen.turns > 50_000, "advance: over 50,000 turns");
+        let both_sides = seen.waking_before_0 > 0 && seen.waking > seen.waking_before_0;
+        self.event_if(both_sides, "advance: tasks due before and after the count returned to 0");
     }
 
     fn observe_first_waiter(&mut self, before: &Kernel, object: ObjectSlot) {
@@ -297,7 +439,7 @@ impl Coverage {
     }
 
     pub fn report(&self) -> String {
-        const NAMES: [&str; 18] = [
+        const NAMES: [&str; 19] = [
             "-",
             "create",
             "delete",
@@ -316,6 +458,7 @@ impl Coverage {
             "take",
             "give",
             "tick",
+            "advance",
         ];
         let mut text = format!("lines {}\n\naccepted (of these waiting)\n", self.lines);
         for (number, name) in NAMES.iter().enumerate().skip(1) {

@@ -5,8 +5,8 @@ use crate::calls::{Answer, Call};
 use crate::coverage::Coverage;
 use crate::damage;
 use crate::kernel::{
-    apart, number_of, Kernel, Kind, ObjectSlot, Stand, TaskSlot, FOR_EVER, IDLE, LAST_USE, MOST_HOLD, MOST_PENDED,
-    RETIRED,
+    apart, number_of, Kernel, Kind, ObjectSlot, Stand, TaskSlot, FOR_EVER, IDLE, LAST_USE, MOST_ADVANCE, MOST_HOLD,
+    MOST_PENDED, RETIRED,
 };
 use crate::line::{read_call, ITEM_BYTES};
 use crate::machine::Machine;
@@ -15,27 +15,29 @@ use crate::refusals::refusal;
 
 /// How often each call is tried, by call number; one row for each mood.
 #[rustfmt::skip]
-const MOODS: [[u32; 18]; 8] = [
-    // cre del sus res set dly yld hld rel mkq mkm rem snd rcv tak giv tick
-    [0,  6,  2,  4,  6,  5,  7,  4,  2,  4,  3,  3,  2, 14, 14,  9,  8, 12], // mixed
-    [0,  6,  2,  3,  4,  2, 16,  4,  2,  4,  2,  1,  1,  8,  8,  6,  4, 30], // time
-    [0,  6,  2,  3,  4,  3,  3,  2,  1,  3,  4,  0,  2, 28, 28,  1,  2,  8], // queues
-    [0,  6,  2,  4,  5,  8,  4,  2,  1,  3,  0,  5,  1,  2,  2, 26, 16,  8], // mutexes
-    [0,  4,  2,  4,  4,  5,  6,  1, 12, 12,  2,  2,  1,  8,  8,  5,  5, 24], // holds
-    [0, 12, 12,  8, 10,  6,  4,  2,  1,  3, 10,  8, 14,  8,  8,  6,  5,  6], // slots
-    [0,  8,  1,  2,  4,  6,  4, 16,  1,  3,  1,  2,  1,  4,  4,  6,  6, 24], // crowd
-    [0,  2,  1,  6,  2,  3, 24,  2,  2,  6,  3,  1,  2, 12, 20,  6,  2,  6], // quiet: idle runs often
+const MOODS: [[u32; 19]; 10] = [
+    // cre del sus res set dly yld hld rel mkq mkm rem snd rcv tak giv tick adv
+    [0,  6,  2,  4,  6,  5,  7,  4,  2,  4,  3,  3,  2, 14, 14,  9,  8, 12, 12], // mixed
+    [0,  6,  2,  3,  4,  2, 16,  4,  2,  4,  2,  1,  1,  8,  8,  6,  4, 30,  6], // time
+    [0,  6,  2,  3,  4,  3,  3,  2,  1,  3,  4,  0,  2, 28, 28,  1,  2,  8,  9], // queues
+    [0,  6,  2,  4,  5,  8,  4,  2,  1,  3,  0,  5,  1,  2,  2, 26, 16,  8,  9], // mutexes
+    [0,  4,  2,  4,  4,  5,  6,  1, 12, 12,  2,  2,  1,  8,  8,  5,  5, 24,  7], // holds
+    [0, 12, 12,  8, 10,  6,  4,  2,  1,  3, 10,  8, 14,  8,  8,  6,  5,  6,  9], // slots
+    [0,  8,  1,  2,  4,  6,  4, 16,  1,  3,  1,  2,  1,  4,  4,  6,  6, 24,  8], // crowd
+    [0,  2,  1,  6,  2,  3, 24,  2,  2,  6,  3,  1,  2, 12, 20,  6,  2,  6,  6], // quiet: idle runs often
+    [0,  6,  2,  3,  5,  4, 20,  4,  1,  3,  2,  2,  1,  8,  9,  9,  4,  3, 46], // sleep
+    [0,  9,  1,  2,  4,  6,  9,  6,  1,  3,  2,  2,  1,  7,  7,  9,  7,  3, 46], // sleep in a crowd
 ];
 
 /// Calls that can get each refusal from 4 to 15; used when one is aimed at.
 #[rustfmt::skip]
 const CALLS_OF_ROW: [&[u32]; 16] = [
     &[], &[], &[], &[],
-    &[1, 5, 6, 10],
+    &[1, 5, 6, 10, 18],
     &[2, 3, 4, 5, 12, 13, 14, 15, 16],
     &[13],
     &[2, 3, 5, 6, 13, 14, 15],
-    &[2, 3, 6, 7, 13, 14, 15],
+    &[2, 3, 6, 7, 13, 14, 15, 18],
     &[1, 10, 11],
     &[2, 12],
     &[16],
@@ -47,6 +49,9 @@ const CALLS_OF_ROW: [&[u32]; 16] = [
 
 /// Tasks gather for a tick that is at most so far ahead.
 const MOST_AHEAD: u32 = 8;
+
+/// A task that is not alone in its line seldom advances further: that takes as many turns.
+const MOST_TURNS: u32 = 400;
 
 /// Something that takes many lines.
 #[derive(Clone, Copy, PartialEq)]
@@ -62,8 +67,12 @@ enum Plan {
     Descend,
     /// Delays and waits that end on this tick or one of the next two, for this many lines, then `Pass`.
     Gather(u32, u32),
-    /// Ticks up to this one, pended under a hold if true; then `Descend`.
-    Pass(u32, bool),
+    /// Ticks up to this one, in this way; then `Descend`.
+    Pass(u32, Way),
+    /// Waits that end about when the count returns to 0, for this many lines, then `Lap`.
+    Await(u32),
+    /// Advances up to this count, each by a task alone in its line; then `Gather`.
+    Lap(u32),
     /// Sends to this queue until it is full and this many lines more, then `Drain`.
     Fill(ObjectSlot, u32),
     /// Receives from this queue for this many lines.
@@ -72,6 +81,16 @@ enum Plan {
     RenewTask(TaskSlot, u32),
     /// Removes the object in this slot and makes another, again and again, for this many lines.
     RenewObject(ObjectSlot, u32),
+}
+
+#[derive(Clone, Copy, PartialEq)]
+enum Way {
+    /// Call 17, one after the other.
+    Single,
+    /// The same under a hold.
+    Pended,
+    /// Call 18, one or several.
+    Advance,
 }
 
 type Fields = Vec<Vec<u8>>;
@@ -88,6 +107,7 @@ pub struct Author {
     high: u32,
     plan: Plan,
     pend_at: u64,
+    lap_at: u64,
     ends_cut: bool,
     coverage: Option<Coverage>,
 }
@@ -98,6 +118,8 @@ impl Author {
         // 65,535 pended ticks need that many lines, so only a long journal has them.
         let pend_at =
             if lines >= 100_000 { lines / 20 + u64::from(random.below((lines / 5) as u32)) } else { u64::MAX };
+        // The count's return to 0 needs 65,537 lines more, and comes after them.
+        let lap_at = if lines >= 300_000 { lines / 2 + u64::from(random.below((lines / 8) as u32)) } else { u64::MAX };
         let ends_cut = random.percent(25);
         Author {
             random,
@@ -110,6 +132,7 @@ impl Author {
             high: 31,
             plan: Plan::None,
             pend_at,
+            lap_at,
             ends_cut,
             coverage: None,
         }
@@ -184,8 +207,8 @@ impl Author {
         let call = read_call(line, &mut item);
         coverage.answer(call.as_ref(), answer);
         match (call, answer) {
-            (Some(call), Answer::Refused(5)) => coverage.observe_unnamed(&before, &self.machine.store, &call),
-            (None, _) | (_, Answer::Refused(_)) => {}
+            (None, _) => {}
+            (Some(call), Answer::Refused(row)) => coverage.observe_refused(&before, &self.machine.store, &call, row),
             (Some(call), _) => coverage.observe(&before, &call, &self.machine.kernel),
         }
     }
@@ -211,11 +234,15 @@ impl Author {
             self.pend_at = u64::MAX;
             self.plan = Plan::Settle(60);
         }
+        if self.written >= self.lap_at && self.plan == Plan::None {
+            self.lap_at = u64::MAX;
+            self.plan = Plan::Await(60);
+        }
         let left = self.lines - self.written;
-        if self.plan == Plan::None && left > 700 && self.random.below(6_000) == 0 {
+        if self.plan == Plan::None && left > 700 && self.random.below(4_500) == 0 {
             self.plan = Plan::Climb(8);
         }
-        if self.plan == Plan::None && self.kernel().hold == 0 && self.random.below(40) == 0 {
+        if self.plan == Plan::None && self.kernel().hold == 0 && self.random.below(22) == 0 {
             self.plan = self.gather_tasks();
         }
         if self.plan == Plan::None && self.random.below(400) == 0 {
@@ -226,7 +253,7 @@ impl Author {
             self.plan = self.renew_a_slot(lines);
         }
         // Long enough for a use above 255.
-        if self.plan == Plan::None && left > 2_000 && self.random.below(7_000) == 0 {
+        if self.plan == Plan::None && left > 2_000 && self.random.below(4_500) == 0 {
             self.plan = self.renew_a_slot(720);
         }
         if let Some(fields) = self.planned_call() {
@@ -303,7 +330,7 @@ impl Author {
                     return Some(call(&[9]));
                 }
                 if self.kernel().running == IDLE {
-                    return self.bring_a_task();
+                    return self.bring_a_task().or_else(|| Some(self.any_but(18)));
                 }
                 let wait = match self.random.below(100) {
                     0..=39 => self.random.between(64_000, 65_600),
@@ -325,13 +352,13 @@ impl Author {
                 }
                 // Few other calls, so that long waits last.
                 let other = self.random.below(3_000) == 0;
-                Some(if other { self.without_release() } else { call(&[17]) })
+                Some(if other { self.any_but(9) } else { call(&[17]) })
             }
             Plan::Climb(left) => {
                 if hold == MOST_HOLD {
                     self.plan = Plan::Climb(left - 1);
                 }
-                Some(if often { call(&[8]) } else { self.without_release() })
+                Some(if often { call(&[8]) } else { self.any_but(9) })
             }
             Plan::Descend => {
                 if hold == 0 {
@@ -349,7 +376,12 @@ impl Author {
                 let idle_calls = self.kernel().running == IDLE;
                 let enough = left == 0 || (idle_calls && self.random.percent(15));
                 if enough || !(2..=MOST_AHEAD).contains(&ticks) {
-                    self.plan = Plan::Pass(due.wrapping_add(2), self.random.percent(50));
+                    let way = match self.random.below(100) {
+                        0..=44 => Way::Single,
+                        45..=84 => Way::Pended,
+                        _ => Way::Advance,
+                    };
+                    self.plan = Plan::Pass(due.wrapping_add(2), way);
                     return None;
                 }
                 self.plan = Plan::Gather(due, left - 1);
@@ -364,24 +396,63 @@ impl Author {
                         return Some(self.begin(ticks + later));
                     }
                     60..=74 => 7,
-                    75..=79 => 17,
-                    80..=89 => self.random.pick(&[1, 2, 3, 4, 5]),
+                    75..=81 => 17,
+                    82..=89 => self.random.pick(&[1, 2, 3, 4, 5]),
                     _ => return None,
                 };
                 let fields = self.candidate(number, 0);
                 self.mostly(fields)
             }
-            Plan::Pass(until, pend) => {
+            Plan::Pass(until, way) => {
                 let kernel = self.kernel();
                 let ticks = until.wrapping_sub(kernel.tick).wrapping_sub(kernel.pended);
                 if !(1..=MOST_AHEAD + 2).contains(&ticks) {
                     self.plan = Plan::Descend;
                     return None;
                 }
-                if pend && hold == 0 {
-                    return Some(call(&[8]));
+                match way {
+                    Way::Pended if hold == 0 => Some(call(&[8])),
+                    Way::Advance if hold == 0 => {
+                        let some = self.random.between(1, ticks);
+                        self.mostly(call(&[18, some]))
+                    }
+                    _ => self.mostly(call(&[17])),
                 }
-                self.mostly(call(&[17]))
+            }
+            Plan::Await(0) => {
+                // Short of the return, so that many calls meet it; or past it, so that one advance does.
+                let (short, past) = (0u32.wrapping_sub(self.random.between(1, 12)), self.random.between(1, 60_000));
+                self.plan = Plan::Lap(if self.random.percent(60) { short } else { past });
+                None
+            }
+            Plan::Await(left) => {
+                self.plan = Plan::Await(left - 1);
+                if hold > 0 {
+                    return Some(call(&[9]));
+                }
+                if self.kernel().running == IDLE {
+                    return self.bring_a_task().or_else(|| Some(self.any_but(18)));
+                }
+                let wake = self.random.below(40).wrapping_sub(20);
+                let wait = wake.wrapping_sub(self.kernel().tick).clamp(1, FOR_EVER - 1);
+                Some(self.begin(wait))
+            }
+            Plan::Lap(until) => {
+                if hold > 0 {
+                    return Some(call(&[9]));
+                }
+                let kernel = self.kernel();
+                let left = until.wrapping_sub(kernel.tick);
+                // There, or past it by a damaged line.
+                if left == 0 || left > FOR_EVER - MOST_ADVANCE {
+                    self.plan = self.gather_tasks();
+                    return None;
+                }
+                Some(match *kernel.running_line() {
+                    [_, .., IDLE] => call(&[5, kernel.running_number(), 1]),
+                    [_, .., last] => call(&[3, kernel.task_number(last)]),
+                    _ => call(&[18, left.min(MOST_ADVANCE)]),
+                })
             }
             Plan::Fill(object, left) | Plan::Drain(object, left) => {
                 let fill = matches!(self.plan, Plan::Fill(..));
@@ -470,11 +541,11 @@ impl Author {
         self.mostly(fields)
     }
 
-    /// A call that leaves the hold depth or lets it grow.
-    fn without_release(&mut self) -> Fields {
+    /// A call by the mood that is accepted, and is not of this number.
+    fn any_but(&mut self, number: u32) -> Fields {
         loop {
             let fields = self.accepted_call();
-            if fields[0] != b"9" {
+            if value(&fields[0]) != number {
                 return fields;
             }
         }
@@ -534,7 +605,7 @@ impl Author {
 
     /// Any call with wild arguments; often several refusals apply.
     fn faulty_call(&mut self) -> Fields {
-        let number = self.random.between(1, 17);
+        let number = self.random.between(1, 18);
         self.candidate(number, 50)
     }
 
@@ -543,7 +614,7 @@ impl Author {
         let mut weights = MOODS[self.mood];
         // With nobody but idle to run, bring tasks back.
         if kernel.running == IDLE {
-            for number in [1, 4, 17] {
+            for number in [1, 4, 17, 18] {
                 weights[number] *= 3;
             }
         }
@@ -594,6 +665,7 @@ impl Author {
                 fields.push(self.wait(wildness, false));
             }
             16 => fields.push(decimal(self.object(number, wildness))),
+            18 => fields.push(decimal(self.ticks(wildness))),
             _ => {}
         }
         fields
@@ -715,8 +787,10 @@ impl Author {
             0..=5 => 0,
             6..=54 => self.random.between(1, 6),
             55..=72 => self.wait_like_another(),
-            73..=79 => self.random.between(7, 300),
-            80..=82 => self.random.pick(&[65_535, 70_000, 1 << 31, FOR_EVER - 1]),
+            73..=78 => self.random.between(7, 300),
+            79..=80 => self.random.pick(&[65_535, 70_000, 1 << 31, FOR_EVER - 1]),
+            // Mostly the wake tick is smaller than the count.
+            81..=83 => 0u32.wrapping_sub(self.random.between(2, 300)),
             _ if delay => self.random.between(1, 12),
             _ => FOR_EVER,
         };
@@ -725,14 +799,44 @@ impl Author {
 
     /// A wait that ends with another task's.
     fn wait_like_another(&mut self) -> u32 {
-        let kernel = &self.machine.kernel;
-        let wakes: Vec<u32> =
-            kernel.tasks.iter().filter_map(|task| task.wake()).map(|wake| wake.wrapping_sub(kernel.tick)).collect();
-        if wakes.is_empty() {
+        let distances = self.distances(FOR_EVER);
+        if distances.is_empty() {
             2
         } else {
-            self.random.pick(&wakes)
+            self.random.pick(&distances)
         }
+    }
+
+    /// The distances to all wakes that are at most so far ahead.
+    fn distances(&self, most: u32) -> Vec<u32> {
+        let kernel = self.kernel();
+        TaskSlot::all().filter_map(|task| kernel.distance(task)).filter(|&distance| distance <= most).collect()
+    }
+
+    /// An advance's ticks.
+    fn ticks(&mut self, wildness: u32) -> u32 {
+        if self.random.percent(wildness) {
+            return self.random.pick(&[0, 0, 1, 65_534, 65_535, 65_536, 65_536, 65_537, 131_071, 1 << 31, FOR_EVER]);
+        }
+        let line = self.kernel().running_line().len() as u32;
+        let most = if line == 1 || self.random.percent(8) { MOST_ADVANCE } else { MOST_TURNS };
+        let ticks = match self.random.below(100) {
+            0..=29 => self.random.between(1, 5),
+            // Around the next wake, or any.
+            30..=64 => {
+                let mut distances = self.distances(most);
+                distances.sort_unstable();
+                let end = if self.random.percent(50) { 1 } else { distances.len() };
+                let distance = if distances.is_empty() { 2 } else { self.random.pick(&distances[..end]) };
+                near(distance, self.random.below(3))
+            }
+            // Around one round of the line, or several.
+            65..=84 => near(line * self.random.between(1, 4), self.random.below(3)),
+            85..=93 => self.random.between(6, 40),
+            94..=98 => self.random.between(41, 999),
+            _ => self.random.pick(&[1_000, 30_000, 65_534, MOST_ADVANCE, MOST_ADVANCE]),
+        };
+        ticks.clamp(1, most)
     }
 
     fn shape(&mut self, wildness: u32) -> (u32, u32) {
@@ -776,6 +880,11 @@ impl Author {
 
 fn decimal(number: u32) -> Vec<u8> {
     number.to_string().into_bytes()
+}
+
+/// One less, the same or one more.
+fn near(number: u32, choice: u32) -> u32 {
+    (number + choice).saturating_sub(1)
 }
 
 fn value(field: &[u8]) -> u32 {

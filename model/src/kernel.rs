@@ -1,6 +1,6 @@
 //! The kernel value: task slots, object slots, the lines of ready tasks and the order in
 //! which delayed and waiting tasks began. Quoted sentences are document 01's, and those of
-//! requests 1 and 3 in document 02.
+//! requests 1, 3 and 4 in document 02.
 
 /// "16 task slots, 0 to 15."
 pub const TASKS: usize = 16;
@@ -22,6 +22,8 @@ pub const MOST_PRODUCT: u32 = 512;
 pub const MOST_HOLD: u32 = 255;
 /// "Pended ticks 0 to 65,535."
 pub const MOST_PENDED: u32 = 65_535;
+/// "advance: n ticks, 1 to 65,535"
+pub const MOST_ADVANCE: u32 = 65_535;
 /// "4,294,967,295 means for ever."
 pub const FOR_EVER: u32 = 4_294_967_295;
 
@@ -283,6 +285,24 @@ impl Kernel {
     /// Delayed, or waiting on an object.
     pub fn is_blocked(&self, task: TaskSlot) -> bool {
         matches!(self.task(task).stand, Stand::Delayed { .. } | Stand::Waiting { .. })
+    }
+
+    /// "The distance to a wake is the wake tick minus the count, subtracted with wrap". After
+    /// so many ticks the task is due.
+    pub fn distance(&self, task: TaskSlot) -> Option<u32> {
+        self.task(task).wake().map(|wake| wake.wrapping_sub(self.tick))
+    }
+
+    /// On so many ticks from now nobody is due: one less than the distance to the next wake.
+    /// "no wake tick of a delayed or waiting task equals the tick count", so that is at least 1.
+    pub fn quiet_ticks(&self) -> u32 {
+        let next = self.began.iter().filter_map(|&task| self.distance(task)).min();
+        next.map_or(u32::MAX, |next| next - 1)
+    }
+
+    /// The line of the running task, which heads it.
+    pub fn running_line(&self) -> &[TaskSlot] {
+        &self.lines[self.task(self.running).effective as usize]
     }
 
     /// The highest occupied line. Idle is always ready, so there is one.

@@ -1,4 +1,4 @@
-//! A second opinion on the kernel of document 01 and requests 1 and 3 of document 02, written from these and the
+//! A second opinion on the kernel of document 01 and requests 1, 3 and 4 of document 02, written from these and the
 //! readings in docs/DECISIONS.md.
 
 pub mod calls;
@@ -14,3 +14,4 @@ pub mod random;
 pub mod refusals;
 pub mod retire;
 pub mod store;
+pub mod wrap;

@@ -136,6 +136,7 @@ pub fn read_call<'a>(line: &[u8], item: &'a mut [u8; ITEM_BYTES]) -> Option<Call
         15 => Call::Take { object: r.argument()?, wait: r.argument()? },
         16 => Call::Give { object: r.argument()? },
         17 => Call::Tick,
+        18 => Call::Advance { ticks: r.argument()? },
         _ => return None,
     };
     reader.end()?;

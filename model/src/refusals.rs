@@ -7,8 +7,8 @@
 
 use crate::calls::{Call, Named};
 use crate::kernel::{
-    Kernel, Kind, ObjectSlot, Stand, TaskSlot, FOR_EVER, IDLE, MOST_CAPACITY, MOST_HOLD, MOST_ITEM, MOST_PENDED,
-    MOST_PRODUCT, PRIORITIES,
+    Kernel, Kind, ObjectSlot, Stand, TaskSlot, FOR_EVER, IDLE, MOST_ADVANCE, MOST_CAPACITY, MOST_HOLD, MOST_ITEM,
+    MOST_PENDED, MOST_PRODUCT, PRIORITIES,
 };
 use crate::store::STORE_BYTES;
 
@@ -96,6 +96,7 @@ pub fn refusal(kernel: &Kernel, store: &[u8], call: &Call) -> Option<u8> {
             first_of(&[(11, holder != Some(caller))])
         }
         Call::Tick => first_of(&[(16, held && kernel.pended == MOST_PENDED)]),
+        Call::Advance { ticks } => first_of(&[(4, !(1..=MOST_ADVANCE).contains(&ticks)), (8, held)]),
     }
 }
 
@@ -111,13 +112,15 @@ fn row_applies(row: u8, kernel: &Kernel, store: &[u8], call: &Call) -> bool {
     match row {
         // "the store is not 9,216 bytes long"
         2 => store.len() != STORE_BYTES,
-        // "priority, capacity, size or product out of range; delay of 4,294,967,295"
+        // "priority, capacity, size or product out of range; delay of 4,294,967,295"; request
+        // 4: "4 for n out of range"
         4 => match *call {
             Call::Create { priority } | Call::SetPriority { priority, .. } => priority > 31,
             Call::MakeQueue { capacity, size } => {
                 !(1..=64).contains(&capacity) || size > 64 || u64::from(capacity) * u64::from(size) > 512
             }
             Call::Delay { ticks } => ticks == 4_294_967_295,
+            Call::Advance { ticks } => ticks == 0 || ticks > 65_535,
             _ => false,
         },
         // "task or object number names none, or an object of the wrong kind"; "5 covers a
@@ -143,11 +146,12 @@ fn row_applies(row: u8, kernel: &Kernel, store: &[u8], call: &Call) -> bool {
             Call::Send { wait, .. } | Call::Receive { wait, .. } => caller == IDLE && wait != 0,
             _ => false,
         },
-        // "with a hold: delay, yield, any wait other than 0, delete or suspend of the caller"
+        // "with a hold: delay, yield, any wait other than 0, delete or suspend of the
+        // caller"; request 4: "8 with a hold"
         8 => {
             kernel.hold != 0
                 && match *call {
-                    Call::Delay { .. } | Call::Yield => true,
+                    Call::Delay { .. } | Call::Yield | Call::Advance { .. } => true,
                     Call::Send { wait, .. } | Call::Receive { wait, .. } | Call::Take { wait, .. } => wait != 0,
                     Call::Delete { task } | Call::Suspend { task } => is_caller(task),
                     _ => false,

@@ -19,7 +19,7 @@ pub fn journal() -> Vec<u8> {
 }
 
 /// A call's line with these fields.
-fn call(text: &mut String, fields: &[u32]) {
+pub(crate) fn call(text: &mut String, fields: &[u32]) {
     let fields: Vec<String> = fields.iter().map(u32::to_string).collect();
     *text += &fields.join("\t");
     text.push('\n');

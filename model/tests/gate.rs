@@ -44,7 +44,7 @@ fn p5_fifteen_creates() {
 
 #[test]
 fn p6_delay_across_the_wrap() {
-    // A journal cannot reach this tick, so the count is set by hand.
+    // A journal takes 65,537 lines to reach this tick (tests/advance.rs); here the count is set by hand.
     let mut kernel = Kernel::fresh();
     let mut store = vec![0; 9_216];
     kernel.tick = u32::MAX;

@@ -21,12 +21,19 @@ fn empty_input_answers_nothing() {
 
 #[test]
 fn lines_that_are_no_call() {
-    let lines: [&[u8]; 40] = [
+    let lines: [&[u8]; 47] = [
         b"\n",
         b" \n",
         b"\t\n",
         b"0\n",
         b"18\n",
+        b"18\t\n",
+        b"18\t01\n",
+        b"18\t1\t1\n",
+        b"18\tab\n",
+        b"18 1\n",
+        b"19\n",
+        b"19\t1\n",
         b"99\n",
         b"017\n",
         b"00\n",
@@ -157,7 +164,8 @@ fn answers_do_not_depend_on_how_the_input_is_cut() {
 
 #[test]
 fn damaged_lines_are_no_calls() {
-    let drafts: [&[&str]; 5] = [&["17"], &["1", "3"], &["5", "1", "2"], &["13", "0", "0a0b", "5"], &["15", "0", "0"]];
+    let drafts: [&[&str]; 6] =
+        [&["17"], &["1", "3"], &["5", "1", "2"], &["13", "0", "0a0b", "5"], &["15", "0", "0"], &["18", "7"]];
     let mut random = Random::new(1);
     for kind in damage::KINDS {
         for round in 0..500 {

@@ -163,7 +163,7 @@ fn the_running_field_has_the_full_number() {
     go_on(
         &mut machine,
         "17 -> ok 0 33
-         18 -> no 3 33
+         19 -> no 3 33
          6 1 -> wait 0 2
          6 1 -> wait 0 0
          17 -> ok 0 33

@@ -340,7 +340,7 @@ fn a_give_and_a_receive_take_one_out() {
 
 #[test]
 fn the_order_crosses_the_wrap() {
-    // A journal cannot reach this tick, so the count is set by hand.
+    // A journal takes 65,537 lines to reach this tick (tests/advance.rs); here the count is set by hand.
     let mut kernel = Kernel::fresh();
     let mut store = vec![0; 9_216];
     kernel.tick = u32::MAX - 1;

@@ -22,7 +22,45 @@ fn every_kernel_on_the_way_is_sound() {
 }
 
 /// What 200,000 lines must exercise, and how often at least.
-const EVENTS: [(&str, u64); 75] = [
+const EVENTS: [(&str, u64); 114] = [
+    ("advance: 0 ticks refused", 10),
+    ("advance: 100 ticks and more by one of several in a line", 100),
+    ("advance: 4,294,967,295 ticks refused", 5),
+    ("advance: 65,535 ticks", 10),
+    ("advance: 65,536 ticks refused", 10),
+    ("advance: a line of several turned", 1_000),
+    ("advance: a receiver timed out", 200),
+    ("advance: a sender timed out", 200),
+    ("advance: a taker timed out", 500),
+    ("advance: a task with a loan woken", 1_000),
+    ("advance: a wake tick smaller than the count", 1_000),
+    ("advance: a wake tick smaller than the count, and others due", 1_000),
+    ("advance: alone in the line and nobody due", 1_000),
+    ("advance: alone in the line, due on the last tick", 200),
+    ("advance: began earlier, woken on a later tick into one line", 100),
+    ("advance: by a task with a loan", 1_000),
+    ("advance: due one tick after the last", 200),
+    ("advance: less than a round of the line", 200),
+    ("advance: more ticks than the line is long", 500),
+    ("advance: nobody due", 1_000),
+    ("advance: one task due", 1_000),
+    ("advance: out of range and with a hold", 10),
+    ("advance: over 50,000 turns", 5),
+    ("advance: overtaken, then a higher line turned", 100),
+    ("advance: overtaken, then more ticks", 500),
+    ("advance: refused with a hold", 50),
+    ("advance: refused with ticks pended", 50),
+    ("advance: running task overtaken", 1_000),
+    ("advance: running task overtaken twice", 100),
+    ("advance: several tasks due on one tick", 500),
+    ("advance: tasks due on different ticks", 500),
+    ("advance: tasks due on four ticks and more", 20),
+    ("advance: turned behind a woken task", 500),
+    ("advance: whole rounds of the line", 200),
+    ("advance: woken together into one line, not in order of slots", 100),
+    ("advance: woken together, begun on different ticks", 200),
+    ("advance: woken together, not in order of slots", 500),
+    ("advance: woken together, one delayed and one waiting", 200),
     ("create: a slot below the last one", 100),
     ("create: a slot used again", 1_000),
     ("create: a use above 255", 20),
@@ -98,6 +136,7 @@ const EVENTS: [(&str, u64); 75] = [
     ("tick: woken together, begun on different ticks", 500),
     ("tick: woken together, not in order of slots", 800),
     ("tick: woken together, one delayed and one waiting", 500),
+    ("wait: a wake tick smaller than the count", 500),
 ];
 
 #[test]
@@ -106,13 +145,16 @@ fn a_long_journal_meets_every_call_refusal_and_event() {
     while author.next_line().is_some() {}
     let coverage = author.coverage().unwrap();
     assert_eq!(coverage.lines, 200_000);
-    for number in 1..=17 {
+    for number in 1..=18 {
         assert!(coverage.accepted[number] >= 500, "call {number}: {}", coverage.accepted[number]);
     }
     for row in 3..=15 {
         assert!(coverage.refused[row] >= 100, "refusal {row}: {}", coverage.refused[row]);
     }
     assert!(coverage.refused[16] >= 5);
+    for row in [4, 8] {
+        assert!(coverage.refused_by_call[&(18, row)] >= 50, "advance, refusal {row}");
+    }
     for (name, least) in EVENTS {
         let count = coverage.events.get(name).copied().unwrap_or(0);
         assert!(count >= least, "{name}: {count}");
@@ -125,6 +167,41 @@ fn a_long_journal_meets_every_call_refusal_and_event() {
         let least = if kind == "longer than a read buffer" { 5 } else { 20 };
         assert!(count >= least, "{kind}: {count}");
     }
+}
+
+/// Journals long enough for the count to return to 0.
+#[test]
+fn a_longer_journal_returns_to_0() {
+    const RETURNS: [&str; 4] = [
+        "count: returned to 0 by a tick",
+        "count: returned to 0 by a release",
+        "count: returned to 0 by an advance",
+        "advance: tasks due before and after the count returned to 0",
+    ];
+    let mut counts = [0; 4];
+    for seed in 1..=8 {
+        let mut author = Author::new(seed, 300_000).with_coverage();
+        while author.next_line().is_some() {}
+        let events = &author.coverage().unwrap().events;
+        let count = |name: &str| events.get(name).copied().unwrap_or(0);
+        for (row, name) in RETURNS.iter().enumerate() {
+            counts[row] += count(name);
+        }
+    }
+    assert!(counts[..3].iter().sum::<u64>() >= 8 && counts.iter().all(|&count| count > 0), "{counts:?}");
+}
+
+#[test]
+fn advance_leaves_room_for_other_calls() {
+    let (mut lines, mut advances) = (0, 0);
+    for seed in 1..=20 {
+        let mut author = Author::new(seed, 20_000).with_coverage();
+        while author.next_line().is_some() {}
+        let coverage = author.coverage().unwrap();
+        lines += coverage.lines;
+        advances += coverage.accepted[18];
+    }
+    assert!((8..=14).contains(&(lines / advances)), "{advances} of {lines}");
 }
 
 #[test]
@@ -175,6 +252,22 @@ fn a_number_is_given_out_once() {
     assert!(given_out >= 2_000 && refused >= 2_000, "{given_out}, {refused}");
 }
 
+/// The lines of a journal, with as many single ticks for each accepted advance but the long ones.
+fn one_by_one(journal: &[u8]) -> Vec<Vec<u8>> {
+    let mut machine = Machine::new(false);
+    let mut lines: Vec<Vec<u8>> = Vec::new();
+    for line in journal.split_inclusive(|&byte| byte == b'\n') {
+        let mut item = [0; ITEM_BYTES];
+        match (read_call(line, &mut item), machine.answer(line)) {
+            (Some(Call::Advance { ticks: ticks @ ..=300 }), Answer::Done) => {
+                lines.extend(vec![b"17\n".to_vec(); ticks as usize])
+            }
+            _ => lines.push(line.to_vec()),
+        }
+    }
+    lines
+}
+
 /// Wakes beside a plain record of the lines on which delays and waits began: in each priority's line the woken stand by
 /// the tick on which they were due, then by that line.
 #[test]
@@ -183,19 +276,20 @@ fn who_began_earlier_is_made_ready_first() {
     for seed in 3_000..3_060 {
         let mut machine = Machine::new(false);
         let mut began = [0; 16];
-        for (at, line) in journal(seed, 2_000).split_inclusive(|&byte| byte == b'\n').enumerate() {
+        for (at, line) in one_by_one(&journal(seed, 2_000)).iter().enumerate() {
             let before = machine.kernel.clone();
             if machine.answer(line) == Answer::Waiting {
                 began[before.running.index()] = at;
             }
-            if machine.kernel.tick == before.tick {
+            // Of an advance the lines have turned since.
+            if machine.kernel.tick == before.tick || line.starts_with(b"18\t") {
                 continue;
             }
             for line in &machine.kernel.lines {
                 let woken: Vec<TaskSlot> = line.iter().copied().filter(|&task| before.is_blocked(task)).collect();
                 let moments = woken.iter().map(|&task| {
-                    let wake = before.task(task).wake().expect("a woken task was due");
-                    (wake.wrapping_sub(before.tick), began[task.index()])
+                    let distance = before.distance(task).expect("a woken task was due");
+                    (distance, began[task.index()])
                 });
                 assert!(moments.is_sorted_by(|first, second| first < second), "seed {seed}, line {}", at + 1);
                 together += u64::from(woken.len() > 1);

@@ -1,8 +1,8 @@
-//! Runs two filters on the same journals, random ones or the one that retires slots, and compares their answers byte
-//! for byte.
+//! Runs two filters on the same journals, random ones, the one that retires slots or the one in which the count returns
+//! to 0, and compares their answers byte for byte.
 
 use model::journal::journal;
-use model::retire;
+use model::{retire, wrap};
 use std::io::{self, Read, Write};
 use std::process::{Command, ExitCode, Stdio};
 use std::thread;
@@ -16,11 +16,13 @@ fn main() -> ExitCode {
     let numbers: Vec<u64> = arguments.iter().skip(2).filter_map(|argument| argument.parse().ok()).collect();
     let words: Vec<&str> = arguments.iter().map(String::as_str).collect();
     let result = match (words.as_slice(), numbers.as_slice()) {
-        (&[a, b, "retire"], _) => compare_retired(&Pair::new(a, b)),
+        (&[a, b, word @ "retire"], _) => compare_one(&Pair::new(a, b), word, "that retires slots", &retire::journal()),
+        (&[a, b, word @ "wrap"], _) => compare_one(&Pair::new(a, b), word, "over the wrap", &wrap::journal()),
         (&[a, b, _, _, _], &[seed, lines, journals]) => compare(&Pair::new(a, b), seed, lines, journals),
         _ => {
             eprintln!("usage: compare PROGRAM-A PROGRAM-B SEED LINES JOURNALS");
             eprintln!("       compare PROGRAM-A PROGRAM-B retire");
+            eprintln!("       compare PROGRAM-A PROGRAM-B wrap");
             eprintln!("a program can have arguments: 'model --check'");
             return ExitCode::from(2);
         }
@@ -64,17 +66,17 @@ fn compare(pair: &Pair, seed: u64, lines: u64, journals: u64) -> io::Result<bool
     Ok(true)
 }
 
-/// The journal that retires slots. It is not made shorter: with fewer turns no slot is retired.
-fn compare_retired(pair: &Pair) -> io::Result<bool> {
-    let journal = retire::journal();
-    let lines = split_lines(&journal);
-    if let Some(line) = pair.differ(&journal)? {
-        println!("the journal that retires slots (generate --retire), line {}: the answers differ", line + 1);
+/// A journal that is not random. It is not made shorter: with fewer turns no slot is retired, and the count does not
+/// return to 0.
+fn compare_one(pair: &Pair, word: &str, name: &str, journal: &[u8]) -> io::Result<bool> {
+    let lines = split_lines(journal);
+    if let Some(line) = pair.differ(journal)? {
+        println!("the journal {name} (generate --{word}), line {}: the answers differ", line + 1);
         println!("the last lines up to it; answers of A and B:");
         print_difference(pair, &lines[..lines.len().min(line + 1)], line.saturating_sub(5))?;
         return Ok(false);
     }
-    println!("the journal that retires slots, {} lines, {} bytes: no difference", lines.len(), journal.len());
+    println!("the journal {name}, {} lines, {} bytes: no difference", lines.len(), journal.len());
     Ok(true)
 }
 

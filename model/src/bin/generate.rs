@@ -1,7 +1,8 @@
-//! Writes a random journal, or says what it exercises; or writes the journal that retires slots.
+//! Writes a random journal, or says what it exercises; or writes the journal that retires slots, or the one in which
+//! the count returns to 0.
 
 use model::journal::Author;
-use model::retire;
+use model::{retire, wrap};
 use std::io::{self, BufWriter, Write};
 use std::process::ExitCode;
 
@@ -9,6 +10,9 @@ fn main() -> ExitCode {
     let mut arguments: Vec<String> = std::env::args().skip(1).collect();
     if arguments == ["--retire"] {
         return status(io::stdout().lock().write_all(&retire::journal()));
+    }
+    if arguments == ["--wrap"] {
+        return status(io::stdout().lock().write_all(&wrap::journal()));
     }
     let coverage = arguments.first().is_some_and(|first| first == "--coverage");
     if coverage {
@@ -18,6 +22,7 @@ fn main() -> ExitCode {
     let &[seed, lines] = numbers.as_slice() else {
         eprintln!("usage: generate [--coverage] SEED LINES");
         eprintln!("       generate --retire");
+        eprintln!("       generate --wrap");
         return ExitCode::from(2);
     };
     status(if coverage { report(seed, lines) } else { write_journal(seed, lines) })
