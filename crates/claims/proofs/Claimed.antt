@@ -26,6 +26,7 @@ use Rattle.kernel.proofs.Shown.{shown-of}
 use Rattle.promises.proofs.Gate.{both-sides-of-the-gate}
 use Rattle.promises.proofs.TurnedAway.{decided}
 use Rattle.promises.proofs.Advances.{advance-is-ticks, advance-refused, sleeps-so}
+use Rattle.promises.proofs.Wakings.{few-wakings}
 use Rattle.promises.proofs.Reaches.{program-placed}
 use Rattle.histories.proofs.ByFullNumber.{program-pays-back-by-number}
 use Rattle.histories.proofs.UseCounts.{uses-count}
@@ -118,6 +119,7 @@ sleeping =
       as-ticks = λ k e z item s n l m. advance-is-ticks (shown k) e z item s n l m;
       refused = λ k e item s n w. advance-refused (shown k) item s n e w;
       sleeps = λ k. sleeps-so (shown k);
+      few-wakings = λ k e. few-wakings (shown k) e;
     }
 
 pub claims : Claims

@@ -35,7 +35,7 @@ use Rattle.promises.specs.Program.{linesOf, answering}
 use Rattle.promises.specs.ByLines.{LineSteps, ProgramAnswers}
 use Rattle.promises.specs.Turns.{Turn, cameIn}
 use Rattle.promises.specs.Reached.{programCalls}
-use Rattle.promises.specs.Advance.{singly, atFirst, AsTicks, AdvanceRefused, SleepsSo}
+use Rattle.promises.specs.Advance.{singly, atFirst, AsTicks, AdvanceRefused, SleepsSo, FewWakings}
 use Rattle.histories.specs.ByFullNumber.{Numbered, PaysBackByNumber}
 use Rattle.histories.specs.Uses.{UsesCount}
 use Rattle.histories.specs.Earlier.{EachBegan, Earlier, WokenInOrder}
@@ -168,6 +168,7 @@ pub record Sleeping : Type 0 where
   pub as-ticks : (k : Kernel) → sound (shown k) ≡ true → shown k .hold ≡ 0 → (item store : List ℕ) (n : ℕ) → 1 ≤ n → n ≤ 65535 → AsTicks (shown k) item store n
   pub refused : (k : Kernel) → sound (shown k) ≡ true → (item store : List ℕ) (n : ℕ) → length store ≡ 9216 → AdvanceRefused (shown k) item store n
   pub sleeps : (k : Kernel) → SleepsSo (shown k)
+  pub few-wakings : (k : Kernel) → sound (shown k) ≡ true → FewWakings (shown k)
 
 pub record Claims : Type 2 where
   pub code : Code

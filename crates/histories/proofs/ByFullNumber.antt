@@ -33,7 +33,7 @@ use Rattle.rules.proofs.RowPasses.{Passed}
 use Rattle.rules.proofs.Keeps.{there-low}
 use Rattle.rules.proofs.KeepTasks.{has-slot, is-free}
 use Rattle.rules.proofs.KeepObjects.{object-low}
-use Rattle.rules.proofs.KeepChosen.{chosen-tasks}
+use Rattle.rules.proofs.TickJumps.{chosen-only}
 use Rattle.rules.proofs.KeepUses.{up-other}
 use Rattle.rules.proofs.KeepEvery.{fresh-sound, step-kept}
 use Rattle.promises.specs.History.{reached}
@@ -212,7 +212,7 @@ module _ (k : State) (e : sound k ≡ true) (s : List ℕ) (m : CallMade) (t : T
   accepted-alike : Passed k a (length (m .store)) → AlikeIf t n (giving k s m (accepted k a (m .item) (m .store)))
   unfolding accepted
   accepted-alike P x f =
-      let g : isFree (taskAt (effect k a .tasks) t .place) ≡ false = sym (ap (λ ts. isFree (taskAt ts t .place)) (chosen-tasks (effect k a))) ∙ f in
+      let g : isFree (taskAt (effect k a .tasks) t .place) ≡ false = sym (ap (λ ts. isFree (taskAt ts t .place)) (chosen-only (effect k a) .tasks)) ∙ f in
       let num : n ≡ numberIn (k .uses .tasks) (t .0) =
       slot-number (usesAfter (k .uses) a .tasks) (t .0) n low x ∙ ap (λ v. t .0 + 16 * v) (use-kept k (sound-says k e) (length (m .store)) t (m .call) P g) in
       record {

@@ -25,13 +25,15 @@ use Rattle.slots.specs.Kinds.{kindAt}
 use Rattle.rules.specs.Tables.{fresh, holds, freeSlot, freeObject}
 use Rattle.rules.specs.Ticks.{wokenIfDue, wakes, oneTick, turned, ticked, ticks, released, held, advanced}
 use Rattle.rules.specs.Waits.{arrives, waitFor}
+use Rattle.promises.specs.History.{reached}
+use Rattle.promises.specs.Advance.{wakings}
 use Rattle.histories.specs.Moments.{tasksBelow}
 use Rattle.histories.specs.Borrowed.{largest, givenAt, lastGiven, lentAt, countedSince, due}
 use Rattle.histories.specs.Tales.{unlent, shownAfter, shownBy, twoGives, setWithLoan, timeRunsOut, handedWithWaiter, lendsBorrowed, refusedChange, slotUsedAgain}
 use Rattle.histories.specs.Again.{namesTask, namesObject, madeTask, madeObject, usedAgain, atEach}
 use Rattle.histories.specs.ByFullNumber.{givenTo}
 use Rattle.histories.specs.Earlier.{beganAt}
-use Rattle.histories.specs.Meters.{metersBy, asTheSlots, againstTheSlots, longerFirst, waiterFirst, delayFirst, delaysReleased, waiterReleased, delaysAdvanced, waiterAdvanced}
+use Rattle.histories.specs.Meters.{metersBy, asTheSlots, againstTheSlots, longerFirst, waiterFirst, delayFirst, delaysReleased, waiterReleased, delaysAdvanced, waiterAdvanced, eachItsOwnTick}
 
 pub record TalesFit : Type 0 where
   -- a loan is made, kept over the first of two gives, and paid back at the last
@@ -132,3 +134,13 @@ meters-fit = record {
   delays-advanced = refl;
   waiter-advanced = refl;
 }
+
+-- of 40 ticks fifteen wake a meter, and more cannot
+pub fifteen-wake : wakings true 40 (reached (map unlent eachItsOwnTick)) ≡ 15
+unfolding wakings trace eachItsOwnTick every allBelow foldl upTo index any kept asked ordered without count tidy putAt created deleted suspended resumed yielded
+    delayed queueMade mutexMade removed taken handedOn given effect itemAt outlet sent storeSent received storeReceived line those begun highest leader
+    first chosen toTail toHead leaves moved movedIf prioritized newPriority lent ownAgain outOfRange namesNone wrongSize notForIdle notWithHold
+    noneFree heldOrWaited inUse notHis hisAlready notSuspended mustWait noDepth noTick table laterRow refusal noHigher runsFine tablesFine levelsFine
+    listingFine clockFine usesFine sound stored answered usesAfter accepted step fresh freshUses taskAt kindAt holds freeSlot freeObject wokenIfDue
+    wakes oneTick turned ticked ticks released held advanced arrives waitFor
+fifteen-wake = refl

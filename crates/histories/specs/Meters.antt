@@ -136,3 +136,10 @@ waiterAdvanced = record {
     began = 5 ∷ 4 ∷ [];
   };
 }
+
+-- fifteen meters, each of which sleeps to another tick
+unfoldable pub eachItsOwnTick : List Call
+eachItsOwnTick =
+    Create 3 ∷ Delay 30 ∷ Create 3 ∷ Delay 28 ∷ Create 3 ∷ Delay 26 ∷ Create 3 ∷ Delay 24 ∷ Create 3 ∷ Delay 22 ∷ Create 3 ∷ Delay 20 ∷ Create 3 ∷ Delay 18
+    ∷ Create 3 ∷ Delay 16 ∷ Create 3 ∷ Delay 14 ∷ Create 3 ∷ Delay 12 ∷ Create 3 ∷ Delay 10 ∷ Create 3 ∷ Delay 8 ∷ Create 3 ∷ Delay 6 ∷ Create 3 ∷ Delay 4
+    ∷ Create 3 ∷ Delay 2 ∷ []

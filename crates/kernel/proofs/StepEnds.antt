@@ -27,7 +27,8 @@ use Rattle.rules.specs.Effects.{effect}
 use Rattle.rules.specs.Steps.{newNumber, stored, answered, usesAfter, accepted, step}
 use Rattle.rules.proofs.SoundSays.{sound-says}
 use Rattle.rules.proofs.Keeps.{ready-low}
-use Rattle.rules.proofs.KeepChosen.{sound-with, chosen-tasks}
+use Rattle.rules.proofs.KeepChosen.{sound-with}
+use Rattle.rules.proofs.TickJumps.{chosen-only}
 use Rattle.rules.proofs.KeepTicks.{fresh-used}
 use Rattle.kernel.specs.Types.{Core, Kernel, Uses, Step}
 use Rattle.kernel.specs.Stands.{coreOf, kernelOf, shownCore, shown, standing}
@@ -86,7 +87,7 @@ module _ (k : Kernel) (fine : sound (shown k) ≡ true) (h : k ≡ kernelOf (sho
           → (if b then says made (newNumber (k .uses) a n) else if isBlocked (taskAt (e .tasks) u .place) then says waiting 0 else says done 0)
           ≡ (if b then says made (newNumber (shown k .uses) a (newSlot (shown k) a)) else if isBlocked (taskAt (chosen e .tasks) (shown k .running) .place) then says waiting 0 else says done 0)
       go true g = rw (shown-uses k, g refl)
-      go false g = rw (chosen-tasks e, r)
+      go false g = rw (chosen-only e .tasks, r)
 
   pub done-so : (a : Asked) (item s after : List ℕ) (n : ℕ) (u : TaskSlot) (next last : Core) (us : Uses) (answer : Answer)
       → laterRow (shown k) a (length item) (length s) ≡ 0

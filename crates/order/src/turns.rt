@@ -78,6 +78,7 @@ impl Order {
     {
         self.but_first(line, n).then_first(line, n)
     }
+
     // The head of a line goes to the tail, `n` times over.
     pub fn turns(self, line: Order, n: usize) -> Order
         ensures { λ r. ⌜ r ≡ timesTurned self (listed line) n ⌝ }

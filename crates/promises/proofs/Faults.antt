@@ -18,7 +18,7 @@ use Rattle.rules.specs.Loans.{prioritized, newPriority}
 use Rattle.rules.specs.Effects.{effect}
 use Rattle.rules.specs.Steps.{accepted, step}
 use Rattle.rules.specs.Trace.{CallMade}
-use Rattle.rules.proofs.KeepChosen.{chosen-tasks}
+use Rattle.rules.proofs.TickJumps.{chosen-only}
 use Rattle.rules.proofs.TableHolds.{some-holds}
 use Rattle.rules.proofs.SoundSays.{sound-says}
 use Rattle.rules.proofs.KeepSlot.{at-same}
@@ -64,7 +64,7 @@ module _ (ms : List CallMade) where
   unfolding step accepted effect asked newPriority
   raise-stays t o p item s h e =
       rw (e, some-holds (k .objects) u o h)
-      (ap (λ ts. taskAt ts u) (chosen-tasks (prioritized k u p both) ∙ prioritized-tasks k u p both)
+      (ap (λ ts. taskAt ts u) (chosen-only (prioritized k u p both) .tasks ∙ prioritized-tasks k u p both)
       ∙ at-same (k .tasks) u (ranked (taskAt (k .tasks) u) p both) low)
     where
       u : TaskSlot

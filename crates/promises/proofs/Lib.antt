@@ -21,3 +21,4 @@ pub mod WholeBlocks
 pub mod EachLine
 pub mod Typing
 pub mod Advances
+pub mod Wakings

@@ -1,12 +1,17 @@
 -- "call 18, advance: n ticks, 1 to 65,535, and the result must equal n single ticks one by one, turns of the line and wakes included"; and how long the board may sleep.
 use Prim.Native.Nat.{ℕ, _+_, _<_, _≤_}
 use mathlib.Core.Path.{_≡_}
+use mathlib.Core.Bool.{Bool, true, false, not}
 use mathlib.Core.List.{List, [], _∷_}
 use lib.ListN.{length}
-use Rattle.lists.specs.Lists.{upTo}
+use Rattle.lists.specs.Choice.{if_then_else_}
+use Rattle.lists.specs.Lists.{upTo, any}
+use Rattle.order.specs.Order.{listed}
 use Rattle.calls.specs.Behind.{asked}
 use Rattle.calls.specs.Said.{says, done}
-use Rattle.rules.specs.Ticks.{SomeoneWakes, released, sleeps}
+use Rattle.rules.specs.Tables.{withHold}
+use Rattle.rules.specs.Lines.{hasBegun, begun}
+use Rattle.rules.specs.Ticks.{SomeoneWakes, oneTick, ticks, released, sleeps}
 use Rattle.rules.specs.Refusals.{refusal}
 use Rattle.rules.specs.Steps.{Stepped, step}
 use Rattle.promises.specs.Types.{Advance, Tick, State}
@@ -41,3 +46,16 @@ pub record SleepsSo (k : State) : Type 0 where
   -- "of that many wakes someone": where there is no hold, with which a tick is pended; in single ticks however many they are, and in an advance within its range
   pub that-many : (s : List ℕ) (d : ℕ) → sleeps k ≡ d ∷ [] → k .hold ≡ 0 → length s ≡ 9216 → SomeoneWakes k (singly d (atFirst k s) .kernel)
   pub that-many-advanced : (item s : List ℕ) (d : ℕ) → sleeps k ≡ d ∷ [] → k .hold ≡ 0 → length s ≡ 9216 → d ≤ 65535 → SomeoneWakes k (step k (Advance d) item s .kernel)
+
+-- with the next tick somebody's delay or wait ends
+abbrev pub wakesSome : State → Bool
+wakesSome k = any (λ t. not (hasBegun (oneTick k .tasks) t)) (begun (k .tasks) (listed (k .order)))
+
+-- on how many of n ticks that is so, with each one's turn and choose or without
+unfoldable pub wakings : Bool → ℕ → State → ℕ
+wakings turns n k = upTo (λ c i. c + (if wakesSome (ticks turns i k) then 1 else 0)) n 0
+
+-- "at most one round for each tick on which somebody wakes, at most 15 in all, whatever n": in an advance, and in a release's pended ticks
+pub record FewWakings (k : State) : Type 0 where
+  pub in-advance : (n : ℕ) → k .hold ≡ 0 → wakings true n k ≤ 15
+  pub in-release : (n : ℕ) → wakings false n (withHold k 0 0) ≤ 15

@@ -108,7 +108,7 @@ turned-fades k R e = go (noHigher (k .tasks) (level (k .tasks) (k .running)) (li
 chosen-fades : (k : State) → RoomyIn k → Fade k (chosen k)
 chosen-fades k R = rw (chosen-only k .tasks, chosen-order k) (stays R)
 
-released-loop : (n : ℕ) (k : State) → RoomyIn k → Fade k (ticks false n k)
+pub released-loop : (n : ℕ) (k : State) → RoomyIn k → Fade k (ticks false n k)
 unfolding ticks upTo
 released-loop zero k R = stays R
 released-loop (suc n) k R = let f = released-loop n k R in onward f (tick-fades (ticks false n k) (f .roomy))
@@ -125,7 +125,7 @@ released-fades k R = go (eqb (k .hold) 1)
 pub still-ready : (k : State) → taskAt (k .tasks) (k .running) .place ≡ Ready → taskAt (oneTick k .tasks) (oneTick k .running) .place ≡ Ready
 still-ready k e = let A = tick-after k in ap (λ r. taskAt (oneTick k .tasks) r .place) (A .running) ∙ A .ready (k .running) e
 
-one-by-one : (k : State) → RoomyIn k → Unheld k → Fade k (turnedIf true (oneTick k))
+pub one-by-one : (k : State) → RoomyIn k → Unheld k → Fade k (turnedIf true (oneTick k))
 one-by-one k R U =
     let f = tick-fades k R in
     let g = turned-fades (oneTick k) (f .roomy) (still-ready k (U .sound .running .runs .ready)) in

@@ -127,13 +127,3 @@ module _ (k : State) (N : Nearly (settled (k .tick)) k) {us : Uses} (U : Used us
       go false e =
           let busy : 0 < k .hold = omega (arith, eqb-false (k .hold) 0 e) in
           nearly-sound k N (record { runs = R busy; no-higher = λ h. absurd (omega arith) }) U
-
--- choose changes no task
-pub chosen-tasks : (k : State) → chosen k .tasks ≡ k .tasks
-unfolding chosen
-chosen-tasks k = go (eqb (k .hold) 0) (first k AllReady)
-  where
-    go : (b : Bool) (l : List TaskSlot) → (if b then runsIf k l else k) .tasks ≡ k .tasks
-    go true [] = refl
-    go true (t ∷ l) = refl
-    go false l = refl
