@@ -23,7 +23,7 @@ singly n d = upTo (λ x i. step (x .kernel) Tick [] (x .store)) n d
 abbrev pub atFirst : State → List ℕ → Stepped
 atFirst k s = record { kernel = k; answer = says done 0; store = s }
 
--- an advance by n: the same kernel, answer and store, "and the same at every prefix"
+-- an advance by n: the same kernel, answer and store; and the same in two parts, wherever it is cut
 pub record AsTicks (k : State) (item s : List ℕ) (n : ℕ) : Type 0 where
   pub same : step k (Advance n) item s ≡ singly n (atFirst k s)
   pub prefix : (m l : ℕ) → 1 ≤ m → 1 ≤ l → n ≡ m + l → let d = step k (Advance m) item s in step (d .kernel) (Advance l) item (d .store) ≡ step k (Advance n) item s
@@ -34,16 +34,16 @@ pub record AdvanceRefused (k : State) (item s : List ℕ) (n : ℕ) : Type 0 whe
   pub too-many : 65535 < n → refusal k (asked (k .uses) (Advance n)) (length item) (length s) ≡ 4
   pub held : 1 ≤ n → n ≤ 65535 → 0 < k .hold → refusal k (asked (k .uses) (Advance n)) (length item) (length s) ≡ 8
 
--- "how many ticks may be slept through before anybody is due (none: for ever)"
+-- how many ticks may be slept through before anybody is due; none: for ever
 pub record SleepsSo (k : State) : Type 0 where
-  -- "an advance of fewer wakes no one": no task changes, whatever the store, and in single ticks as in an advance
+  -- fewer wake no one: no task changes, whatever the store, and in single ticks as in an advance
   pub fewer : (s : List ℕ) (d n : ℕ) → sleeps k ≡ d ∷ [] → n < d → singly n (atFirst k s) .kernel .tasks ≡ k .tasks
   pub for-ever : (s : List ℕ) (n : ℕ) → sleeps k ≡ [] → singly n (atFirst k s) .kernel .tasks ≡ k .tasks
   pub fewer-advanced : (item s : List ℕ) (d n : ℕ) → sleeps k ≡ d ∷ [] → n < d → step k (Advance n) item s .kernel .tasks ≡ k .tasks
   pub advanced-for-ever : (item s : List ℕ) (n : ℕ) → sleeps k ≡ [] → step k (Advance n) item s .kernel .tasks ≡ k .tasks
   -- nor does a release that runs fewer pended ticks
   pub fewer-released : (d : ℕ) → sleeps k ≡ d ∷ [] → k .pended < d → released k .tasks ≡ k .tasks
-  -- "of that many wakes someone": where there is no hold, with which a tick is pended; in single ticks however many they are, and in an advance within its range
+  -- that many wake someone, where there is no hold, with which a tick is pended; in single ticks however many they are, and in an advance within its range
   pub that-many : (s : List ℕ) (d : ℕ) → sleeps k ≡ d ∷ [] → k .hold ≡ 0 → length s ≡ 9216 → SomeoneWakes k (singly d (atFirst k s) .kernel)
   pub that-many-advanced : (item s : List ℕ) (d : ℕ) → sleeps k ≡ d ∷ [] → k .hold ≡ 0 → length s ≡ 9216 → d ≤ 65535 → SomeoneWakes k (step k (Advance d) item s .kernel)
 
@@ -55,7 +55,7 @@ wakesSome k = any (λ t. not (hasBegun (oneTick k .tasks) t)) (begun (k .tasks) 
 unfoldable pub wakings : Bool → ℕ → State → ℕ
 wakings turns n k = upTo (λ c i. c + (if wakesSome (ticks turns i k) then 1 else 0)) n 0
 
--- "at most one round for each tick on which somebody wakes, at most 15 in all, whatever n": in an advance, and in a release's pended ticks
+-- at most fifteen, however many the ticks: in an advance, and in the pended ticks of a release
 pub record FewWakings (k : State) : Type 0 where
   pub in-advance : (n : ℕ) → k .hold ≡ 0 → wakings true n k ≤ 15
   pub in-release : (n : ℕ) → wakings false n (withHold k 0 0) ≤ 15

@@ -80,7 +80,7 @@ advanced k n = ticks true n k
 abbrev pub untilSome : ℕ → List ℕ
 untilSome d = if ltb d 4294967295 then (d + 1) ∷ [] else []
 
--- for the board: "how many ticks may be slept through before anybody is due". Nobody ever is in a kernel that is not sound, which refuses every call
+-- for the board: how many ticks may be slept through before anybody is due. Nobody ever is in a kernel that is not sound, which refuses every call
 unfoldable pub sleeps : State → List ℕ
 sleeps k = if sound k then untilSome (untilDue (k .tick) (k .tasks)) else []
 
