@@ -135,8 +135,8 @@ meters-fit = record {
   waiter-advanced = refl;
 }
 
--- of 40 ticks fifteen wake a meter, and more cannot
-pub fifteen-wake : wakings true 40 (reached (map unlent eachItsOwnTick)) ≡ 15
+-- of 16 ticks fifteen wake a meter, and of no number more
+pub fifteen-wake : wakings true 16 (reached (map unlent eachItsOwnTick)) ≡ 15
 unfolding wakings trace eachItsOwnTick every allBelow foldl upTo index any kept asked ordered without count tidy putAt created deleted suspended resumed yielded
     delayed queueMade mutexMade removed taken handedOn given effect itemAt outlet sent storeSent received storeReceived line those begun highest leader
     first chosen toTail toHead leaves moved movedIf prioritized newPriority lent ownAgain outOfRange namesNone wrongSize notForIdle notWithHold

@@ -140,6 +140,5 @@ waiterAdvanced = record {
 -- fifteen meters, each of which sleeps to another tick
 unfoldable pub eachItsOwnTick : List Call
 eachItsOwnTick =
-    Create 3 ∷ Delay 30 ∷ Create 3 ∷ Delay 28 ∷ Create 3 ∷ Delay 26 ∷ Create 3 ∷ Delay 24 ∷ Create 3 ∷ Delay 22 ∷ Create 3 ∷ Delay 20 ∷ Create 3 ∷ Delay 18
-    ∷ Create 3 ∷ Delay 16 ∷ Create 3 ∷ Delay 14 ∷ Create 3 ∷ Delay 12 ∷ Create 3 ∷ Delay 10 ∷ Create 3 ∷ Delay 8 ∷ Create 3 ∷ Delay 6 ∷ Create 3 ∷ Delay 4
-    ∷ Create 3 ∷ Delay 2 ∷ []
+    Create 3 ∷ Delay 15 ∷ Create 3 ∷ Delay 14 ∷ Create 3 ∷ Delay 13 ∷ Create 3 ∷ Delay 12 ∷ Create 3 ∷ Delay 11 ∷ Create 3 ∷ Delay 10 ∷ Create 3 ∷ Delay 9 ∷ Create 3 ∷ Delay 8
+    ∷ Create 3 ∷ Delay 7 ∷ Create 3 ∷ Delay 6 ∷ Create 3 ∷ Delay 5 ∷ Create 3 ∷ Delay 4 ∷ Create 3 ∷ Delay 3 ∷ Create 3 ∷ Delay 2 ∷ Create 3 ∷ Delay 1 ∷ []
