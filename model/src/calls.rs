@@ -109,8 +109,7 @@ pub fn step(kernel: &mut Kernel, store: &mut [u8], call: &Call) -> Answer {
     // "The caller is the running task."
     let caller = kernel.running;
     let made = take_effect(kernel, store, call);
-    // "Every accepted call ends with choose."
-    kernel.choose();
+    end(kernel);
     match made {
         Some(number) => Answer::Made(number),
         // "waiting (given exactly if the caller is now delayed or waits on an object)"
@@ -119,9 +118,15 @@ pub fn step(kernel: &mut Kernel, store: &mut [u8], call: &Call) -> Answer {
     }
 }
 
+/// "Every accepted call ends with choose", and the loans are "worked out afresh before choose".
+fn end(kernel: &mut Kernel) {
+    kernel.work_out_loans();
+    kernel.choose();
+}
+
 const NAMED: &str = "the refusals have seen that the number names one";
 
-/// The effect of an accepted call, without the choose. Gives the new number, if any.
+/// The effect of an accepted call, without its end. Gives the new number, if any.
 fn take_effect(kernel: &mut Kernel, store: &mut [u8], call: &Call) -> Option<u32> {
     match *call {
         Call::Create { priority } => return Some(create(kernel, priority as u8)),
@@ -129,8 +134,10 @@ fn take_effect(kernel: &mut Kernel, store: &mut [u8], call: &Call) -> Option<u32
         Call::Suspend { task } => suspend(kernel, kernel.find_task(task).expect(NAMED)),
         // "made ready"
         Call::Resume { task } => kernel.make_ready(kernel.find_task(task).expect(NAMED)),
+        // "own changes"
         Call::SetPriority { task, priority } => {
-            set_priority(kernel, kernel.find_task(task).expect(NAMED), priority as u8)
+            let task = kernel.find_task(task).expect(NAMED);
+            kernel.task_mut(task).own = priority as u8;
         }
         // "0: as yield; else delayed"
         Call::Delay { ticks: 0 } => kernel.turn_running_line(),
@@ -200,14 +207,6 @@ fn suspend(kernel: &mut Kernel, task: TaskSlot) {
         Stand::Suspended | Stand::Free => {}
     }
     kernel.task_mut(task).stand = Stand::Suspended;
-}
-
-/// "own changes; effective becomes own if no mutex is held, else the larger of
-/// effective and new (D)"
-fn set_priority(kernel: &mut Kernel, task: TaskSlot, priority: u8) {
-    kernel.task_mut(task).own = priority;
-    let effective = if kernel.holds_a_mutex(task) { kernel.task(task).effective.max(priority) } else { priority };
-    kernel.set_effective(task, effective);
 }
 
 /// "Release to depth 0 runs each pended tick's count and wakes in turn, without the
@@ -283,30 +282,19 @@ fn receive(kernel: &mut Kernel, store: &mut [u8], object: ObjectSlot, queue: Que
 }
 
 fn take(kernel: &mut Kernel, object: ObjectSlot, holder: Option<TaskSlot>, wait: u32) {
-    let caller = kernel.running;
     match holder {
         // "A free mutex becomes the caller's."
-        None => kernel.object_mut(object).kind = Kind::Mutex { holder: Some(caller) },
-        // "Held by another: the caller waits, and the holder's effective priority
-        // becomes the larger of the two effective ones. Nothing is passed further along."
-        Some(holder) => {
-            kernel.wait_running(object, Role::Taker, wait);
-            let larger = kernel.task(holder).effective.max(kernel.task(caller).effective);
-            kernel.set_effective(holder, larger);
-        }
+        None => kernel.object_mut(object).kind = Kind::Mutex { holder: Some(kernel.running) },
+        // "Held by another: the caller waits".
+        Some(_) => kernel.wait_running(object, Role::Taker, wait),
     }
 }
 
+/// "The first waiter becomes holder and is made ready, outcome 1; with none, the mutex is
+/// free."
 fn give(kernel: &mut Kernel, object: ObjectSlot) {
-    let giver = kernel.running;
-    // "The first waiter becomes holder and is made ready, outcome 1; with none, the
-    // mutex is free."
     let holder = kernel.wake_first_waiter(object);
     kernel.object_mut(object).kind = Kind::Mutex { holder };
-    // "A giver now holding none gets its own priority back."
-    if !kernel.holds_a_mutex(giver) {
-        kernel.set_effective(giver, kernel.task(giver).own);
-    }
 }
 
 fn tick(kernel: &mut Kernel) {
@@ -323,11 +311,11 @@ fn tick(kernel: &mut Kernel) {
 }
 
 /// "the result must equal n single ticks one by one, turns of the line and wakes included".
-/// Each of them is a whole call 17, which ends with choose.
+/// Each of them is a whole call 17.
 pub fn single_ticks(kernel: &mut Kernel, ticks: u32) {
     for _ in 0..ticks {
         tick(kernel);
-        kernel.choose();
+        end(kernel);
     }
 }
 
@@ -344,8 +332,8 @@ fn advance(kernel: &mut Kernel, ticks: u32) {
 }
 
 /// The shortcut: "the call can jump where the running task is alone in its line and nothing
-/// is due". On such a tick the count goes up, nobody is woken, and the turn of a line of one
-/// leaves it as it was. Gives how many ticks were passed, at most as many as are left.
+/// is due". On such a tick the count goes up, nobody is woken, no loan ends, and the turn of a
+/// line of one leaves it as it was. Gives how many ticks were passed, at most as many as are left.
 pub fn jump(kernel: &mut Kernel, left: u32) -> u32 {
     let alone = kernel.running_line().len() == 1;
     let ticks = if alone { kernel.quiet_ticks().min(left) } else { 0 };

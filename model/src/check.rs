@@ -1,13 +1,15 @@
-//! The self-check: document 01's soundness sentence, with request 1's clauses on uses and
-//! request 3's on the remembered order, over the kernel's own structures, and what can be
-//! said of one step by looking at the kernel before and after; of an advance, that it is as
-//! many single ticks.
+//! The self-check: document 01's soundness sentence, with request 1's clauses on uses,
+//! request 3's on the remembered order and request 5's on loans, over the kernel's own
+//! structures, and what can be said of one step by looking at the kernel before and after: the
+//! lines, by when each task was last put into one; of an advance, that it is as many single
+//! ticks.
 
 use crate::calls::{single_ticks, step, Answer, Call, Named};
 use crate::kernel::{
     Kernel, Kind, ObjectSlot, Outcome, Role, Stand, Task, TaskSlot, IDLE, LAST_USE, MOST_HOLD, MOST_PENDED, PRIORITIES,
     RETIRED, TASKS,
 };
+use crate::loans::{by_search, by_walks};
 use crate::refusals::{refusal, refusal_by_rows};
 
 fn must(holds: bool, sentence: &str) -> Result<(), String> {
@@ -27,6 +29,7 @@ pub fn soundness(kernel: &Kernel) -> Result<(), String> {
     for task in TaskSlot::all() {
         check_task(kernel, task)?;
     }
+    check_loans(kernel)?;
     for object in ObjectSlot::all() {
         check_object(kernel, object)?;
     }
@@ -127,10 +130,14 @@ fn check_task(kernel: &Kernel, task: TaskSlot) -> Result<(), String> {
         return must(*slot == Task::free(slot.uses), "free slots carry the fresh values");
     }
     must((slot.own.max(slot.effective) as usize) < PRIORITIES, "counts and places obey the ranges")?;
-    must(slot.effective >= slot.own, "effective is at least own")?;
-    must(slot.effective == slot.own || kernel.holds_a_mutex(task), "and equal to it for a task that holds nothing")?;
     must(slot.wake() != Some(kernel.tick), "no wake tick of a delayed or waiting task equals the tick count")?;
     must(!kernel.is_blocked(task) || slot.outcome == Outcome::None, "an outcome is 0 if delayed or waiting")
+}
+
+/// "Soundness and demand 3's last sentence read this rule from now on".
+fn check_loans(kernel: &Kernel) -> Result<(), String> {
+    let effective = by_walks(kernel, |_| true);
+    must(kernel.tasks.map(|task| task.effective) == effective, "effective is what the rule of loans says")
 }
 
 fn check_object(kernel: &Kernel, object: ObjectSlot) -> Result<(), String> {
@@ -190,6 +197,7 @@ fn check_step(
         before.hold == 0 || after.hold == 0 || before.running == after.running,
         "with a hold, the running task stays",
     )?;
+    must(by_search(after) == by_walks(after, |_| true), "a search and walks find the same loans")?;
     check_uses(before, call, answer, after)?;
     if let Answer::Made(number) = answer {
         check_made(before, call, number, after)?;
@@ -199,9 +207,10 @@ fn check_step(
     }
     check_arrival(&before.began, &after.began, caller)?;
     match *call {
-        Call::Advance { ticks } if answer == Answer::Done => check_advance(before, ticks, after),
-        _ if after.tick != before.tick => check_wakes(before, after),
-        _ => Ok(()),
+        _ if matches!(answer, Answer::Refused(_)) => Ok(()),
+        Call::Advance { ticks } => check_advance(before, ticks, after),
+        _ if after.tick != before.tick => check_places(before, &moments_of_ticks(before, after.tick), call, after),
+        _ => check_places(before, &moments_of_call(before, after), call, after),
     }
 }
 
@@ -214,25 +223,93 @@ fn check_arrival(old: &[TaskSlot], new: &[TaskSlot], caller: TaskSlot) -> Result
     must(came.is_empty() || came == [caller], "only the caller can begin to wait")
 }
 
-/// "Among tasks due on one tick, make ready first whoever began its delay or wait earlier",
-/// and of two ticks of a release, those due on the first. In each line the woken stand so.
-fn check_wakes(before: &Kernel, after: &Kernel) -> Result<(), String> {
-    let ticks = after.tick.wrapping_sub(before.tick);
-    let is_due = |task: &TaskSlot| before.distance(*task).is_some_and(|distance| distance <= ticks);
-    let mut due: Vec<TaskSlot> = before.began.iter().copied().filter(is_due).collect();
-    due.sort_by_key(|&task| before.distance(task));
+/// When a task was last put into a line within a call: on which of its ticks, whether as its
+/// line changed and not as it was made ready, and which of those.
+type Moment = (u32, bool, usize);
+
+/// "Among tasks due on one tick, make ready first whoever began its delay or wait earlier";
+/// then "tasks whose line changes move in order of task number". So for each tick up to this
+/// count, by the waits that are left after it.
+fn moments_of_ticks(before: &Kernel, count: u32) -> [Option<Moment>; TASKS] {
+    let ticks = count.wrapping_sub(before.tick);
+    let within = |task: TaskSlot, ticks: u32| before.distance(task).is_some_and(|distance| distance <= ticks);
+    let mut waking: Vec<u32> = before.began.iter().filter_map(|&task| before.distance(task)).collect();
+    waking.retain(|&tick| tick <= ticks);
+    waking.sort_unstable();
+    waking.dedup();
+    let mut moments = [None; TASKS];
+    let mut effective = before.tasks.map(|task| task.effective);
+    for tick in waking {
+        for (place, &task) in before.began.iter().enumerate() {
+            if before.distance(task) == Some(tick) {
+                moments[task.index()] = Some((tick, false, place));
+            }
+        }
+        let changed = by_walks(before, |task| !within(task, tick));
+        for task in TaskSlot::all() {
+            let slot = task.index();
+            let is_ready = before.task(task).stand == Stand::Ready || within(task, tick);
+            if is_ready && changed[slot] != effective[slot] {
+                moments[slot] = Some((tick, true, slot));
+            }
+        }
+        effective = changed;
+    }
+    moments
+}
+
+/// The same for a call that runs no tick: at most one task is made ready, and then those whose
+/// line changes move.
+fn moments_of_call(before: &Kernel, after: &Kernel) -> [Option<Moment>; TASKS] {
+    std::array::from_fn(|slot| {
+        let (old, new) = (&before.tasks[slot], &after.tasks[slot]);
+        let was = if old.is_free() { new.own } else { old.effective };
+        match new.stand {
+            Stand::Ready if new.effective != was => Some((0, true, slot)),
+            Stand::Ready if old.stand != Stand::Ready => Some((0, false, slot)),
+            _ => None,
+        }
+    })
+}
+
+/// Each line has those who stayed, then those who came as they came; but a running task comes
+/// to the head. A turn is last.
+fn check_places(before: &Kernel, moments: &[Option<Moment>; TASKS], call: &Call, after: &Kernel) -> Result<(), String> {
+    let caller = before.running;
+    let mut came: Vec<TaskSlot> = TaskSlot::all().filter(|task| moments[task.index()].is_some()).collect();
+    came.sort_by_key(|task| moments[task.index()]);
+    let turns = match call {
+        Call::Yield | Call::Delay { ticks: 0 } => true,
+        Call::Tick => before.hold == 0 && after.highest_line() == after.task(caller).effective as usize,
+        _ => false,
+    };
     for (priority, line) in after.lines.iter().enumerate() {
-        let woken = line.iter().filter(|&&task| before.is_blocked(task));
-        let wanted = due.iter().filter(|&&task| after.task(task).effective as usize == priority);
-        must(woken.eq(wanted), "who began its delay or wait earlier is made ready first")?;
+        let stayed = |task: &&TaskSlot| after.task(**task).stand == Stand::Ready && moments[task.index()].is_none();
+        let of_line = |task: &&TaskSlot| after.task(**task).effective as usize == priority;
+        let mut wanted: Vec<TaskSlot> = before.lines[priority].iter().filter(stayed).copied().collect();
+        wanted.extend(came.iter().filter(of_line));
+        if let Some(place) = wanted.iter().position(|&task| task == caller) {
+            wanted[..=place].rotate_right(1);
+            if turns {
+                wanted.rotate_left(1);
+            }
+        }
+        must(*line == wanted, "who comes into a line stands as it came, a running task at the head")?;
     }
     Ok(())
 }
 
-/// "the result must equal n single ticks one by one". Here each of them is run.
+/// "the result must equal n single ticks one by one". Here each of them is run, and looked at
+/// if it wakes somebody.
 fn check_advance(before: &Kernel, ticks: u32, after: &Kernel) -> Result<(), String> {
     let mut kernel = before.clone();
-    single_ticks(&mut kernel, ticks);
+    for _ in 0..ticks {
+        let was = (kernel.quiet_ticks() == 0).then(|| kernel.clone());
+        single_ticks(&mut kernel, 1);
+        if let Some(was) = was {
+            check_places(&was, &moments_of_ticks(&was, kernel.tick), &Call::Tick, &kernel)?;
+        }
+    }
     must(kernel == *after, "the result must equal n single ticks one by one")
 }
 

@@ -138,7 +138,7 @@ impl Coverage {
         *self.events.entry(name).or_insert(0) += 1;
     }
 
-    fn event_if(&mut self, happened: bool, name: &'static str) {
+    pub fn event_if(&mut self, happened: bool, name: &'static str) {
         if happened {
             self.event(name);
         }
@@ -199,6 +199,7 @@ impl Coverage {
 
     /// Names what an accepted call did, by the kernel before and after.
     pub fn observe(&mut self, before: &Kernel, call: &Call, after: &Kernel) {
+        self.observe_loans(before, call, after);
         let caller = before.running;
         let woken = |outcome: Outcome| {
             TaskSlot::all()
@@ -307,10 +308,6 @@ impl Coverage {
                 let (object, _) = before.find_mutex(object).expect("accepted");
                 self.observe_first_waiter(before, object);
                 self.event_if(!before.object(object).waiters.is_empty(), "give: passed to a waiter");
-                let had_loan = before.task(caller).effective > before.task(caller).own;
-                let still_holds = after.holds_a_mutex(caller);
-                self.event_if(had_loan && still_holds, "give: loan kept, another mutex still held");
-                self.event_if(had_loan && !still_holds, "give: own priority comes back");
             }
             Call::Suspend { task } | Call::Delete { task } => {
                 let task = before.find_task(task).expect("accepted");
@@ -325,11 +322,9 @@ impl Coverage {
                 self.event_if(!suspend && delayed, "delete: a delayed task");
                 self.event_if(!suspend && task == caller, "delete: the caller");
             }
-            Call::SetPriority { task, priority } => {
+            Call::SetPriority { task, .. } => {
                 let task = before.find_task(task).expect("accepted");
-                let lower = priority < u32::from(before.task(task).effective);
                 let waits = matches!(before.task(task).stand, Stand::Waiting { .. });
-                self.event_if(lower && before.holds_a_mutex(task), "set priority: a holder lower, effective stays");
                 self.event_if(waits, "set priority: a waiter");
                 self.event_if(task == caller, "set priority: the caller");
                 self.event_if(task == IDLE, "set priority: idle to 0");

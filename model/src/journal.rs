@@ -6,9 +6,10 @@ use crate::coverage::Coverage;
 use crate::damage;
 use crate::kernel::{
     apart, number_of, Kernel, Kind, ObjectSlot, Stand, TaskSlot, FOR_EVER, IDLE, LAST_USE, MOST_ADVANCE, MOST_HOLD,
-    MOST_PENDED, RETIRED,
+    MOST_PENDED, RETIRED, TASKS,
 };
 use crate::line::{read_call, ITEM_BYTES};
+use crate::loans;
 use crate::machine::Machine;
 use crate::random::Random;
 use crate::refusals::refusal;
@@ -17,14 +18,14 @@ use crate::refusals::refusal;
 #[rustfmt::skip]
 const MOODS: [[u32; 19]; 10] = [
     // cre del sus res set dly yld hld rel mkq mkm rem snd rcv tak giv tick adv
-    [0,  6,  2,  4,  6,  5,  7,  4,  2,  4,  3,  3,  2, 14, 14,  9,  8, 12, 12], // mixed
-    [0,  6,  2,  3,  4,  2, 16,  4,  2,  4,  2,  1,  1,  8,  8,  6,  4, 30,  6], // time
-    [0,  6,  2,  3,  4,  3,  3,  2,  1,  3,  4,  0,  2, 28, 28,  1,  2,  8,  9], // queues
-    [0,  6,  2,  4,  5,  8,  4,  2,  1,  3,  0,  5,  1,  2,  2, 26, 16,  8,  9], // mutexes
-    [0,  4,  2,  4,  4,  5,  6,  1, 12, 12,  2,  2,  1,  8,  8,  5,  5, 24,  7], // holds
-    [0, 12, 12,  8, 10,  6,  4,  2,  1,  3, 10,  8, 14,  8,  8,  6,  5,  6,  9], // slots
-    [0,  8,  1,  2,  4,  6,  4, 16,  1,  3,  1,  2,  1,  4,  4,  6,  6, 24,  8], // crowd
-    [0,  2,  1,  6,  2,  3, 24,  2,  2,  6,  3,  1,  2, 12, 20,  6,  2,  6,  6], // quiet: idle runs often
+    [0,  6,  2,  4,  6,  5,  7,  4,  2,  4,  3,  3,  2, 14, 14,  9,  8, 12, 15], // mixed
+    [0,  6,  2,  3,  4,  2, 16,  4,  2,  4,  2,  1,  1,  8,  8,  6,  4, 30, 10], // time
+    [0,  6,  2,  3,  4,  3,  3,  2,  1,  3,  4,  0,  2, 28, 28,  1,  2,  8, 11], // queues
+    [0,  6,  2,  4,  5,  8,  4,  2,  1,  3,  0,  5,  1,  2,  2, 26, 16,  8, 14], // mutexes
+    [0,  4,  2,  4,  4,  5,  6,  1, 12, 12,  2,  2,  1,  8,  8,  5,  5, 24, 10], // holds
+    [0, 12, 12,  8, 10,  6,  4,  2,  1,  3, 10,  8, 14,  8,  8,  6,  5,  6, 12], // slots
+    [0,  8,  1,  2,  4,  6,  4, 16,  1,  3,  1,  2,  1,  4,  4,  6,  6, 24, 11], // crowd
+    [0,  2,  1,  6,  2,  3, 24,  2,  2,  6,  3,  1,  2, 12, 20,  6,  2,  6,  9], // quiet: idle runs often
     [0,  6,  2,  3,  5,  4, 20,  4,  1,  3,  2,  2,  1,  8,  9,  9,  4,  3, 46], // sleep
     [0,  9,  1,  2,  4,  6,  9,  6,  1,  3,  2,  2,  1,  7,  7,  9,  7,  3, 46], // sleep in a crowd
 ];
@@ -63,12 +64,25 @@ enum Plan {
     Pend(u32),
     /// Holds up to depth 255, then this many more lines.
     Climb(u32),
-    /// Releases down to depth 0; now and then `Gather` follows.
+    /// Releases down to depth 0; now and then `Gather` or `Untie` follows.
     Descend,
     /// Delays and waits that end on this tick or one of the next two, for this many lines, then `Pass`.
     Gather(u32, u32),
     /// Ticks up to this one, in this way; then `Descend`.
     Pass(u32, Way),
+    /// Mutexes are taken, and waited on up to this tick or one of the next two, for this many lines, so that chains
+    /// and circles come about; then `Stir`. Or many wait on one mutex, and `Untie` follows.
+    Link(u32, u32, bool),
+    /// Calls that change what is lent along chains, for this many lines, then `Pass` to this tick or `Untie`.
+    Stir(u32, u32),
+    /// Mutexes are given back, for this many lines.
+    Untie(u32),
+    /// Tasks are deleted, and who holds a mutex gives it, until half of the task slots are free or for this many lines;
+    /// then `Link` or `Pair`.
+    Clear(u32),
+    /// Tasks of the first priority each take a mutex, and tasks of the second each wait on one of these up to this tick
+    /// or the next, for this many lines; then `Pass` or `Untie`.
+    Pair(u32, u32, (u32, u32)),
     /// Waits that end about when the count returns to 0, for this many lines, then `Lap`.
     Await(u32),
     /// Advances up to this count, each by a task alone in its line; then `Gather`.
@@ -245,6 +259,9 @@ impl Author {
         if self.plan == Plan::None && self.kernel().hold == 0 && self.random.below(22) == 0 {
             self.plan = self.gather_tasks();
         }
+        if self.plan == Plan::None && self.kernel().hold == 0 && self.random.below(32) == 0 {
+            self.plan = if self.random.percent(25) { self.link_tasks() } else { Plan::Clear(24) };
+        }
         if self.plan == Plan::None && self.random.below(400) == 0 {
             self.plan = self.fill_a_queue();
         }
@@ -279,6 +296,41 @@ impl Author {
     fn gather_tasks(&mut self) -> Plan {
         let ticks = self.random.between(3, MOST_AHEAD);
         Plan::Gather(self.kernel().tick.wrapping_add(ticks), self.random.between(6, 24))
+    }
+
+    /// A plan for chains of waits that end together, some ticks from now. Few priorities, so that lines have several.
+    fn link_tasks(&mut self) -> Plan {
+        let span = self.random.pick(&[1, 2, 3, 5, 31]);
+        self.low = self.random.below(32 - span);
+        self.high = self.low + span;
+        let ticks = self.random.between(3, MOST_AHEAD);
+        let crowd = self.random.percent(25);
+        Plan::Link(self.kernel().tick.wrapping_add(ticks), self.random.between(10, 40), crowd)
+    }
+
+    /// A plan for loans that end together. Who is to take a mutex is level with the running task.
+    fn pair_tasks(&mut self) -> Plan {
+        let kernel = self.kernel();
+        let level = u32::from(kernel.task(kernel.running).effective);
+        let tick = kernel.tick;
+        if level > 30 {
+            return Plan::None;
+        }
+        let low = level.max(1);
+        let high = self.random.between(low + 1, 31);
+        Plan::Pair(tick.wrapping_add(self.random.between(3, MOST_AHEAD)), 30, (low, high))
+    }
+
+    /// Ticks up to this one and two more, in any way; one by one over the count's return to 0.
+    fn pass_to(&mut self, due: u32) -> Plan {
+        let until = due.wrapping_add(2);
+        let way = match self.random.below(100) {
+            0..=42 => Way::Single,
+            43..=74 => Way::Pended,
+            _ if until < self.kernel().tick => Way::Pended,
+            _ => Way::Advance,
+        };
+        Plan::Pass(until, way)
     }
 
     /// A plan for the queue of most places, or none without one.
@@ -333,8 +385,8 @@ impl Author {
                     return self.bring_a_task().or_else(|| Some(self.any_but(18)));
                 }
                 let wait = match self.random.below(100) {
-                    0..=39 => self.random.between(64_000, 65_600),
-                    40..=64 => self.wait_like_another(),
+                    0..=49 => self.random.between(62_000, 65_600),
+                    50..=64 => self.wait_like_another(),
                     _ => self.random.between(1, 65_000),
                 };
                 Some(self.begin(wait))
@@ -362,7 +414,11 @@ impl Author {
             }
             Plan::Descend => {
                 if hold == 0 {
-                    self.plan = if self.random.percent(30) { self.gather_tasks() } else { Plan::None };
+                    self.plan = match self.random.below(100) {
+                        0..=29 => self.gather_tasks(),
+                        30..=39 => Plan::Untie(self.random.between(6, 20)),
+                        _ => Plan::None,
+                    };
                     return None;
                 }
                 if often {
@@ -376,12 +432,7 @@ impl Author {
                 let idle_calls = self.kernel().running == IDLE;
                 let enough = left == 0 || (idle_calls && self.random.percent(15));
                 if enough || !(2..=MOST_AHEAD).contains(&ticks) {
-                    let way = match self.random.below(100) {
-                        0..=44 => Way::Single,
-                        45..=84 => Way::Pended,
-                        _ => Way::Advance,
-                    };
-                    self.plan = Plan::Pass(due.wrapping_add(2), way);
+                    self.plan = self.pass_to(due);
                     return None;
                 }
                 self.plan = Plan::Gather(due, left - 1);
@@ -419,9 +470,65 @@ impl Author {
                     _ => self.mostly(call(&[17])),
                 }
             }
+            Plan::Link(due, left, crowd) => {
+                let ticks = due.wrapping_sub(self.kernel().tick);
+                if left == 0 || !(1..=MOST_AHEAD).contains(&ticks) {
+                    self.plan = if crowd { Plan::Untie(16) } else { Plan::Stir(due, self.random.below(20)) };
+                    return None;
+                }
+                self.plan = Plan::Link(due, left - 1, crowd);
+                let fields = if hold > 0 { Some(call(&[9])) } else { self.link_call(ticks, crowd) };
+                fields.filter(|fields| often && self.refusal_of(fields).is_none())
+            }
+            Plan::Stir(due, left) => {
+                let ticks = due.wrapping_sub(self.kernel().tick);
+                if left == 0 || !(1..=MOST_AHEAD).contains(&ticks) {
+                    let untie = self.random.percent(35);
+                    self.plan = if untie { Plan::Untie(8) } else { self.pass_to(due) };
+                    return None;
+                }
+                self.plan = Plan::Stir(due, left - 1);
+                let release = hold > 0 && self.random.percent(70);
+                let fields = if release { Some(call(&[9])) } else { self.stir_call() };
+                fields.filter(|fields| often && self.refusal_of(fields).is_none())
+            }
+            Plan::Clear(left) => {
+                let free = self.kernel().tasks.iter().filter(|task| task.is_free()).count();
+                if left == 0 || free > TASKS / 2 {
+                    self.plan = if self.random.percent(50) { self.link_tasks() } else { self.pair_tasks() };
+                    return None;
+                }
+                self.plan = Plan::Clear(left - 1);
+                let fields = if hold > 0 { Some(call(&[9])) } else { self.clear_call() };
+                fields.filter(|fields| often && self.refusal_of(fields).is_none())
+            }
+            Plan::Pair(due, left, (low, high)) => {
+                let ticks = due.wrapping_sub(self.kernel().tick);
+                if left == 0 || !(1..=MOST_AHEAD).contains(&ticks) {
+                    self.plan = self.pass_to(due);
+                    return None;
+                }
+                self.plan = Plan::Pair(due, left - 1, (low, high));
+                if hold > 0 {
+                    return Some(call(&[9]));
+                }
+                let fields = self.pair_call(ticks, low, high);
+                if fields.is_none() {
+                    self.plan = if self.random.percent(30) { Plan::Untie(8) } else { self.pass_to(due) };
+                }
+                fields.filter(|fields| often && self.refusal_of(fields).is_none())
+            }
+            Plan::Untie(0) => {
+                self.plan = Plan::None;
+                None
+            }
+            Plan::Untie(left) => {
+                self.plan = Plan::Untie(left - 1);
+                self.untie_call()
+            }
             Plan::Await(0) => {
                 // Short of the return, so that many calls meet it; or past it, so that one advance does.
-                let (short, past) = (0u32.wrapping_sub(self.random.between(1, 12)), self.random.between(1, 60_000));
+                let (short, past) = (0u32.wrapping_sub(self.random.between(1, 7)), self.random.between(1, 60_000));
                 self.plan = Plan::Lap(if self.random.percent(60) { short } else { past });
                 None
             }
@@ -506,6 +613,204 @@ impl Author {
                 self.mostly(make)
             }
         }
+    }
+
+    /// The running task takes a mutex, and another on which it waits for about so many ticks; or another task is
+    /// brought to run.
+    fn link_call(&mut self, ticks: u32, crowd: bool) -> Option<Fields> {
+        if self.kernel().running == IDLE {
+            return self.bring_a_task();
+        }
+        let kernel = &self.machine.kernel;
+        let caller = kernel.running;
+        let of_another = |object: &ObjectSlot| match kernel.object(*object).kind {
+            Kind::Mutex { holder } => holder.is_some_and(|holder| holder != caller),
+            _ => false,
+        };
+        let of_others: Vec<ObjectSlot> = ObjectSlot::all().filter(of_another).collect();
+        let holds = kernel.holds_a_mutex(caller);
+        let lent = loans::has_waiters(kernel, caller);
+        let choice = self.random.below(100);
+        if choice < 12 || (!holds && choice < 85) {
+            return Some(self.take_a_free_one());
+        }
+        // Who has waiters makes room for more of them, mostly.
+        let begins = match (lent, crowd) {
+            (true, true) => 0,
+            (true, false) => 35,
+            _ => 85,
+        };
+        if choice < begins && !of_others.is_empty() {
+            let object = self.link_to(&of_others, crowd);
+            let wait = match self.random.below(100) {
+                0..=79 => ticks + self.random.pick(&[0, 0, 0, 0, 1, 2]),
+                80..=89 => self.random.between(10, 40),
+                _ => FOR_EVER,
+            };
+            return Some(call(&[15, self.kernel().object_number(object), wait]));
+        }
+        let level = u32::from(self.kernel().task(caller).effective);
+        let fields = match self.random.below(100) {
+            0..=14 => self.candidate(1, 0),
+            // Above the running task, or level with it.
+            15..=74 => call(&[1, (level + self.random.pick(&[0, 1, 1, 2, 4])).min(31)]),
+            75..=84 => call(&[7]),
+            85..=92 => call(&[6, ticks + self.random.below(3)]),
+            _ => call(&[3, self.kernel().running_number()]),
+        };
+        Some(fields)
+    }
+
+    /// A task that holds nothing is deleted, or one that holds a mutex is brought to give it.
+    fn clear_call(&mut self) -> Option<Fields> {
+        let kernel = &self.machine.kernel;
+        let others: Vec<TaskSlot> = TaskSlot::all()
+            .filter(|&task| task != IDLE && task != kernel.running && !kernel.task(task).is_free())
+            .collect();
+        let (holders, light): (Vec<TaskSlot>, Vec<TaskSlot>) =
+            others.iter().partition(|&&task| kernel.holds_a_mutex(task));
+        if !light.is_empty() {
+            let task = self.random.pick(&light);
+            return Some(call(&[2, self.kernel().task_number(task)]));
+        }
+        if kernel.running != IDLE {
+            let caller = kernel.running_number();
+            return self.give_call().or(Some(call(&[2, caller])));
+        }
+        let holder = *holders.first()?;
+        let number = if kernel.task(holder).stand == Stand::Suspended { 4 } else { 3 };
+        Some(call(&[number, kernel.task_number(holder)]))
+    }
+
+    /// A free mutex is taken; without one, it is made.
+    fn take_a_free_one(&self) -> Fields {
+        let kernel = self.kernel();
+        let is_free = |object: &ObjectSlot| kernel.object(*object).kind == Kind::Mutex { holder: None };
+        match ObjectSlot::all().find(is_free) {
+            Some(object) => call(&[15, kernel.object_number(object), 0]),
+            None => call(&[11]),
+        }
+    }
+
+    /// What the running task does for `Pair`; none if that is reached, or it has neither priority.
+    fn pair_call(&mut self, ticks: u32, low: u32, high: u32) -> Option<Fields> {
+        const PAIRS: usize = 3;
+        let kernel = &self.machine.kernel;
+        let caller = kernel.running;
+        let is_of = |task: TaskSlot, own: u32| u32::from(kernel.task(task).own) == own;
+        let holders: Vec<TaskSlot> =
+            TaskSlot::all().filter(|&task| kernel.holds_a_mutex(task) && is_of(task, low)).collect();
+        let held_by = |holder: TaskSlot| {
+            ObjectSlot::all().find(|&object| kernel.object(object).kind == Kind::Mutex { holder: Some(holder) })
+        };
+        let unlent: Vec<TaskSlot> =
+            holders.iter().copied().filter(|&task| task != caller && !loans::has_waiters(kernel, task)).collect();
+        let yields_to =
+            |own: u32| kernel.running_line().iter().any(|&other| is_of(other, own) && !kernel.holds_a_mutex(other));
+        let enough = holders.len() >= PAIRS;
+        if is_of(caller, high) && !kernel.holds_a_mutex(caller) {
+            let holder = if self.random.percent(70) { unlent.last() } else { holders.first() };
+            let object = kernel.object_number(held_by(*holder?)?);
+            return Some(call(&[15, object, ticks + self.random.pick(&[0, 0, 0, 1])]));
+        }
+        if caller != IDLE && !is_of(caller, low) {
+            return None;
+        }
+        if caller != IDLE && (!kernel.holds_a_mutex(caller) || self.random.percent(8)) {
+            return Some(self.take_a_free_one());
+        }
+        let own = if enough { high } else { low };
+        let done = enough && unlent.is_empty() && loans::has_waiters(kernel, caller);
+        match (done, yields_to(own)) {
+            (true, _) => None,
+            (_, true) => Some(call(&[7])),
+            _ => Some(call(&[1, own])),
+        }
+    }
+
+    /// One of these mutexes: at the end of the longest chain, of a holder that waits for the caller, with the most
+    /// waiters, or any.
+    fn link_to(&mut self, mutexes: &[ObjectSlot], crowd: bool) -> ObjectSlot {
+        let kernel = &self.machine.kernel;
+        let chain_of = |object: &ObjectSlot| match kernel.object(*object).kind {
+            Kind::Mutex { holder: Some(holder) } => loans::chain(kernel, holder),
+            _ => Vec::new(),
+        };
+        let found = match self.random.below(100) {
+            _ if crowd => mutexes.iter().max_by_key(|object| kernel.object(**object).waiters.len()),
+            0..=44 => mutexes.iter().max_by_key(|object| chain_of(object).len()),
+            45..=64 => mutexes.iter().rfind(|object| chain_of(object).contains(&kernel.running)),
+            65..=79 => mutexes.iter().max_by_key(|object| kernel.object(**object).waiters.len()),
+            _ => None,
+        };
+        found.copied().unwrap_or_else(|| self.random.pick(mutexes))
+    }
+
+    /// A call that changes what is lent.
+    fn stir_call(&mut self) -> Option<Fields> {
+        let kernel = &self.machine.kernel;
+        let links = |task: &TaskSlot| loans::chain(kernel, *task).len();
+        let mut takers: Vec<TaskSlot> = TaskSlot::all().filter(|task| links(task) > 0).collect();
+        takers.sort_by_key(|task| std::cmp::Reverse(links(task)));
+        let holders: Vec<TaskSlot> = TaskSlot::all().filter(|&task| kernel.holds_a_mutex(task)).collect();
+        let light: Vec<TaskSlot> = takers.iter().copied().filter(|task| !holders.contains(task)).collect();
+        // Those far up a chain more often.
+        takers.truncate(if self.random.percent(50) { 2 } else { takers.len() });
+        let choice = self.random.below(100);
+        let (number, tasks) = match choice {
+            0..=44 => (5, &takers),
+            45..=54 => (5, &holders),
+            55..=60 => (3, &takers),
+            61..=65 => (2, &light),
+            66..=70 => return self.bring_a_task(),
+            71..=85 => return self.give_call(),
+            86..=88 => return Some(call(&[17])),
+            _ => return None,
+        };
+        if tasks.is_empty() {
+            return None;
+        }
+        let task = self.random.pick(tasks);
+        let mut fields = call(&[number, self.kernel().task_number(task)]);
+        if number == 5 {
+            let level = u32::from(self.kernel().task(task).effective);
+            fields.push(match self.random.below(100) {
+                0..=29 => self.priority(0),
+                30..=59 => decimal(self.random.between(level, 31)),
+                60..=84 => decimal(self.random.between(0, level)),
+                _ => decimal(self.random.below(32)),
+            });
+        }
+        Some(fields)
+    }
+
+    /// The running task gives a mutex, mostly one with waiters.
+    fn give_call(&mut self) -> Option<Fields> {
+        let kernel = &self.machine.kernel;
+        let own = |object: &ObjectSlot| kernel.object(*object).kind == Kind::Mutex { holder: Some(kernel.running) };
+        let held: Vec<ObjectSlot> = ObjectSlot::all().filter(own).collect();
+        let waited_on = held.iter().max_by_key(|object| kernel.object(**object).waiters.len())?;
+        let object = if self.random.percent(70) { *waited_on } else { self.random.pick(&held) };
+        let fields = call(&[16, self.kernel().object_number(object)]);
+        self.mostly(fields)
+    }
+
+    /// The running task gives a mutex; without one, it goes.
+    fn untie_call(&mut self) -> Option<Fields> {
+        if self.kernel().running == IDLE {
+            return self.bring_a_task();
+        }
+        if let Some(fields) = self.give_call() {
+            return Some(fields);
+        }
+        let caller = self.kernel().running_number();
+        let fields = match self.random.below(100) {
+            0..=39 => call(&[2, caller]),
+            40..=59 => call(&[3, caller]),
+            60..=79 => self.candidate(6, 0),
+            _ => return None,
+        };
+        self.mostly(fields)
     }
 
     /// A delay of so many ticks, or a wait of so many on an object that makes the caller wait.

@@ -1,6 +1,8 @@
 //! The kernel value: task slots, object slots, the lines of ready tasks and the order in
 //! which delayed and waiting tasks began. Quoted sentences are document 01's, and those of
-//! requests 1, 3 and 4 in document 02.
+//! requests 1 and 3 to 5 in document 02.
+
+use crate::loans;
 
 /// "16 task slots, 0 to 15."
 pub const TASKS: usize = 16;
@@ -338,6 +340,15 @@ impl Kernel {
         }
     }
 
+    /// "It is worked out afresh before choose, and after each tick's wakes; tasks whose line
+    /// changes move in order of task number." Nothing else changes an effective priority.
+    pub fn work_out_loans(&mut self) {
+        let effective = loans::by_search(self);
+        for task in TaskSlot::all() {
+            self.set_effective(task, effective[task.index()]);
+        }
+    }
+
     /// "A ready task whose effective priority changes moves to the new line, at the
     /// head if running, else at the tail; unchanged, it stays."
     pub fn set_effective(&mut self, task: TaskSlot, effective: u8) {
@@ -433,7 +444,7 @@ impl Kernel {
         self.object_mut(object).waiters.push(caller);
     }
 
-    /// One tick's count and wakes. "the count goes up, then the due tasks are made ready",
+    /// One tick's count and wakes, and then the loans. "the count goes up, then the due tasks are made ready",
     /// "a delayed one with outcome 1, a waiting one leaving its object with outcome 2".
     /// "Among tasks due on one tick, make ready first whoever began its delay or wait
     /// earlier."
@@ -449,5 +460,6 @@ impl Kernel {
             self.task_mut(task).outcome = if delayed { Outcome::Done } else { Outcome::TimeRanOut };
             self.make_ready(task);
         }
+        self.work_out_loans();
     }
 }

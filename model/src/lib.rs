@@ -1,5 +1,5 @@
-//! A second opinion on the kernel of document 01 and requests 1, 3 and 4 of document 02, written from these and the
-//! readings in docs/DECISIONS.md.
+//! A second opinion on the kernel of document 01 and requests 1 and 3 to 5 of document 02, written from these and
+//! the readings in docs/DECISIONS.md.
 
 pub mod calls;
 pub mod check;
@@ -9,6 +9,8 @@ pub mod filter;
 pub mod journal;
 pub mod kernel;
 pub mod line;
+pub mod loan_events;
+pub mod loans;
 pub mod machine;
 pub mod random;
 pub mod refusals;

@@ -122,11 +122,11 @@ fn by_one_advance(journal: &mut Journal) {
     journal.advance_to(50u32.wrapping_sub(MOST_ADVANCE));
     journal.refused();
     journal.advance(MOST_ADVANCE);
-    // Task 4 runs until task 8 is due. Below them stand 1, 5 and 6 with 3, a line that turned from 2 to 6, and 3 and 2
-    // with 2. From 4,294,967,295 to 2 task 6 was alone.
+    // Task 4 runs until task 8 is due. Below them stand 1 and 6 with 3, a line that turned from 2 to 6, and 5, 3 and 2
+    // with 2: at 5, as it ran, the loan of task 5 ended. From 4,294,967,295 to 2 task 6 was alone.
     journal.advance(2);
     journal.advance(1);
-    journal.calls(&[&[3, 8], &[3, 4], &[7], &[16, 1], &[3, 6], &[3, 1], &[3, 5], &[7], &[3, 2], &[3, 3]]);
+    journal.calls(&[&[3, 8], &[3, 4], &[7], &[3, 6], &[3, 1], &[16, 1], &[3, 5], &[7], &[3, 2], &[3, 3]]);
 }
 
 /// Task 7 gets what it waits for and runs, and nobody is due within the last long advance, up to 39,999: task 4 is due

@@ -310,9 +310,10 @@ fn waits_that_end() {
     }
     assert_eq!(machine.kernel.task(task(5)).outcome, Outcome::Done);
     assert!((0..3).all(|slot| machine.kernel.object(object(slot)).waiters.is_empty()));
-    // The loan lasts.
-    assert_eq!(machine.kernel.task(task(3)).effective, 5);
-    go_on(&mut machine, "4 3 -> ok 0 1\n18 3 -> ok 0 3\n16 1 -> ok 0 1");
+    // The loan has ended with the wait of task 2, and the mutex is still held.
+    assert_eq!(machine.kernel.task(task(3)).effective, 2);
+    go_on(&mut machine, "4 3 -> ok 0 1\n18 3 -> ok 0 1");
+    assert_eq!(line_of(&machine.kernel, 2), [3]);
 }
 
 #[test]
@@ -452,10 +453,10 @@ const OVER_THE_WRAP: &str = "
     18 1 -> ok 0 8
     3 8 -> ok 0 4
     3 4 -> ok 0 1
-    7 -> ok 0 5
-    16 1 -> ok 0 6
+    7 -> ok 0 6
     3 6 -> ok 0 1
     3 1 -> ok 0 5
+    16 1 -> ok 0 5
     3 5 -> ok 0 3
     7 -> ok 0 2
     3 2 -> ok 0 3

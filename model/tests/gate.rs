@@ -86,16 +86,18 @@ fn p9_nested_holds() {
     go_on(&mut machine, "9 -> no 15 0");
 }
 
+/// "P10 changes: the holder keeps only what its waiters lend."
 #[test]
 fn p10_a_holder_set_lower() {
-    let mut machine = session(
-        "1 9 -> ok 1 1
-         1 5 -> ok 2 1
-         11 -> ok 0 1
-         15 0 0 -> ok 0 1
-         5 1 2 -> ok 0 1",
-    );
-    assert_eq!((machine.kernel.task(task(1)).own, machine.kernel.task(task(1)).effective), (2, 9));
+    let holder = "1 9 -> ok 1 1\n1 5 -> ok 2 1\n11 -> ok 0 1\n15 0 0 -> ok 0 1";
+    // Nobody waits.
+    let mut machine = session(holder);
+    go_on(&mut machine, "5 1 2 -> ok 0 2");
+    assert_eq!((machine.kernel.task(task(1)).own, machine.kernel.task(task(1)).effective), (2, 2));
+    // Task 2 waits.
+    let mut machine = session(holder);
+    go_on(&mut machine, "3 1 -> ok 0 2\n15 0 10 -> wait 0 0\n4 1 -> ok 0 1\n5 1 2 -> ok 0 1");
+    assert_eq!((machine.kernel.task(task(1)).own, machine.kernel.task(task(1)).effective), (2, 5));
     go_on(&mut machine, "16 0 -> ok 0 2");
     assert_eq!(machine.kernel.task(task(1)).effective, 2);
 }

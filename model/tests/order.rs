@@ -211,7 +211,7 @@ fn a_changed_priority_keeps_the_place() {
 
 #[test]
 fn a_loan_keeps_the_place() {
-    // Task 3 holds the mutex and is delayed first; task 1 lends it 5, and both are due together.
+    // Task 3 holds the mutex and is delayed first; task 1 lends it 5 before and after it is due with task 2.
     let mut machine = session(
         "11 -> ok 0 0
          1 5 -> ok 1 1
@@ -224,17 +224,18 @@ fn a_loan_keeps_the_place() {
          4 2 -> ok 0 2
          6 2 -> wait 0 0
          4 1 -> ok 0 1
-         15 0 2 -> wait 0 0",
+         15 0 9 -> wait 0 0",
     );
     assert_eq!(machine.kernel.task(task(3)).effective, 5);
     assert_eq!(order_of(&machine.kernel), [3, 2, 1]);
     go_on(&mut machine, "17 -> ok 0 0\n17 -> ok 0 3");
-    assert_eq!(line_of(&machine.kernel, 5), [3, 2, 1]);
+    assert_eq!(line_of(&machine.kernel, 5), [3, 2]);
 }
 
 #[test]
 fn a_ready_holder_stands_before_the_woken() {
-    // Task 1 (3) runs with the 5 that tasks 3 and 2 lend, and goes to the tail behind them.
+    // Task 1 (3) runs with the 5 that tasks 3, 4 and 2 lend. The waits of 3 and 2 end, and it goes to the tail behind
+    // them.
     let mut machine = session(
         "11 -> ok 0 0
          1 3 -> ok 1 1
@@ -242,9 +243,11 @@ fn a_ready_holder_stands_before_the_woken() {
          8 -> ok 0 1
          1 5 -> ok 2 1
          1 5 -> ok 3 1
+         1 5 -> ok 4 1
          9 -> ok 0 2
          7 -> ok 0 3
-         15 0 2 -> wait 0 2
+         15 0 2 -> wait 0 4
+         15 0 9 -> wait 0 2
          15 0 2 -> wait 0 1
          17 -> ok 0 1",
     );
@@ -326,10 +329,8 @@ fn a_give_and_a_receive_take_one_out() {
          4 4 -> ok 0 6
          4 2 -> ok 0 6
          2 6 -> ok 0 4
-         13 1 cc 9 -> wait 0 1
-         3 1 -> ok 0 2
-         15 0 9 -> wait 0 0
-         4 1 -> ok 0 1",
+         13 1 cc 9 -> wait 0 2
+         15 0 9 -> wait 0 1",
     );
     assert_eq!(order_of(&machine.kernel), [3, 5, 4, 2]);
     go_on(&mut machine, "16 0 -> ok 0 2");

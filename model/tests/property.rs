@@ -21,27 +21,34 @@ fn every_kernel_on_the_way_is_sound() {
     assert_eq!(lines, 300_000);
 }
 
-/// What 200,000 lines must exercise, and how often at least.
-const EVENTS: [(&str, u64); 114] = [
+/// What 250,000 lines must exercise, and how often at least.
+const EVENTS: [(&str, u64); 203] = [
     ("advance: 0 ticks refused", 10),
     ("advance: 100 ticks and more by one of several in a line", 100),
     ("advance: 4,294,967,295 ticks refused", 5),
     ("advance: 65,535 ticks", 10),
     ("advance: 65,536 ticks refused", 10),
+    ("advance: a circle broken", 80),
     ("advance: a line of several turned", 1_000),
+    ("advance: a loan ends", 1_000),
+    ("advance: a loan ends over several links", 200),
+    ("advance: a loan ends, a smaller one stays", 150),
     ("advance: a receiver timed out", 200),
     ("advance: a sender timed out", 200),
     ("advance: a taker timed out", 500),
-    ("advance: a task with a loan woken", 1_000),
+    ("advance: a taker timed out, nobody falls", 800),
+    ("advance: a task with a loan woken", 250),
+    ("advance: a task woken as its loan ends", 200),
     ("advance: a wake tick smaller than the count", 1_000),
     ("advance: a wake tick smaller than the count, and others due", 1_000),
     ("advance: alone in the line and nobody due", 1_000),
     ("advance: alone in the line, due on the last tick", 200),
     ("advance: began earlier, woken on a later tick into one line", 100),
-    ("advance: by a task with a loan", 1_000),
+    ("advance: by a task with a loan", 350),
     ("advance: due one tick after the last", 200),
     ("advance: less than a round of the line", 200),
     ("advance: more ticks than the line is long", 500),
+    ("advance: moved behind a task woken into that line", 40),
     ("advance: nobody due", 1_000),
     ("advance: one task due", 1_000),
     ("advance: out of range and with a hold", 10),
@@ -55,23 +62,45 @@ const EVENTS: [(&str, u64); 114] = [
     ("advance: several tasks due on one tick", 500),
     ("advance: tasks due on different ticks", 500),
     ("advance: tasks due on four ticks and more", 20),
+    ("advance: the end of a chain timed out", 200),
+    ("advance: the middle of a chain timed out", 200),
+    ("advance: the running task comes before others", 100),
+    ("advance: the running task's loan ends", 150),
     ("advance: turned behind a woken task", 500),
+    ("advance: two loans end, both holders move", 60),
+    ("advance: two move into one line", 15),
+    ("advance: two move into one line, not as they stood", 10),
     ("advance: whole rounds of the line", 200),
     ("advance: woken together into one line, not in order of slots", 100),
     ("advance: woken together, begun on different ticks", 200),
     ("advance: woken together, not in order of slots", 500),
     ("advance: woken together, one delayed and one waiting", 200),
+    ("chain: five links and more stand", 400),
+    ("chain: three links and more stand", 4_000),
+    ("circle: a chain leads into it", 1_500),
+    ("circle: of four and more stands", 100),
+    ("circle: of three stands", 200),
+    ("circle: of two stands", 1_500),
     ("create: a slot below the last one", 100),
     ("create: a slot used again", 1_000),
     ("create: a use above 255", 20),
     ("delete: a delayed task", 100),
     ("delete: a waiter", 100),
+    ("delete: a waiter, its loan ends", 100),
+    ("delete: a waiter, its loan ends over several links", 15),
+    ("delete: a waiter, other loans stay", 90),
     ("delete: the caller", 100),
     ("first waiter: earliest of equals", 100),
     ("first waiter: not the earliest", 100),
+    ("give: a smaller loan stays", 3),
+    ("give: first waiter by what is lent to it", 3),
+    ("give: loan ends, another mutex still held", 100),
     ("give: loan kept, another mutex still held", 100),
     ("give: own priority comes back", 100),
     ("give: passed to a waiter", 100),
+    ("give: the new holder has a loan", 40),
+    ("give: the new holder has waiters of its own", 50),
+    ("give: waiters stay", 60),
     ("hold: a higher line is occupied", 100),
     ("hold: depth 255 reached", 5),
     ("idle: calls", 100),
@@ -89,18 +118,37 @@ const EVENTS: [(&str, u64); 114] = [
     ("receive: first wrapped to 0", 100),
     ("receive: moved in at capacity above 8", 100),
     ("receive: waits on an empty queue", 100),
+    ("release: a circle broken", 20),
+    ("release: a loan ends", 300),
+    ("release: a loan ends over several links", 80),
+    ("release: a loan ends, a smaller one stays", 30),
+    ("release: a taker timed out, nobody falls", 300),
+    ("release: a task woken as its loan ends", 100),
     ("release: a wait of over 60,000 ticks ran out", 1),
     ("release: another task runs", 100),
     ("release: began earlier, woken on a later tick into one line", 200),
+    ("release: moved behind a task woken into that line", 20),
     ("release: over 60,000 pended ticks run", 1),
     ("release: several pended ticks run", 100),
     ("release: several tasks woken by pended ticks", 500),
+    ("release: the end of a chain timed out", 90),
+    ("release: the middle of a chain timed out", 50),
+    ("release: the running task comes before others", 20),
+    ("release: the running task's loan ends", 40),
+    ("release: two loans end, both holders move", 30),
+    ("release: two move into one line", 10),
+    ("release: two move into one line, not as they stood", 6),
     ("release: woken together into one line, not in order of slots", 200),
     ("release: woken together, begun on different ticks", 200),
     ("release: woken together, not in order of slots", 400),
     ("release: woken together, one delayed and one waiting", 400),
     ("remove: a queue with items", 100),
+    ("resume: a task with a loan", 150),
     ("running task overtaken", 100),
+    ("running task: comes before others", 400),
+    ("running task: its line changes under a hold", 150),
+    ("running task: its line goes down, another runs", 800),
+    ("running task: its line goes up", 100),
     ("runs: a task in a slot used again", 1_000),
     ("send: appended past the ring's end", 100),
     ("send: part of 512 bytes all used", 100),
@@ -108,15 +156,42 @@ const EVENTS: [(&str, u64); 114] = [
     ("send: size 0", 100),
     ("send: size 64", 100),
     ("send: waits on a full queue", 100),
-    ("set priority: a holder lower, effective stays", 100),
+    ("set priority: a holder above its loan", 40),
+    ("set priority: a holder lower, down to its loan", 40),
+    ("set priority: a holder lower, its loan stays", 100),
+    ("set priority: a holder lower, nothing lent", 700),
+    ("set priority: a ready holder moves", 100),
+    ("set priority: a task on a circle", 50),
     ("set priority: a waiter", 100),
+    ("set priority: a waiter lower, other loans stay", 150),
+    ("set priority: down, passed over one link", 150),
+    ("set priority: down, passed over three links and more", 10),
+    ("set priority: down, passed over two links", 30),
     ("set priority: idle to 0", 100),
     ("set priority: the caller", 100),
+    ("set priority: up, passed over one link", 100),
+    ("set priority: up, passed over three links and more", 15),
+    ("set priority: up, passed over two links", 30),
+    ("suspend: a circle broken", 15),
     ("suspend: a delayed task", 100),
     ("suspend: a holder", 100),
     ("suspend: a waiter", 100),
+    ("suspend: a waiter, its loan ends", 200),
+    ("suspend: a waiter, its loan ends over several links", 30),
+    ("suspend: a waiter, other loans stay", 200),
     ("suspend: the caller", 100),
+    ("suspend: the middle of a chain, a loan ends", 50),
+    ("take: a chain of three links and more", 500),
+    ("take: a chain of two links", 900),
     ("take: a second mutex", 100),
+    ("take: by a task with a loan, passed on", 300),
+    ("take: closes a circle of four and more", 10),
+    ("take: closes a circle of three", 20),
+    ("take: closes a circle of two", 100),
+    ("take: lent over three links and more", 70),
+    ("take: lent over two links", 150),
+    ("take: lent to a ready task along a chain", 80),
+    ("take: nobody raised", 3_000),
     ("take: priority lent", 100),
     ("take: priority lent to a blocked holder", 100),
     ("take: priority lent to a ready holder", 100),
@@ -127,11 +202,25 @@ const EVENTS: [(&str, u64); 114] = [
     ("task: an old number, another task in its slot", 1_000),
     ("task: an old number, its slot free", 50),
     ("task: refused for the use alone", 1_000),
+    ("tick: a circle broken", 40),
     ("tick: a line of two or more turned", 100),
+    ("tick: a loan ends", 500),
+    ("tick: a loan ends over several links", 100),
+    ("tick: a loan ends, a smaller one stays", 60),
+    ("tick: a taker timed out, nobody falls", 400),
+    ("tick: a task woken as its loan ends", 100),
     ("tick: a waiter timed out", 100),
+    ("tick: moved behind a task woken into that line", 20),
     ("tick: no turn, a higher line was woken", 100),
     ("tick: one task due", 100),
     ("tick: several tasks due together", 1_000),
+    ("tick: the end of a chain timed out", 100),
+    ("tick: the middle of a chain timed out", 90),
+    ("tick: the running task comes before others", 40),
+    ("tick: the running task's loan ends", 90),
+    ("tick: two loans end, both holders move", 40),
+    ("tick: two move into one line", 15),
+    ("tick: two move into one line, not as they stood", 8),
     ("tick: woken together into one line, not in order of slots", 250),
     ("tick: woken together, begun on different ticks", 500),
     ("tick: woken together, not in order of slots", 800),
@@ -141,10 +230,10 @@ const EVENTS: [(&str, u64); 114] = [
 
 #[test]
 fn a_long_journal_meets_every_call_refusal_and_event() {
-    let mut author = Author::new(1, 200_000).with_coverage();
+    let mut author = Author::new(1, 250_000).with_coverage();
     while author.next_line().is_some() {}
     let coverage = author.coverage().unwrap();
-    assert_eq!(coverage.lines, 200_000);
+    assert_eq!(coverage.lines, 250_000);
     for number in 1..=18 {
         assert!(coverage.accepted[number] >= 500, "call {number}: {}", coverage.accepted[number]);
     }
@@ -286,7 +375,10 @@ fn who_began_earlier_is_made_ready_first() {
                 continue;
             }
             for line in &machine.kernel.lines {
-                let woken: Vec<TaskSlot> = line.iter().copied().filter(|&task| before.is_blocked(task)).collect();
+                // Whose loan has ended came into this line as it moved.
+                let kept = |task: TaskSlot| before.task(task).effective == machine.kernel.task(task).effective;
+                let woken: Vec<TaskSlot> =
+                    line.iter().copied().filter(|&task| before.is_blocked(task) && kept(task)).collect();
                 let moments = woken.iter().map(|&task| {
                     let distance = before.distance(task).expect("a woken task was due");
                     (distance, began[task.index()])
@@ -304,7 +396,7 @@ fn who_began_earlier_is_made_ready_first() {
 #[test]
 fn items_come_out_as_they_went_in() {
     let (mut handed_over, mut taken_out, mut moved_in) = (0, 0, 0);
-    for seed in 1_000..1_060 {
+    for seed in 1_000..1_090 {
         let mut machine = Machine::new(false);
         let mut deques: Vec<VecDeque<Vec<u8>>> = vec![VecDeque::new(); 16];
         let mut waiting_items: Vec<Vec<u8>> = vec![Vec::new(); 16];

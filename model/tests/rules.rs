@@ -44,41 +44,6 @@ fn a_giver_with_another_mutex_keeps_its_loan() {
 }
 
 #[test]
-fn nothing_is_passed_further_along() {
-    let machine = session(
-        "1 1 -> ok 1 1
-         11 -> ok 0 1
-         11 -> ok 1 1
-         15 0 0 -> ok 0 1
-         1 2 -> ok 2 2
-         15 1 0 -> ok 0 2
-         15 0 9 -> wait 0 1
-         1 9 -> ok 3 3
-         15 1 9 -> wait 0 1",
-    );
-    assert_eq!(machine.kernel.task(task(2)).effective, 9);
-    assert_eq!(machine.kernel.task(task(1)).effective, 2);
-}
-
-#[test]
-fn a_loan_stays_when_the_waiter_goes() {
-    for call in ["2 2", "3 2"] {
-        let mut machine = session(
-            "1 3 -> ok 1 1
-             11 -> ok 0 1
-             15 0 0 -> ok 0 1
-             1 5 -> ok 2 2
-             15 0 10 -> wait 0 1",
-        );
-        go_on(&mut machine, &format!("{call} -> ok 0 1"));
-        assert_eq!(machine.kernel.task(task(1)).effective, 5);
-        assert!(machine.kernel.object(object(0)).waiters.is_empty());
-        go_on(&mut machine, "16 0 -> ok 0 1");
-        assert_eq!(machine.kernel.task(task(1)).effective, 3);
-    }
-}
-
-#[test]
 fn a_suspended_waiter_gets_no_item() {
     let machine = session(
         "10 2 1 -> ok 0 0

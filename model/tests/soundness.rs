@@ -43,6 +43,7 @@ const ORDER: &str = "the order has each of them";
 const ORDER_ONCE: &str = "the order has each of them once";
 const ORDER_ELSE: &str = "the order has no one else";
 const ORDER_AGREES: &str = "the order agrees with each object's list";
+const LOANS: &str = "effective is what the rule of loans says";
 const MOST: &str = "a use is at most 65,536";
 const MOST_TAKEN: &str = "in a taken slot 65,535";
 
@@ -79,9 +80,50 @@ fn the_order_of_others_is_free() {
     }
 }
 
+/// Task 6 (9) waits on mutex 2, which task 2 holds: its loan goes to task 2, and along the chain to task 1.
+fn chained() -> Kernel {
+    let mut kernel = busy();
+    kernel.objects[2].kind = Kind::Mutex { holder: Some(task(2)) };
+    kernel.objects[2].waiters.push(task(6));
+    kernel.tasks[6].stand = Stand::Waiting { object: object(2), role: Role::Taker, wake: None };
+    kernel.began.push(task(6));
+    kernel.set_effective(task(2), 9);
+    kernel.set_effective(task(1), 9);
+    kernel
+}
+
+#[test]
+fn a_chain_is_sound_with_its_loans_alone() {
+    assert_eq!(soundness(&chained()), Ok(()));
+    for (slot, effective) in [(1, 5), (1, 8), (1, 10), (2, 5), (2, 8), (2, 10), (6, 8), (6, 10)] {
+        let mut kernel = chained();
+        kernel.set_effective(task(slot), effective);
+        assert_eq!(soundness(&kernel), Err(LOANS.to_string()), "task {slot} at {effective}");
+    }
+}
+
+/// Task 1, which runs no more, waits on mutex 2 too: a circle with task 2, and task 6 before it.
+#[test]
+fn a_circle_is_sound_with_the_largest_own_priority() {
+    let mut circle = chained();
+    circle.leave_line(task(1));
+    circle.tasks[1].stand = Stand::Waiting { object: object(2), role: Role::Taker, wake: None };
+    circle.objects[2].waiters.push(task(1));
+    circle.began.push(task(1));
+    circle.running = task(3);
+    assert_eq!(soundness(&circle), Ok(()));
+    // The two could as well lend each other 31, but nobody has it.
+    for (first, second) in [(31, 31), (10, 10), (5, 5), (9, 5), (5, 9), (3, 9)] {
+        let mut kernel = circle.clone();
+        kernel.set_effective(task(1), first);
+        kernel.set_effective(task(2), second);
+        assert_eq!(soundness(&kernel), Err(LOANS.to_string()), "{first}, {second}");
+    }
+}
+
 #[test]
 fn each_breach_is_found() {
-    let breaches: [Breach; 53] = [
+    let breaches: [Breach; 57] = [
         ("idle suspended", IDLE, |k| {
             k.leave_line(task(0));
             k.tasks[0].stand = Stand::Suspended;
@@ -132,8 +174,15 @@ fn each_breach_is_found() {
         ("waiters of one object swapped in the order", ORDER_AGREES, |k| k.began.swap(2, 3)),
         ("the same, others between them", ORDER_AGREES, |k| k.began = [7, 2, 4, 5].map(task).to_vec()),
         ("waiters swapped in the object's list", ORDER_AGREES, |k| k.objects[1].waiters.swap(0, 1)),
-        ("effective below own", "effective is at least own", |k| k.tasks[6].own = 10),
-        ("loan without a mutex", "and equal to it for a task that holds nothing", |k| k.tasks[6].own = 1),
+        ("effective below own", LOANS, |k| k.tasks[6].own = 10),
+        ("loan without a mutex", LOANS, |k| k.tasks[6].own = 1),
+        ("loan of nobody", LOANS, |k| {
+            k.objects[2].kind = Kind::Mutex { holder: Some(task(6)) };
+            k.tasks[6].effective = 10;
+        }),
+        ("loan too large", LOANS, |k| k.set_effective(task(1), 6)),
+        ("loan too small", LOANS, |k| (k.tasks[2].own, k.tasks[2].effective) = (6, 6)),
+        ("loan of a waiter on a queue", LOANS, |k| (k.tasks[5].own, k.tasks[5].effective) = (3, 9)),
         ("holder does not exist", "holders exist", |k| k.objects[2].kind = Kind::Mutex { holder: Some(task(9)) }),
         ("wake tick is the count", "no wake tick of a delayed or waiting task equals the tick count", |k| k.tick = 7),
         ("priority out of range", RANGES, |k| (k.tasks[6].own, k.tasks[6].effective) = (32, 32)),

@@ -26,21 +26,23 @@ use Rattle.kernel.proofs.Shown.{shown-of}
 use Rattle.promises.proofs.Gate.{both-sides-of-the-gate}
 use Rattle.promises.proofs.TurnedAway.{decided}
 use Rattle.promises.proofs.Advances.{advance-is-ticks, advance-refused, sleeps-so}
+use Rattle.promises.proofs.Lendings.{only-the-rule}
 use Rattle.promises.proofs.Wakings.{few-wakings}
 use Rattle.promises.proofs.Reaches.{program-placed}
-use Rattle.histories.proofs.ByFullNumber.{program-pays-back-by-number}
+use Rattle.histories.proofs.Given.{program-by-the-rule}
 use Rattle.histories.proofs.UseCounts.{uses-count}
 use Rattle.histories.proofs.NeverAgain.{never-again-task, never-again-object, made-once-task, made-once-object}
 use Rattle.histories.proofs.EarlierSteps.{each-began}
 use Rattle.histories.proofs.EarlierWakes.{woken-in-order}
 use Rattle.claims.specs.Types.{Call, Read}
-use Rattle.claims.specs.Claims.{Code, Values, Refused, Ruled, Journalled, Kept, NeverAgain, EarlierFirst, Sleeping, Claims}
+use Rattle.claims.specs.Claims.{Code, Values, Refused, Ruled, Journalled, Kept, NeverAgain, EarlierFirst, Sleeping, Lending, Claims}
 use Rattle.claims.proofs.Values.{test-says, says-test, full-stands}
 use Rattle.claims.proofs.Exact.{step-exactly, accepted-so, unsound-stays}
+use Rattle.claims.proofs.Lending.{rule-of-value, afresh-of-value, step-none-lent}
 use Rattle.claims.proofs.Unique.{line-so}
 use Rattle.claims.proofs.Fitting.{total}
-use Rattle.claims.proofs.Reaching.{calls-reach, calls-sound, calls-numbered, calls-placed, calls-pay-back}
-use Rattle.claims.proofs.Reaching.{lines-numbered, session-so-far, session-sound, session-numbered, session-placed, session-pays-back, journal}
+use Rattle.claims.proofs.Reaching.{calls-reach, calls-sound, calls-numbered, calls-placed, calls-by-the-rule, calls-not-slow}
+use Rattle.claims.proofs.Reaching.{lines-numbered, session-so-far, session-sound, session-numbered, session-placed, session-by-the-rule, journal}
 
 code : Code
 code =
@@ -95,15 +97,15 @@ kept =
       sound = calls-sound;
       numbered = calls-numbered;
       placed = calls-placed;
-      borrowed = calls-pay-back;
+      by-the-rule = calls-by-the-rule;
       lines-numbered = lines-numbered;
       lines-placed = program-placed;
-      lines-borrowed = program-pays-back-by-number;
+      lines-by-the-rule = program-by-the-rule;
       session-so-far = session-so-far;
       session-sound = session-sound;
       session-numbered = session-numbered;
       session-placed = session-placed;
-      session-borrowed = session-pays-back;
+      session-by-the-rule = session-by-the-rule;
     }
 
 never-again : NeverAgain
@@ -122,6 +124,16 @@ sleeping =
       few-wakings = λ k e. few-wakings (shown k) e;
     }
 
+lending : Lending
+lending =
+    record {
+      rule = rule-of-value;
+      afresh = afresh-of-value;
+      only-the-rule = λ k j. only-the-rule (shown k) (shown j);
+      none-lent = step-none-lent;
+      nobody-slow = calls-not-slow;
+    }
+
 pub claims : Claims
 claims =
     record {
@@ -135,4 +147,5 @@ claims =
       never-again = never-again;
       earlier-first = earlier-first;
       sleeping = sleeping;
+      lending = lending;
     }

@@ -27,8 +27,7 @@ use Rattle.rules.specs.Ticks.{untilDue, sleeps}
 use Rattle.rows.specs.Asking.{makes}
 use Rattle.rules.specs.Refusals.{newSlot}
 use Rattle.rules.specs.Refusals.{refusal}
-use Rattle.rules.specs.Effects.{effect}
-use Rattle.rules.specs.Steps.{newNumber, answered, accepted, turnedAway, step}
+use Rattle.rules.specs.Steps.{newNumber, answered, accepted, turnedAway, step, after}
 use Rattle.rules.specs.Sessions.{noLine, stepTold, readLine, stepOfLine, Run, closed}
 use Rattle.rules.specs.Trace.{CallMade}
 use Rattle.kernel.specs.Stands.{kernelOf, shown, standing}
@@ -87,7 +86,7 @@ step-answer k c item s = go (eqb no 0)
     no = refusal k (asked (k .uses) c) (length item) (length s)
 
     go : (b : Bool) → Answered ((if b then accepted k (asked (k .uses) c) item s else turnedAway k no s) .answer)
-    go true = accepted-answer k (asked (k .uses) c) (chosen (effect k (asked (k .uses) c)))
+    go true = accepted-answer k (asked (k .uses) c) (chosen (after k (asked (k .uses) c)))
     go false = record { answer = Refused no; says-it = refl }
 
 steps : (k : Kernel) (c : Call) (item s : List ℕ) → OneFits (λ (x : Step × List ℕ). Steps k c item s (x .0) (x .1))

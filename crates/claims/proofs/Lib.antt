@@ -4,4 +4,5 @@ pub mod Exact
 pub mod Runs
 pub mod Fitting
 pub mod Reaching
+pub mod Lending
 pub mod Claimed

@@ -22,14 +22,18 @@ use Rattle.kernel.proofs.SessionRuns.{line-keeps}
 use Rattle.promises.specs.History.{reached, Placed}
 use Rattle.promises.specs.Program.{linesOf, Answered, answering, program}
 use Rattle.promises.specs.ByLines.{ProgramAnswers}
+use Rattle.promises.specs.Lending.{NotSlow}
 use Rattle.promises.specs.Turns.{Turn, Pause, afterTurn, afterTurns, cameIn, afterEnd, atStart, outcome}
 use Rattle.promises.specs.Reached.{programCalls}
 use Rattle.promises.proofs.Histories.{reached-sound, after-any-calls}
+use Rattle.promises.proofs.Lendings.{nobody-slow}
 use Rattle.promises.proofs.InWords.{program-answers}
 use Rattle.promises.proofs.LineForLine.{closed-stays, session-is-the-program}
 use Rattle.promises.proofs.Reaches.{program-reached, program-placed, session-so-far as rules-so-far}
-use Rattle.histories.specs.ByFullNumber.{Numbered, PaysBackByNumber}
-use Rattle.histories.proofs.ByFullNumber.{numbered, paid-back-by-number, program-pays-back-by-number}
+use Rattle.histories.specs.ByFullNumber.{Numbered}
+use Rattle.histories.specs.Given.{LentByRule}
+use Rattle.histories.proofs.ByFullNumber.{numbered}
+use Rattle.histories.proofs.Given.{by-the-rule, program-by-the-rule}
 use Rattle.claims.specs.Types.{State, Kernel, Served}
 use Rattle.claims.specs.Values.{SoundValue}
 use Rattle.claims.specs.Runs.{Called, Port, servedTo, Turned, freshPort, portOutcome, CameTo}
@@ -66,8 +70,11 @@ module _ (ms : List CallMade) (k : Kernel) (f : Called (kernelOf fresh) ms k) wh
   pub calls-numbered : Numbered (shown k)
   calls-numbered = subst (λ (s : State). Numbered s) (sym shows-reached) (numbered (reached ms) (reached-sound ms))
 
-  pub calls-pay-back : (n : ℕ) → PaysBackByNumber ms (shown k) n
-  calls-pay-back n = subst (λ (s : State). PaysBackByNumber ms s n) (sym shows-reached) (paid-back-by-number ms n)
+  pub calls-by-the-rule : (n : ℕ) → LentByRule ms (shown k) n
+  calls-by-the-rule n = subst (λ (s : State). LentByRule ms s n) (sym shows-reached) (by-the-rule ms n)
+
+  pub calls-not-slow : NotSlow (shown k)
+  calls-not-slow = subst (λ (s : State). NotSlow s) (sym shows-reached) (nobody-slow ms)
 
 -- ── lines
 pub lines-numbered : (ls : List (List ℕ)) → Numbered (answering fresh (replicate 9216 0) ls .kernel)
@@ -146,9 +153,9 @@ module _ (ts : List Turn) (p : Port) (f : Turned freshPort ts p) where
   pub session-numbered : Numbered (shown (p .session .kernel))
   session-numbered = subst (λ (s : State). Numbered s) (sym shows-program) (lines-numbered (linesOf (session-so-far .taken)))
 
-  pub session-pays-back : (n : ℕ) → PaysBackByNumber (programCalls (linesOf (session-so-far .taken))) (shown (p .session .kernel)) n
-  session-pays-back n =
-      subst (λ (s : State). PaysBackByNumber (programCalls (linesOf (session-so-far .taken))) s n) (sym shows-program) (program-pays-back-by-number (linesOf (session-so-far .taken)) n)
+  pub session-by-the-rule : (n : ℕ) → LentByRule (programCalls (linesOf (session-so-far .taken))) (shown (p .session .kernel)) n
+  session-by-the-rule n =
+      subst (λ (s : State). LentByRule (programCalls (linesOf (session-so-far .taken))) s n) (sym shows-program) (program-by-the-rule (linesOf (session-so-far .taken)) n)
 
 -- ── the input's end
 end-reaches : (p : Pause) (lent : List ℕ) (r : Served) (o : List ℕ) → Closes (portOf p .session) (p .store) lent r o

@@ -11,10 +11,11 @@ use Rattle.journal.specs.Told.{tellsCall, refusedWith}
 use Rattle.journal.specs.Promise.{Tells, ReadsAs, WritesCall, WritesAnswer}
 use Rattle.rules.specs.Tables.{fresh}
 use Rattle.rules.specs.Sound.{sound}
+use Rattle.rules.specs.Loans.{workedOut}
 use Rattle.rules.specs.Ticks.{sleeps}
 use Rattle.rules.specs.Steps.{Stepped}
 use Rattle.rules.specs.Trace.{CallMade}
-use Rattle.kernel.specs.Stands.{kernelOf, shown}
+use Rattle.kernel.specs.Stands.{kernelOf, asRows, shown}
 use Rattle.kernel.specs.Promises.{Is, Steps, ReadsAndSteps, Answers, Closes, ticksOf, newSession}
 use Rattle.kernel.proofs.Kernel.fresh.Statement as fresh-code
 use Rattle.kernel.proofs.Kernel.sound.Statement as sound-code
@@ -35,8 +36,10 @@ use Rattle.promises.specs.Program.{linesOf, answering}
 use Rattle.promises.specs.ByLines.{LineSteps, ProgramAnswers}
 use Rattle.promises.specs.Turns.{Turn, cameIn}
 use Rattle.promises.specs.Reached.{programCalls}
+use Rattle.promises.specs.Lending.{RuleHolds, Afresh, SameLoans, SameLevels, NotSlow}
 use Rattle.promises.specs.Advance.{singly, atFirst, AsTicks, AdvanceRefused, SleepsSo, FewWakings}
-use Rattle.histories.specs.ByFullNumber.{Numbered, PaysBackByNumber}
+use Rattle.histories.specs.ByFullNumber.{Numbered}
+use Rattle.histories.specs.Given.{LentByRule}
 use Rattle.histories.specs.Uses.{UsesCount}
 use Rattle.histories.specs.Earlier.{EachBegan, Earlier, WokenInOrder}
 use Rattle.histories.specs.Again.{namesTask, namesObject, momentFrom, madeTask, madeObject}
@@ -130,15 +133,16 @@ pub record Kept : Type 0 where
   pub sound : (ms : List CallMade) (k : Kernel) → Called (kernelOf fresh) ms k → SoundValue k
   pub numbered : (ms : List CallMade) (k : Kernel) → Called (kernelOf fresh) ms k → Numbered (shown k)
   pub placed : (ms : List CallMade) (k : Kernel) → Called (kernelOf fresh) ms k → Placed (shown k)
-  pub borrowed : (ms : List CallMade) (k : Kernel) → Called (kernelOf fresh) ms k → (n : ℕ) → PaysBackByNumber ms (shown k) n
+  -- "borrowed priority is what the rule says": every existing task's own priority is the one last given to it, and its effective one is the rule's over the kernel reached
+  pub by-the-rule : (ms : List CallMade) (k : Kernel) → Called (kernelOf fresh) ms k → (n : ℕ) → LentByRule ms (shown k) n
   pub lines-numbered : (ls : List (List ℕ)) → Numbered (answering fresh (replicate 9216 0) ls .kernel)
   pub lines-placed : (ls : List (List ℕ)) → Placed (answering fresh (replicate 9216 0) ls .kernel)
-  pub lines-borrowed : (ls : List (List ℕ)) (n : ℕ) → PaysBackByNumber (programCalls ls) (answering fresh (replicate 9216 0) ls .kernel) n
+  pub lines-by-the-rule : (ls : List (List ℕ)) (n : ℕ) → LentByRule (programCalls ls) (answering fresh (replicate 9216 0) ls .kernel) n
   pub session-so-far : (ts : List Turn) (p : Port) → Turned freshPort ts p → CameTo ts p
   pub session-sound : (ts : List Turn) (p : Port) → Turned freshPort ts p → SoundValue (p .session .kernel)
   pub session-numbered : (ts : List Turn) (p : Port) → Turned freshPort ts p → Numbered (shown (p .session .kernel))
   pub session-placed : (ts : List Turn) (p : Port) → Turned freshPort ts p → Placed (shown (p .session .kernel))
-  pub session-borrowed : (ts : List Turn) (p : Port) (f : Turned freshPort ts p) (n : ℕ) → PaysBackByNumber (programCalls (linesOf (session-so-far ts p f .taken))) (shown (p .session .kernel)) n
+  pub session-by-the-rule : (ts : List Turn) (p : Port) (f : Turned freshPort ts p) (n : ℕ) → LentByRule (programCalls (linesOf (session-so-far ts p f .taken))) (shown (p .session .kernel)) n
 
 -- Over any history from the fresh kernel, for tasks and for objects: a number that was given up names nothing ever after, and no number is made twice; a number is its slot + 16 × use,
 -- and a slot's use is how often it was given up.
@@ -155,7 +159,7 @@ pub record NeverAgain : Type 0 where
 
 -- Over any history from the fresh kernel: "Among tasks due on one tick, make ready first whoever began its delay or wait earlier", "for a tick and for release", and so for a tick
 -- of an advance. Each delay and each wait that is not over has its moment in the history, and no two have the same; of two due on the same tick the earlier is made ready first, and
--- stands ahead where both join one line.
+-- stands ahead where both join the line of the effective priority that they had.
 pub record EarlierFirst : Type 0 where
   pub began : (ms : List CallMade) → EachBegan ms
   pub woken : (ms : List CallMade) (w : ℕ) (t u : TaskSlot) → Earlier ms w t u → WokenInOrder ms w t u
@@ -170,6 +174,24 @@ pub record Sleeping : Type 0 where
   pub sleeps : (k : Kernel) → SleepsSo (shown k)
   pub few-wakings : (k : Kernel) → sound (shown k) ≡ true → FewWakings (shown k)
 
+-- "The loan must go along the chain." Of kernel values, sound or not, but where soundness is asked; that a sound one's effective priorities are the rule's is among the sentences
+-- of `SoundValue`, and what `Kept` says of them is over this rule.
+pub record Lending : Type 0 where
+  -- "a task's effective priority is the largest own priority among itself and all tasks that wait, directly or along a chain of holders, on a mutex it holds"; "a circle must
+  -- still end": whatever stands in the tables, the rule gives each slot this number, and no second fits
+  pub rule : (k : Kernel) → Full k → RuleHolds (asRows (k .core) (k .uses) .tasks) (asRows (k .core) (k .uses) .objects)
+  -- "It is worked out afresh": whatever the effective priorities were, they become the rule's, and nothing else of a task changes
+  pub afresh : (k : Kernel) → Full k → Afresh (asRows (k .core) (k .uses)) (workedOut (asRows (k .core) (k .uses)))
+  -- "In place of document 01's one lasting step": nothing but the rule matters. Where the own priorities are the same and each waits for the same one, the effective ones are
+  -- the same, however the two kernels came about
+  pub only-the-rule : (k j : Kernel) → sound (shown k) ≡ true → sound (shown j) ≡ true → SameLoans (shown k) (shown j) → SameLevels (shown k) (shown j)
+  -- so a step that changes no own priority, holder or wait on a mutex changes no effective one
+  pub none-lent : (k : Kernel) (c : Call) (item store : List ℕ) (r : Step) (after : List ℕ) → Steps k c item store r after
+      → SameLoans (shown k) (shown (r .kernel)) → SameLevels (shown k) (shown (r .kernel))
+  -- "The record writer waited on the meter task, which waited on the tag task, and the tag task stayed slow.": after any calls, refused ones among them, no ready task is slower
+  -- than any who waits for it, over however many links; nor is the running task, unless held
+  pub nobody-slow : (ms : List CallMade) (k : Kernel) → Called (kernelOf fresh) ms k → NotSlow (shown k)
+
 pub record Claims : Type 2 where
   pub code : Code
   pub values : Values
@@ -181,3 +203,4 @@ pub record Claims : Type 2 where
   pub never-again : NeverAgain
   pub earlier-first : EarlierFirst
   pub sleeping : Sleeping
+  pub lending : Lending

@@ -9,8 +9,7 @@ use Rattle.calls.specs.Said.{says, said, refused}
 use Rattle.rules.specs.Tables.{withUses}
 use Rattle.rules.specs.Lines.{chosen}
 use Rattle.rows.specs.Applies.{Row}
-use Rattle.rules.specs.Effects.{effect}
-use Rattle.rules.specs.Steps.{answered, stored, usesAfter}
+use Rattle.rules.specs.Steps.{answered, stored, usesAfter, after as afterCall}
 use Rattle.kernel.specs.Stands.{kernelOf, shown}
 use Rattle.promises.specs.TurnedAway.{wholeTable, First, None}
 use Rattle.claims.specs.Types.{Call, Kernel, Step}
@@ -27,8 +26,8 @@ behind k c = asked (shown k .uses) c
 
 -- r and the store `after` are what the call tables say, and no refusal
 pub record ValueAccepted (k : Kernel) (c : Call) (item s : List ℕ) (r : Step) (after : List ℕ) : Type 0 where
-  pub kernel : r .kernel ≡ kernelOf (withUses (chosen (effect (shown k) (behind k c))) (usesAfter (shown k .uses) (behind k c)))
-  pub answer : said (r .answer) ≡ answered (shown k) (behind k c) (chosen (effect (shown k) (behind k c)))
+  pub kernel : r .kernel ≡ kernelOf (withUses (chosen (afterCall (shown k) (behind k c))) (usesAfter (shown k .uses) (behind k c)))
+  pub answer : said (r .answer) ≡ answered (shown k) (behind k c) (chosen (afterCall (shown k) (behind k c)))
   pub store : after ≡ stored (shown k) (behind k c) item s
   pub no-refusal : (n : ℕ) → said (r .answer) ≡ says refused n → ⊥
 

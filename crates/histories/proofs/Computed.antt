@@ -1,70 +1,84 @@
--- Computed histories: loans made, kept and paid back; slots used again; and two meters due together.
+-- Computed histories: loans along the chain; slots used again; and two meters due together.
 use mathlib.Core.Path.{_≡_, refl}
 use mathlib.Core.Bool.{true, false}
 use mathlib.Core.List.{[], _∷_, map}
-use Rattle.lists.specs.Lists.{every, allBelow, foldl, upTo, index, any, kept}
+use Rattle.lists.specs.Lists.{every, allBelow, foldl, upTo, values, index, any, kept}
+use Rattle.chains.specs.Columns.{raised}
+use Rattle.chains.specs.Lent.{goesOn, levels}
 use Rattle.calls.specs.Door.{freshUses, usesFine}
 use Rattle.calls.specs.Behind.{asked}
 use Rattle.order.specs.Order.{ordered, without}
 use Rattle.order.specs.Tidy.{count, tidy}
 use Rattle.items.specs.Bytes.{putAt}
-use Rattle.rules.specs.Effects.{created, deleted, suspended, resumed, yielded, delayed, queueMade, mutexMade, removed, taken, handedOn, given, effect}
+use Rattle.rules.specs.Effects.{created, deleted, suspended, resumed, yielded, delayed, queueMade, mutexMade, removed, taken, given, effect}
 use Rattle.rules.specs.Parts.{itemAt}
 use Rattle.rules.specs.Queues.{outlet, sent, storeSent, received, storeReceived}
 use Rattle.rules.specs.Lines.{line, those, begun, highest, leader, first, chosen, toTail, toHead, leaves}
-use Rattle.rules.specs.Loans.{moved, movedIf, prioritized, newPriority, lent, ownAgain}
+use Rattle.rules.specs.Loans.{ruled, moved, movedIf, prioritized, relevelled, workedOut, newPriority}
 use Rattle.rows.specs.Applies.{outOfRange, namesNone, wrongSize, notForIdle, notWithHold, noneFree, notHis, hisAlready, notSuspended, mustWait, noDepth}
 use Rattle.rules.specs.Refusals.{heldOrWaited, inUse}
 use Rattle.rows.specs.Applies.{noTick, table}
 use Rattle.rules.specs.Refusals.{laterRow, refusal}
 use Rattle.rules.specs.Sound.{tablesFine, levelsFine, listingFine, clockFine, noHigher, runsFine, sound}
-use Rattle.rules.specs.Steps.{stored, answered, usesAfter, accepted, step}
+use Rattle.rules.specs.Steps.{stored, answered, usesAfter, after, accepted, step}
 use Rattle.rules.specs.Trace.{trace, stepMade}
 use Rattle.slots.specs.Values.{taskAt}
 use Rattle.slots.specs.Kinds.{kindAt}
 use Rattle.rules.specs.Tables.{fresh, holds, freeSlot, freeObject}
-use Rattle.rules.specs.Ticks.{wokenIfDue, wakes, oneTick, turned, ticked, ticks, released, held, advanced}
+use Rattle.rules.specs.Ticks.{wokenIfDue, wakes, countedOn, oneTick, turned, ticked, ticks, released, held, advanced}
 use Rattle.rules.specs.Waits.{arrives, waitFor}
 use Rattle.promises.specs.History.{reached}
 use Rattle.promises.specs.Advance.{wakings}
-use Rattle.histories.specs.Moments.{tasksBelow}
-use Rattle.histories.specs.Borrowed.{largest, givenAt, lastGiven, lentAt, countedSince, due}
-use Rattle.histories.specs.Tales.{unlent, shownAfter, shownBy, twoGives, setWithLoan, timeRunsOut, handedWithWaiter, lendsBorrowed, refusedChange, slotUsedAgain}
+use Rattle.histories.specs.Moments.{unlent}
+use Rattle.histories.specs.Tales.{shownAfter, Fits, chainOfThree, firstGive, setWithLoan, timeRunsOut, twoLoansEnd, circleOfTwo, threeLinks, handedWithWaiter, waiterSetLower}
+use Rattle.histories.specs.Tales.{waitersGone, refusedChange, slotUsedAgain}
 use Rattle.histories.specs.Again.{namesTask, namesObject, madeTask, madeObject, usedAgain, atEach}
-use Rattle.histories.specs.ByFullNumber.{givenTo}
+use Rattle.histories.specs.Given.{givenTo, lastGivenTo}
 use Rattle.histories.specs.Earlier.{beganAt}
-use Rattle.histories.specs.Meters.{metersBy, asTheSlots, againstTheSlots, longerFirst, waiterFirst, delayFirst, delaysReleased, waiterReleased, delaysAdvanced, waiterAdvanced, eachItsOwnTick}
+use Rattle.histories.specs.Meters.{metersBy, asTheSlots, againstTheSlots, longerFirst, waiterFirst, delayFirst, delaysReleased, waiterReleased, delaysAdvanced, waiterAdvanced, loanEnds}
+use Rattle.histories.specs.Meters.{eachItsOwnTick}
 
 pub record TalesFit : Type 0 where
-  -- a loan is made, kept over the first of two gives, and paid back at the last
-  pub kept-over-first-give : shownBy twoGives ≡ twoGives .expected
-  -- a change below a loan waits for the give, one above it counts at once
-  pub set-below-loan : shownBy setWithLoan ≡ setWithLoan .expected
-  -- the loan outlives the wait for which it was made
-  pub stays-after-wait : shownBy timeRunsOut ≡ timeRunsOut .expected
-  -- who waited already when the mutex was handed on does not count
-  pub not-who-came-along : shownBy handedWithWaiter ≡ handedWithWaiter .expected
-  -- the waiter lends its effective priority, not its own
-  pub lends-effective : shownBy lendsBorrowed ≡ lendsBorrowed .expected
+  -- the tag task has the record writer's priority
+  pub chain-of-three : Fits chainOfThree
+  -- a loan ends with the give, whatever else the giver holds
+  pub ends-at-the-give : Fits firstGive
+  -- a change below a loan is heard of when the loan ends, one above it at once
+  pub set-with-loan : Fits setWithLoan
+  -- a loan ends with the wait
+  pub ends-with-the-wait : Fits timeRunsOut
+  pub two-on-one-tick : Fits twoLoansEnd
+  pub circle-of-two : Fits circleOfTwo
+  -- a change of a waiter goes along the chain
+  pub three-links : Fits threeLinks
+  -- who waited already when the mutex was handed on lends to the new holder
+  pub handed-with-waiter : Fits handedWithWaiter
+  pub waiter-set-lower : Fits waiterSetLower
+  pub waiters-gone : Fits waitersGone
   -- a refused change gives nothing
-  pub not-if-refused : shownBy refusedChange ≡ refusedChange .expected
+  pub not-if-refused : Fits refusedChange
   -- a slot used again is another task
-  pub another-task : shownBy slotUsedAgain ≡ slotUsedAgain .expected
+  pub another-task : Fits slotUsedAgain
 
 pub tales-fit : TalesFit
-unfolding trace shownAfter twoGives setWithLoan timeRunsOut handedWithWaiter lendsBorrowed refusedChange slotUsedAgain tasksBelow largest givenAt
-    lastGiven lentAt countedSince due every allBelow foldl upTo index any kept asked ordered without count tidy putAt created deleted suspended
-    resumed yielded delayed queueMade mutexMade removed taken handedOn given effect itemAt outlet sent storeSent received storeReceived line those begun
-    highest leader first chosen toTail toHead leaves moved movedIf prioritized newPriority lent ownAgain outOfRange namesNone wrongSize notForIdle
+unfolding trace shownAfter chainOfThree firstGive setWithLoan timeRunsOut twoLoansEnd circleOfTwo threeLinks handedWithWaiter waiterSetLower waitersGone refusedChange slotUsedAgain
+    givenTo lastGivenTo every allBelow foldl upTo index any kept asked ordered without count tidy putAt created deleted suspended
+    resumed yielded delayed queueMade mutexMade removed taken given effect after itemAt outlet sent storeSent received storeReceived line those begun
+    highest leader first chosen toTail toHead leaves values goesOn raised levels ruled moved movedIf prioritized relevelled workedOut newPriority outOfRange namesNone wrongSize notForIdle
     notWithHold noneFree heldOrWaited inUse notHis hisAlready notSuspended mustWait noDepth noTick table laterRow refusal noHigher runsFine tablesFine
     levelsFine listingFine clockFine usesFine sound stored answered usesAfter accepted step fresh freshUses taskAt kindAt holds freeSlot freeObject
-    wokenIfDue wakes oneTick turned ticked ticks released held arrives waitFor
+    wokenIfDue wakes countedOn oneTick turned ticked ticks released held arrives waitFor
 tales-fit = record {
-  kept-over-first-give = refl;
-  set-below-loan = refl;
-  stays-after-wait = refl;
-  not-who-came-along = refl;
-  lends-effective = refl;
+  chain-of-three = refl;
+  ends-at-the-give = refl;
+  set-with-loan = refl;
+  ends-with-the-wait = refl;
+  two-on-one-tick = refl;
+  circle-of-two = refl;
+  three-links = refl;
+  handed-with-waiter = refl;
+  waiter-set-lower = refl;
+  waiters-gone = refl;
   not-if-refused = refl;
   another-task = refl;
 }
@@ -84,12 +98,12 @@ pub record AgainFits : Type 0 where
   pub second-given : map (givenTo 17) (trace stepMade fresh [] (map unlent usedAgain)) ≡ [] ∷ [] ∷ (5 ∷ []) ∷ [] ∷ [] ∷ [] ∷ []
 
 pub again-fits : AgainFits
-unfolding trace usedAgain givenTo every allBelow foldl upTo index any kept asked ordered without count tidy putAt created deleted suspended resumed
-    yielded delayed queueMade mutexMade removed taken handedOn given effect itemAt outlet sent storeSent received storeReceived line those begun highest
-    leader first chosen toTail toHead leaves moved movedIf prioritized newPriority lent ownAgain outOfRange namesNone wrongSize notForIdle notWithHold
-    noneFree heldOrWaited inUse notHis hisAlready notSuspended mustWait noDepth noTick table laterRow refusal noHigher runsFine tablesFine levelsFine
-    listingFine clockFine usesFine sound stored answered usesAfter accepted step fresh freshUses taskAt kindAt holds freeSlot freeObject wokenIfDue
-    wakes oneTick turned ticked ticks released held arrives waitFor
+unfolding trace usedAgain givenTo every allBelow foldl upTo index any kept asked ordered without count tidy putAt created deleted suspended
+    resumed yielded delayed queueMade mutexMade removed taken given effect after itemAt outlet sent storeSent received storeReceived line those begun
+    highest leader first chosen toTail toHead leaves values goesOn raised levels ruled moved movedIf prioritized relevelled workedOut newPriority outOfRange namesNone wrongSize notForIdle
+    notWithHold noneFree heldOrWaited inUse notHis hisAlready notSuspended mustWait noDepth noTick table laterRow refusal noHigher runsFine tablesFine
+    levelsFine listingFine clockFine usesFine sound stored answered usesAfter accepted step fresh freshUses taskAt kindAt holds freeSlot freeObject
+    wokenIfDue wakes countedOn oneTick turned ticked ticks released held arrives waitFor
 again-fits = record {
   first-made = refl;
   first-named = refl;
@@ -114,15 +128,17 @@ pub record MetersFit : Type 0 where
   pub waiter-released : metersBy waiterReleased ≡ waiterReleased .expected
   pub delays-advanced : metersBy delaysAdvanced ≡ delaysAdvanced .expected
   pub waiter-advanced : metersBy waiterAdvanced ≡ waiterAdvanced .expected
+  -- but for one that has a loan which ends on that tick
+  pub loan-ends : metersBy loanEnds ≡ loanEnds .expected
 
 pub meters-fit : MetersFit
-unfolding trace asTheSlots againstTheSlots longerFirst waiterFirst delayFirst delaysReleased waiterReleased delaysAdvanced waiterAdvanced beganAt every
-    allBelow foldl upTo index any kept asked ordered without count tidy putAt created deleted suspended resumed yielded delayed queueMade mutexMade removed taken handedOn given
-    effect itemAt outlet sent storeSent received storeReceived line those begun highest leader first chosen toTail toHead leaves moved movedIf
-    prioritized newPriority lent ownAgain outOfRange namesNone wrongSize notForIdle notWithHold noneFree heldOrWaited inUse notHis hisAlready
-    notSuspended mustWait noDepth noTick table laterRow refusal noHigher runsFine tablesFine levelsFine listingFine clockFine usesFine sound stored
-    answered usesAfter accepted step fresh freshUses taskAt kindAt holds freeSlot freeObject wokenIfDue wakes oneTick turned ticked ticks released
-    held advanced arrives waitFor
+unfolding trace asTheSlots againstTheSlots longerFirst waiterFirst delayFirst delaysReleased waiterReleased delaysAdvanced waiterAdvanced loanEnds beganAt advanced
+    every allBelow foldl upTo index any kept asked ordered without count tidy putAt created deleted suspended
+    resumed yielded delayed queueMade mutexMade removed taken given effect after itemAt outlet sent storeSent received storeReceived line those begun
+    highest leader first chosen toTail toHead leaves values goesOn raised levels ruled moved movedIf prioritized relevelled workedOut newPriority outOfRange namesNone wrongSize notForIdle
+    notWithHold noneFree heldOrWaited inUse notHis hisAlready notSuspended mustWait noDepth noTick table laterRow refusal noHigher runsFine tablesFine
+    levelsFine listingFine clockFine usesFine sound stored answered usesAfter accepted step fresh freshUses taskAt kindAt holds freeSlot freeObject
+    wokenIfDue wakes countedOn oneTick turned ticked ticks released held arrives waitFor
 meters-fit = record {
   as-the-slots = refl;
   against-the-slots = refl;
@@ -133,14 +149,15 @@ meters-fit = record {
   waiter-released = refl;
   delays-advanced = refl;
   waiter-advanced = refl;
+  loan-ends = refl;
 }
 
 -- of 16 ticks fifteen wake a meter, and of no number more
 pub fifteen-wake : wakings true 16 (reached (map unlent eachItsOwnTick)) ≡ 15
-unfolding wakings trace eachItsOwnTick every allBelow foldl upTo index any kept asked ordered without count tidy putAt created deleted suspended resumed yielded
-    delayed queueMade mutexMade removed taken handedOn given effect itemAt outlet sent storeSent received storeReceived line those begun highest leader
-    first chosen toTail toHead leaves moved movedIf prioritized newPriority lent ownAgain outOfRange namesNone wrongSize notForIdle notWithHold
-    noneFree heldOrWaited inUse notHis hisAlready notSuspended mustWait noDepth noTick table laterRow refusal noHigher runsFine tablesFine levelsFine
-    listingFine clockFine usesFine sound stored answered usesAfter accepted step fresh freshUses taskAt kindAt holds freeSlot freeObject wokenIfDue
-    wakes oneTick turned ticked ticks released held advanced arrives waitFor
+unfolding wakings trace eachItsOwnTick advanced every allBelow foldl upTo index any kept asked ordered without count tidy putAt created deleted suspended
+    resumed yielded delayed queueMade mutexMade removed taken given effect after itemAt outlet sent storeSent received storeReceived line those begun
+    highest leader first chosen toTail toHead leaves values goesOn raised levels ruled moved movedIf prioritized relevelled workedOut newPriority outOfRange namesNone wrongSize notForIdle
+    notWithHold noneFree heldOrWaited inUse notHis hisAlready notSuspended mustWait noDepth noTick table laterRow refusal noHigher runsFine tablesFine
+    levelsFine listingFine clockFine usesFine sound stored answered usesAfter accepted step fresh freshUses taskAt kindAt holds freeSlot freeObject
+    wokenIfDue wakes countedOn oneTick turned ticked ticks released held arrives waitFor
 fifteen-wake = refl

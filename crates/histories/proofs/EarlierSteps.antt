@@ -21,13 +21,12 @@ use Rattle.rules.specs.Tables.{fresh, withUses}
 use Rattle.rules.specs.Lines.{hasBegun, begun, isOneOf, Ahead, first, runsIf, chosen}
 use Rattle.rules.specs.Sound.{sound}
 use Rattle.rules.specs.Sentences.{Sound}
-use Rattle.rules.specs.Effects.{effect}
-use Rattle.rules.specs.Steps.{usesAfter, accepted}
+use Rattle.rules.specs.Steps.{usesAfter, after, accepted}
 use Rattle.rules.specs.Trace.{Moment, momentOf, trace, stateAfter, CallMade, stepMade}
 use Rattle.rules.proofs.SoundSays.{sound-says}
 use Rattle.rules.proofs.KeepEvery.{fresh-sound, step-kept}
 use Rattle.rules.proofs.Begun.{Remember, none-begins, stays}
-use Rattle.rules.proofs.BegunCalls.{roomy-in, caller-ready, effect-remembers}
+use Rattle.rules.proofs.BegunCalls.{roomy-in, caller-ready, after-remembers}
 use Rattle.rules.proofs.BegunPairs.{ahead-among, one-alone}
 use Rattle.promises.specs.History.{reached}
 use Rattle.histories.specs.Types.{TaskSlot, AllReady, State}
@@ -50,7 +49,7 @@ step-remembers : (k : State) → sound k ≡ true → (m : CallMade) → Remembe
 unfolding accepted
 step-remembers k e m =
     step-cases k e m (λ d. Remember k (d .kernel))
-    (λ P. chosen-remembers k (effect k (asked (k .uses) (m .call))) (usesAfter (k .uses) (asked (k .uses) (m .call))) (effect-remembers k S (length (m .store)) (m .call) P))
+    (λ P. chosen-remembers k (after k (asked (k .uses) (m .call))) (usesAfter (k .uses) (asked (k .uses) (m .call))) (after-remembers k S (length (m .store)) (m .call) P))
     (none-begins (caller-ready k S) (stays (roomy-in k S)))
   where
     S : Sound k

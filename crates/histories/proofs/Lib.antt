@@ -1,15 +1,9 @@
 pub mod Computed
-pub mod Largest
-pub mod Quiet
-pub mod QuietCalls
-pub mod Fair
-pub mod FairTasks
-pub mod FairMutexes
-pub mod FairSteps
-pub mod PaidBack
 pub mod Lives
 pub mod NeverAgain
 pub mod UseCounts
 pub mod EarlierSteps
 pub mod EarlierWakes
 pub mod ByFullNumber
+pub mod Owns
+pub mod Given

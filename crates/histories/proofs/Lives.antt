@@ -2,7 +2,7 @@
 use Prim.Native.Nat.{ℕ, zero, suc, _+_, _*_, _/_, _%_, _<_, _≤_}
 use mathlib.Core.Path.{_≡_, refl, sym, ap, _∙_}
 use mathlib.Core.Bool.{Bool, true, false, _&&_, false≢true}
-use mathlib.Core.List.{List, [], _∷_}
+use mathlib.Core.List.{List}
 use native.Mathlib.Omega.{arith}
 use lib.Dec.{eqb}
 use lib.ListN.{set}
@@ -18,11 +18,12 @@ use Rattle.slots.specs.Places.{isFree, takesTask}
 use Rattle.slots.specs.Values.{freeTask, spentTask, readyAt, taskAt}
 use Rattle.slots.specs.Kinds.{unused, isUnused, takesObject, kindAt}
 use Rattle.rules.specs.Tables.{freeSlot, freeObject, withUses}
-use Rattle.rules.specs.Lines.{first, runsIf, chosen, toTail, leaves}
+use Rattle.rules.specs.Lines.{chosen, toTail, leaves}
 use Rattle.rules.specs.Sentences.{Sound}
 use Rattle.rows.specs.Asking.{is, makes}
 use Rattle.rows.specs.Applies.{namesNone, noneFree}
 use Rattle.rules.specs.Refusals.{newSlot}
+use Rattle.rules.specs.Loans.{workedOut}
 use Rattle.rules.specs.Effects.{created, deleted, queueMade, mutexMade, removed, effect}
 use Rattle.rules.specs.Steps.{newNumber, usesAfter}
 use Rattle.rules.proofs.RowPasses.{Passed}
@@ -31,8 +32,9 @@ use Rattle.rules.proofs.KeepObject.{kinds, kind-same, kind-other}
 use Rattle.rules.proofs.Keeps.{there-low, index-most, index-passes}
 use Rattle.rules.proofs.KeepObjects.{object-low}
 use Rattle.rules.proofs.KeepUses.{up-other}
-use Rattle.rules.proofs.KeepTaken.{stands, standsAs, there-stands, used-stands, Stays, effect-stays}
-use Rattle.histories.specs.Types.{TaskSlot, ObjSlot, Place, Free, Ready, Delayed, Waiting, Suspended, Spent, Task, Ring, Nobody, Kind, Unused, SpentObject, Queue, Mutex, Object, AllReady, State}
+use Rattle.rules.proofs.KeepTaken.{stands, standsAs, there-stands, used-stands, Stays, effect-stays, worked-stays}
+use Rattle.rules.proofs.TickJumps.{chosen-only}
+use Rattle.histories.specs.Types.{TaskSlot, ObjSlot, Place, Free, Ready, Delayed, Waiting, Suspended, Spent, Task, Ring, Nobody, Kind, Unused, SpentObject, Queue, Mutex, Object, State}
 use Rattle.histories.specs.Types.{Call, Create, Delete, Suspend, Resume, SetPriority, Delay, Yield, Hold, Release, MakeQueue, MakeMutex, Remove, Send, Receive, Take, Give, Tick, Advance}
 
 -- of a slot where nothing, something, or nothing ever after stands
@@ -313,17 +315,10 @@ effect-takes k S n (Give o) P x = absurd (false≢true x)
 effect-takes k S n Tick P x = absurd (false≢true x)
 effect-takes k S n (Advance d) P x = absurd (false≢true x)
 
--- choose changes who runs, and no slot
-pub chosen-slot : (f : ℕ → ℕ → ℕ) (b : Bool) (j : State) (us : Uses) (s : ℕ)
-    → f (standsIn b (withUses (chosen j) us) s) (keptUse b (withUses (chosen j) us) s) ≡ f (standsIn b (withUses j us) s) (keptUse b (withUses j us) s)
-unfolding chosen
-chosen-slot f b j us s = go b (eqb (j .hold) 0) (first j AllReady)
-  where
-    go : (b c : Bool) (l : List TaskSlot)
-        → let i = if c then runsIf j l else j in f (standsIn b (withUses i us) s) (keptUse b (withUses i us) s) ≡ f (standsIn b (withUses j us) s) (keptUse b (withUses j us) s)
-    go true true [] = refl
-    go true true (u ∷ l) = refl
-    go true false l = refl
-    go false true [] = refl
-    go false true (u ∷ l) = refl
-    go false false l = refl
+-- neither the effective priorities worked out nor choose change a slot
+pub end-slot : (f : ℕ → ℕ → ℕ) (b : Bool) (j : State) (us : Uses) (s : ℕ)
+    → let i = chosen (workedOut j) in f (standsIn b (withUses i us) s) (keptUse b (withUses i us) s) ≡ f (standsIn b (withUses j us) s) (keptUse b (withUses j us) s)
+end-slot f true j us s =
+    ap (λ st. f st (useIn (us .tasks) s)) (ap (λ (ts : List Task). stands (taskAt ts (task s) .place)) (chosen-only (workedOut j) .tasks) ∙ worked-stays j .tasks (task s))
+end-slot f false j us s =
+    ap (λ st. f st (useIn (us .objects) s)) (ap (λ (os : List Object). standsAs (kindAt os (object s))) (chosen-only (workedOut j) .objects) ∙ worked-stays j .objects (object s))

@@ -15,6 +15,8 @@ use Rattle.calls.specs.Named.{taskOf, objectOf}
 use Rattle.calls.specs.Door.{taskSlot, objSlot}
 use Rattle.calls.specs.declared.Asked.{Asked}
 use Rattle.calls.specs.Behind.{asked}
+use Rattle.calls.specs.Said.{says, done, made, waiting}
+use Rattle.slots.specs.Places.{isBlocked}
 use Rattle.slots.specs.Values.{taskAt}
 use Rattle.slots.specs.Kinds.{kindAt}
 use Rattle.rules.specs.Tables.{fresh}
@@ -22,7 +24,7 @@ use Rattle.rules.specs.Sound.{sound}
 use Rattle.rows.specs.Asking.{is, makes}
 use Rattle.rules.specs.Refusals.{newSlot, laterRow, refusal}
 use Rattle.rules.specs.Effects.{effect}
-use Rattle.rules.specs.Steps.{Stepped, newNumber, answered, usesAfter, accepted, turnedAway, steppedBy, step}
+use Rattle.rules.specs.Steps.{Stepped, newNumber, answered, usesAfter, after as worked, accepted, turnedAway, steppedBy, step}
 use Rattle.rules.specs.Trace.{trace, CallMade, stepMade}
 use Rattle.rules.proofs.TableSlots.{past-tasks, past-objects}
 use Rattle.rules.proofs.SoundSays.{sound-says}
@@ -32,9 +34,10 @@ use Rattle.rules.proofs.KeepEvery.{step-kept}
 use Rattle.rules.proofs.KeepTaken.{stands, standsAs, there-stands, stands-there, used-stands, stands-used}
 use Rattle.promises.specs.History.{after, reached}
 use Rattle.promises.proofs.Histories.{reached-sound}
-use Rattle.histories.specs.Types.{Task, State}
+use Rattle.histories.specs.Types.{Call, Task, State}
+use Rattle.histories.specs.Moments.{isRefusal}
 use Rattle.histories.specs.Again.{namesTask, namesObject, momentFrom, isMade, answersMade, madeTask, madeObject}
-use Rattle.histories.proofs.Lives.{lifeIn, lifeOf, Grows, life-names, names-life, Takes, effect-grows, effect-takes, chosen-slot}
+use Rattle.histories.proofs.Lives.{lifeIn, lifeOf, Grows, life-names, names-life, Takes, effect-grows, effect-takes, end-slot}
 
 -- ── a step
 module _ (k : State) (e : sound k ≡ true) (m : CallMade) where
@@ -54,14 +57,14 @@ module _ (k : State) (e : sound k ≡ true) (m : CallMade) where
       go false q = g
 
   step-grows : Grows k (stepMade k [] m .kernel)
-  unfolding accepted
+  unfolding accepted worked
   step-grows =
       step-cases (λ d. Grows k (d .kernel))
-      (λ P b s. subst (λ x. lifeOf b k s ≤ x) (sym (chosen-slot lifeIn b (effect k a) (usesAfter (k .uses) a) s)) (effect-grows k (sound-says k e) (length (m .store)) (m .call) P b s))
+      (λ P b s. subst (λ x. lifeOf b k s ≤ x) (sym (end-slot lifeIn b (effect k a) (usesAfter (k .uses) a) s)) (effect-grows k (sound-says k e) (length (m .store)) (m .call) P b s))
       (λ b s. omega arith)
 
   step-takes : (n : ℕ) → makes a ≡ true → answersMade (momentFrom k m) n ≡ true → Takes (lifeOf (is 1 a) k) (lifeOf (is 1 a) (stepMade k [] m .kernel)) n
-  unfolding accepted answered
+  unfolding accepted worked answered
   step-takes n x =
       step-cases (λ d. (isMade (d .answer .word) && eqb (d .answer .number) n) ≡ true → Takes (lifeOf (is 1 a) k) (lifeOf (is 1 a) (d .kernel)) n)
       (λ P y. taken P (eqb-true (newNumber (k .uses) a (newSlot k a)) n (rw x at y)))
@@ -71,7 +74,17 @@ module _ (k : State) (e : sound k ≡ true) (m : CallMade) where
       taken P q =
           let T = effect-takes k (sound-says k e) (length (m .store)) (m .call) P x in
           subst (λ i. Takes (lifeOf (is 1 a) k) (lifeOf (is 1 a) (accepted k a (m .item) (m .store) .kernel)) i) q
-          (record { was = T .was; now = chosen-slot lifeIn (is 1 a) (effect k a) (usesAfter (k .uses) a) _ ∙ T .now })
+          (record { was = T .was; now = end-slot lifeIn (is 1 a) (effect k a) (usesAfter (k .uses) a) _ ∙ T .now })
+
+-- the answer to an accepted call is no refusal
+pub answered-accepts : (k : State) (c : Call) (j : State) → isRefusal (answered k (asked (k .uses) c) j .word) ≡ false
+unfolding answered
+answered-accepts k c j = go (makes (asked (k .uses) c)) (isBlocked (taskAt (j .tasks) (k .running) .place))
+  where
+    go : (x z : Bool) → isRefusal ((if x then says made (newNumber (k .uses) (asked (k .uses) c) (newSlot k (asked (k .uses) c))) else if z then says waiting 0 else says done 0) .word) ≡ false
+    go true z = refl
+    go false true = refl
+    go false false = refl
 
 -- ── any calls
 grows-refl : (k : State) → Grows k k

@@ -19,7 +19,7 @@ use Rattle.rules.specs.Lines.{chosen}
 use Rattle.rules.specs.Sound.{sound}
 use Rattle.rules.specs.Sentences.{Used}
 use Rattle.rules.specs.Effects.{effect}
-use Rattle.rules.specs.Steps.{usesAfter, accepted}
+use Rattle.rules.specs.Steps.{usesAfter, after, accepted}
 use Rattle.rules.specs.Trace.{Moment, momentOf, trace, stateAfter, CallMade, stepMade}
 use Rattle.rules.proofs.SoundSays.{sound-says}
 use Rattle.rules.proofs.KeepTaken.{stands, standsAs}
@@ -29,9 +29,8 @@ use Rattle.promises.proofs.Histories.{reached-sound}
 use Rattle.histories.specs.Types.{TaskSlot, ObjSlot, Place, Free, Ready, Delayed, Waiting, Suspended, Spent, Kind, Unused, SpentObject, Queue, Mutex, State}
 use Rattle.histories.specs.Moments.{onto, moments, isRefusal}
 use Rattle.histories.specs.Uses.{useOf, taskUse, objectUse, times, UsesCount}
-use Rattle.histories.proofs.Lives.{standsIn, keptUse, Becomes, as-it-was, now-taken, now-empty, givesUp, effect-becomes, chosen-slot}
-use Rattle.histories.proofs.FairSteps.{answered-accepts}
-use Rattle.histories.proofs.NeverAgain.{step-cases}
+use Rattle.histories.proofs.Lives.{standsIn, keptUse, Becomes, as-it-was, now-taken, now-empty, givesUp, effect-becomes, end-slot}
+use Rattle.histories.proofs.NeverAgain.{step-cases, answered-accepts}
 
 -- ── the use of one slot, by what stands in it
 abbrev useBy : ℕ → ℕ → ℕ
@@ -70,13 +69,13 @@ abbrev gives : Bool → ℕ → Moment CallMade → Bool
 gives b s m = not (isRefusal (m .gave .answer .word)) && givesUp b (asked (m .before .uses) (m .made .call)) s
 
 step-use : (k : State) → sound k ≡ true → (m : CallMade) (b : Bool) (s : ℕ) → useAt b (stepMade k [] m .kernel) s ≡ one (gives b s (momentOf stepMade k [] m)) + useAt b k s
-unfolding accepted
+unfolding accepted after
 step-use k e m b s =
     step-cases k e m (λ d. useAt b (d .kernel) s ≡ one (not (isRefusal (d .answer .word)) && givesUp b (asked (k .uses) (m .call)) s) + useAt b k s)
     (λ P.
-    chosen-slot useBy b (effect k (asked (k .uses) (m .call))) (usesAfter (k .uses) (asked (k .uses) (m .call))) s
+    end-slot useBy b (effect k (asked (k .uses) (m .call))) (usesAfter (k .uses) (asked (k .uses) (m .call))) s
     ∙ becomes-use _ _ _ _ _ (effect-becomes k (sound-says k e) (length (m .store)) (m .call) P b s)
-    ∙ ap (λ r. one (not r && givesUp b (asked (k .uses) (m .call)) s) + useAt b k s) (sym (answered-accepts k (m .call) (chosen (effect k (asked (k .uses) (m .call)))))))
+    ∙ ap (λ r. one (not r && givesUp b (asked (k .uses) (m .call)) s) + useAt b k s) (sym (answered-accepts k (m .call) (chosen (after k (asked (k .uses) (m .call)))))))
     (omega arith)
 
 -- ── any calls

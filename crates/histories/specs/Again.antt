@@ -12,8 +12,7 @@ use Rattle.rows.specs.Asking.{is}
 use Rattle.rules.specs.Tables.{fresh}
 use Rattle.rules.specs.Trace.{Moment, trace, momentOf, CallMade, stepMade}
 use Rattle.histories.specs.Types.{State, Call, Create, Delete, MakeMutex, Remove}
-use Rattle.histories.specs.Moments.{exists}
-use Rattle.histories.specs.Tales.{unlent}
+use Rattle.histories.specs.Moments.{unlent, exists}
 
 -- the number names a task that exists, an object that was made and not removed
 abbrev pub namesTask : State → ℕ → Bool

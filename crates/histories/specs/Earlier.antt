@@ -12,7 +12,7 @@ use Rattle.order.specs.Order.{listed}
 use Rattle.slots.specs.Places.{wakesAt}
 use Rattle.slots.specs.Values.{inLine, taskAt}
 use Rattle.rules.specs.Tables.{withTick, withHold}
-use Rattle.rules.specs.Lines.{line, hasBegun, begun, Ahead}
+use Rattle.rules.specs.Lines.{line, hasBegun, begun, Ahead, level}
 use Rattle.rules.specs.Waits.{later}
 use Rattle.rules.specs.Ticks.{ReadyFirst, ticks}
 use Rattle.rules.specs.Trace.{Moment, CallMade}
@@ -44,9 +44,12 @@ pub record Earlier (ms : List CallMade) (w : ℕ) (t u : TaskSlot) : Type 0 wher
 abbrev pub WakesFirst : ℕ → TaskSlot → TaskSlot → State → Type 0
 WakesFirst w t u k = later (k .tick) 1 ≡ w → hasBegun (k .tasks) u ≡ true → ReadyFirst t u (withTick k w) (begun (k .tasks) (listed (k .order)))
 
--- where both stand in the line of p, t stands ahead
-abbrev pub AheadIfBoth : ℕ → TaskSlot → TaskSlot → State → Type 0
-AheadIfBoth p t u k = inLine p (taskAt (k .tasks) t) ≡ true → inLine p (taskAt (k .tasks) u) ≡ true → Ahead t u (line (k .tasks) p (listed (k .order)))
+-- from k to j: where both had the effective priority p and both stand in the line of p, t stands ahead. Of other lines this is not said: who is woken on the tick on which its
+-- loan ends joins the line of the effective priority that it had, and from there "tasks whose line changes move in order of task number" (`loanEnds` in Meters.antt)
+abbrev pub AheadIfBoth : ℕ → TaskSlot → TaskSlot → State → State → Type 0
+AheadIfBoth p t u k j =
+    level (k .tasks) t ≡ p → level (k .tasks) u ≡ p → inLine p (taskAt (j .tasks) t) ≡ true → inLine p (taskAt (j .tasks) u) ≡ true
+    → Ahead t u (line (j .tasks) p (listed (j .order)))
 
 -- the call is an advance
 abbrev pub advances : Call → Bool
@@ -62,7 +65,9 @@ pub record WokenInOrder (ms : List CallMade) (w : ℕ) (t u : TaskSlot) : Type 0
   pub at-release : (i : ℕ) → WakesFirst w t u (ticks false i (withHold (reached ms) 0 0))
   -- so does the tick of an advance on which both are due, after i others, each with its turn of the line
   pub at-advance : (i : ℕ) → reached ms .hold ≡ 0 → WakesFirst w t u (ticks true i (reached ms))
-  -- so it stands ahead where both join one line, whatever the call after which they stand there, but for an advance: there more ticks may come, and turn the line
-  pub in-line : (m : CallMade) (p : ℕ) → advances (m .call) ≡ false → AheadIfBoth p t u (reached (ms ++ (m ∷ [])))
+  -- so it stands ahead where both join the line of the effective priority that they had, whatever the call after which they stand there, but for an advance: there more ticks
+  -- may come, and turn the line
+  pub in-line : (m : CallMade) (p : ℕ) → advances (m .call) ≡ false → AheadIfBoth p t u (reached ms) (reached (ms ++ (m ∷ [])))
   -- in an advance it stands ahead after the tick, behind i others, that ends the delay or wait of u
-  pub in-advance : (i p : ℕ) → reached ms .hold ≡ 0 → hasBegun (ticks true i (reached ms) .tasks) u ≡ true → AheadIfBoth p t u (ticks true (suc i) (reached ms))
+  pub in-advance : (i p : ℕ) → reached ms .hold ≡ 0 → hasBegun (ticks true i (reached ms) .tasks) u ≡ true
+      → AheadIfBoth p t u (ticks true i (reached ms)) (ticks true (suc i) (reached ms))

@@ -1,9 +1,9 @@
 pub mod Types
 pub mod Moments
-pub mod Borrowed
-pub mod Tales
 pub mod Again
 pub mod ByFullNumber
+pub mod Given
+pub mod Tales
 pub mod Uses
 pub mod Earlier
 pub mod Meters

@@ -7,9 +7,8 @@ use Rattle.order.specs.Order.{listed}
 use Rattle.rules.specs.Tables.{fresh}
 use Rattle.rules.specs.Lines.{begun}
 use Rattle.rules.specs.Trace.{Moment, trace, CallMade, stepMade}
-use Rattle.histories.specs.Types.{TaskSlot, State, Call, Create, Delay, Yield, Hold, Release, MakeQueue, Receive, Tick, Advance}
-use Rattle.histories.specs.Moments.{moments}
-use Rattle.histories.specs.Tales.{unlent}
+use Rattle.histories.specs.Types.{TaskSlot, State, Call, Create, Delay, Yield, Hold, Release, MakeQueue, MakeMutex, Receive, Take, Tick, Advance}
+use Rattle.histories.specs.Moments.{moments, unlent}
 use Rattle.histories.specs.Earlier.{beganAt}
 
 -- by slot: who began, after each call; who runs, after each call; and the moments at which meter 1 and meter 2 began
@@ -134,6 +133,17 @@ waiterAdvanced = record {
     waiting = [] ∷ [] ∷ [] ∷ [] ∷ (2 ∷ []) ∷ (2 ∷ 1 ∷ []) ∷ (2 ∷ 1 ∷ []) ∷ [] ∷ [];
     running = 1 ∷ 1 ∷ 1 ∷ 2 ∷ 1 ∷ 0 ∷ 0 ∷ 1 ∷ [];
     began = 5 ∷ 4 ∷ [];
+  };
+}
+
+-- meter 1 begins first, with a loan of 9 that ends on the tick on which both are due: it joins the line of 9, and then moves to that of 3, behind meter 2
+unfoldable pub loanEnds : MeterTale
+loanEnds = record {
+  calls = Create 3 ∷ MakeMutex ∷ Take (objectOf 0) 0 ∷ Create 3 ∷ Create 9 ∷ Take (objectOf 0) 2 ∷ Delay 2 ∷ Delay 2 ∷ Tick ∷ Tick ∷ Delay 9 ∷ [];
+  expected = record {
+    waiting = [] ∷ [] ∷ [] ∷ [] ∷ [] ∷ (3 ∷ []) ∷ (3 ∷ 1 ∷ []) ∷ (3 ∷ 1 ∷ 2 ∷ []) ∷ (3 ∷ 1 ∷ 2 ∷ []) ∷ [] ∷ (3 ∷ []) ∷ [];
+    running = 1 ∷ 1 ∷ 1 ∷ 1 ∷ 3 ∷ 1 ∷ 2 ∷ 0 ∷ 0 ∷ 3 ∷ 2 ∷ [];
+    began = 6 ∷ 7 ∷ [];
   };
 }
 

@@ -1,108 +1,264 @@
--- Histories of a task's effective priority: calls, and what the task has after each of them.
+-- Histories of loans: calls, and after each of them the own and the effective priorities of some tasks.
 use Prim.Native.Nat.{ℕ}
+use mathlib.Core.Path.{_≡_}
 use mathlib.Core.List.{List, [], _∷_, map}
-use lib.ListN.{replicate}
+use lib.ListN.{getD}
 use Rattle.lists.specs.Choice.{if_then_else_}
-use Rattle.numbers.specs.Numbers.{task}
 use Rattle.calls.specs.Named.{taskOf, objectOf}
+use Rattle.slots.specs.Values.{taskAt}
 use Rattle.rules.specs.Tables.{fresh}
 use Rattle.rules.specs.Lines.{level}
+use Rattle.rules.specs.Loans.{ruled}
 use Rattle.rules.specs.Trace.{Moment, trace, CallMade, stepMade}
-use Rattle.histories.specs.Types.{TaskSlot, State, Call, Create, Delete, SetPriority, Delay, MakeMutex, Take, Give, Tick}
-use Rattle.histories.specs.Moments.{exists}
-use Rattle.histories.specs.Borrowed.{due}
+use Rattle.histories.specs.Types.{State, Call, Create, Delete, Suspend, Resume, SetPriority, MakeMutex, Take, Give, Tick}
+use Rattle.histories.specs.Moments.{unlent}
+use Rattle.histories.specs.Again.{namesTask}
+use Rattle.histories.specs.ByFullNumber.{slotOf}
+use Rattle.histories.specs.Given.{lastGivenTo}
 
--- what the kernel says and what its history says, after a call; nothing where the task does not exist
-abbrev pub shownIn : TaskSlot → State → List (Moment CallMade) → List ℕ
-shownIn t k past = if exists k t then level (k .tasks) t ∷ due k past t ∷ [] else []
+-- of the task of the number, after a call: the own priority that the kernel has and the one that the history says, the effective one that the kernel has and the rule's, of
+-- those of every slot; nothing where there is no such task
+abbrev pub shownOf : State → List (Moment CallMade) → List ℕ → ℕ → List ℕ
+shownOf k past rules n =
+    let t = slotOf k n in
+    if namesTask k n then taskAt (k .tasks) t .own ∷ lastGivenTo n past ∷ level (k .tasks) t ∷ getD rules (t .0) 0 ∷ [] else []
+
+abbrev pub shownIn : List ℕ → State → List (Moment CallMade) → List (List ℕ)
+shownIn ns k past = map (shownOf k past (ruled (k .tasks) (k .objects))) ns
 
 -- moment after moment, each with its past
-unfoldable pub shownAfter : TaskSlot → List (Moment CallMade) → List (Moment CallMade) → List (List ℕ)
-shownAfter t past [] = []
-shownAfter t past (m ∷ ms) = shownIn t (m .gave .kernel) (m ∷ past) ∷ shownAfter t (m ∷ past) ms
+unfoldable pub shownAfter : List ℕ → List (Moment CallMade) → List (Moment CallMade) → List (List (List ℕ))
+shownAfter ns past [] = []
+shownAfter ns past (m ∷ ms) = shownIn ns (m .gave .kernel) (m ∷ past) ∷ shownAfter ns (m ∷ past) ms
 
--- a call with an empty item and a store of zeros
-abbrev pub unlent : Call → CallMade
-unlent c = record { call = c; item = []; store = replicate 9216 0 }
+-- a call, and what is to be shown after it
+pub record Line : Type 0 where
+  pub call : Call
+  pub shows : List (List ℕ)
 
+-- the tasks by their numbers
 pub record Tale : Type 0 where
-  pub task : TaskSlot
-  pub calls : List Call
-  pub expected : List (List ℕ)
+  pub tasks : List ℕ
+  pub lines : List Line
 
 -- from the fresh kernel
-abbrev pub shownBy : Tale → List (List ℕ)
-shownBy w = shownAfter (w .task) [] (trace stepMade fresh [] (map unlent (w .calls)))
+abbrev pub shownBy : Tale → List (List (List ℕ))
+shownBy w = shownAfter (w .tasks) [] (trace stepMade fresh [] (map (λ (l : Line). unlent (l .call)) (w .lines)))
 
--- kernel and history agree; there is no such task
-abbrev pub both : ℕ → List ℕ
-both n = n ∷ n ∷ []
+abbrev pub expected : Tale → List (List (List ℕ))
+expected w = map (λ (l : Line). l .shows) (w .lines)
+
+-- after each call the kernel has what is written down, and the history and the rule say the same
+abbrev pub Fits : Tale → Type 0
+Fits w = shownBy w ≡ expected w
+
+-- the call, and then two tasks, three or four
+abbrev pub two : Call → List ℕ → List ℕ → Line
+two c a b = record { call = c; shows = a ∷ b ∷ [] }
+
+abbrev pub three : Call → List ℕ → List ℕ → List ℕ → Line
+three c a b d = record { call = c; shows = a ∷ b ∷ d ∷ [] }
+
+abbrev pub four : Call → List ℕ → List ℕ → List ℕ → List ℕ → Line
+four c a b d e = record { call = c; shows = a ∷ b ∷ d ∷ e ∷ [] }
+
+-- this own priority and this effective one, on which all agree; there is no such task
+abbrev pub has : ℕ → ℕ → List ℕ
+has p q = p ∷ p ∷ q ∷ q ∷ []
 
 abbrev pub gone : List ℕ
 gone = []
 
--- task 2 lends 5 on mutex 0; task 1 gives that one, then the other
-unfoldable pub twoGives : Tale
-twoGives = record {
-  task = task 1;
-  calls = Create 3 ∷ MakeMutex ∷ MakeMutex ∷ Take (objectOf 0) 0 ∷ Take (objectOf 1) 0 ∷ Create 5 ∷ Take (objectOf 0) 10 ∷ Give (objectOf 0) ∷ Give (objectOf 1) ∷ [];
-  expected = both 3 ∷ both 3 ∷ both 3 ∷ both 3 ∷ both 3 ∷ both 3 ∷ both 5 ∷ both 5 ∷ both 3 ∷ [];
+-- "The record writer waited on the meter task, which waited on the tag task": tag task 1, meter task 2, record writer 3
+unfoldable pub chainOfThree : Tale
+chainOfThree = record {
+  tasks = 1 ∷ 2 ∷ 3 ∷ [];
+  lines =
+      three (Create 3) (has 3 3) gone gone
+      ∷ three MakeMutex (has 3 3) gone gone
+      ∷ three MakeMutex (has 3 3) gone gone
+      ∷ three (Take (objectOf 0) 0) (has 3 3) gone gone
+      ∷ three (Create 5) (has 3 3) (has 5 5) gone
+      ∷ three (Take (objectOf 1) 0) (has 3 3) (has 5 5) gone
+      ∷ three (Take (objectOf 0) 10) (has 3 5) (has 5 5) gone
+      ∷ three (Create 9) (has 3 5) (has 5 5) (has 9 9)
+      ∷ three (Take (objectOf 1) 10) (has 3 9) (has 5 9) (has 9 9)
+      ∷ three (Give (objectOf 0)) (has 3 3) (has 5 9) (has 9 9)
+      ∷ three (Give (objectOf 1)) (has 3 3) (has 5 5) (has 9 9)
+      ∷ [];
 }
 
--- with a loan of 5 the task is set to 2, then to 7, then to 4
+-- of two mutexes task 1 gives the one on which task 2 waits: it keeps nothing of the loan, though it holds the other
+unfoldable pub firstGive : Tale
+firstGive = record {
+  tasks = 1 ∷ 2 ∷ [];
+  lines =
+      two (Create 3) (has 3 3) gone
+      ∷ two MakeMutex (has 3 3) gone
+      ∷ two MakeMutex (has 3 3) gone
+      ∷ two (Take (objectOf 0) 0) (has 3 3) gone
+      ∷ two (Take (objectOf 1) 0) (has 3 3) gone
+      ∷ two (Create 5) (has 3 3) (has 5 5)
+      ∷ two (Take (objectOf 0) 10) (has 3 5) (has 5 5)
+      ∷ two (Give (objectOf 0)) (has 3 3) (has 5 5)
+      ∷ [];
+}
+
+-- with a loan of 5 task 1 is set to 2, to 7 and to 4: it "keeps only what its waiters lend"
 unfoldable pub setWithLoan : Tale
 setWithLoan = record {
-  task = task 1;
-  calls = Create 3 ∷ MakeMutex ∷ Take (objectOf 0) 0 ∷ Create 5 ∷ Take (objectOf 0) 10 ∷ SetPriority (taskOf 1) 2 ∷ SetPriority (taskOf 1) 7 ∷ SetPriority (taskOf 1) 4 ∷ Give (objectOf 0) ∷ [];
-  expected = both 3 ∷ both 3 ∷ both 3 ∷ both 3 ∷ both 5 ∷ both 5 ∷ both 7 ∷ both 7 ∷ both 4 ∷ [];
+  tasks = 1 ∷ 2 ∷ [];
+  lines =
+      two (Create 3) (has 3 3) gone
+      ∷ two MakeMutex (has 3 3) gone
+      ∷ two (Take (objectOf 0) 0) (has 3 3) gone
+      ∷ two (Create 5) (has 3 3) (has 5 5)
+      ∷ two (Take (objectOf 0) 10) (has 3 5) (has 5 5)
+      ∷ two (SetPriority (taskOf 1) 2) (has 2 5) (has 5 5)
+      ∷ two (SetPriority (taskOf 1) 7) (has 7 7) (has 5 5)
+      ∷ two (SetPriority (taskOf 1) 4) (has 4 5) (has 5 5)
+      ∷ two (Give (objectOf 0)) (has 4 4) (has 5 5)
+      ∷ [];
 }
 
--- the waiter's time runs out, and then it delays: the loan stays until the give
+-- the waiter's time runs out: the loan ends, and the holder keeps its mutex, on which the next take waits again
 unfoldable pub timeRunsOut : Tale
 timeRunsOut = record {
-  task = task 1;
-  calls = Create 3 ∷ MakeMutex ∷ Take (objectOf 0) 0 ∷ Create 5 ∷ Take (objectOf 0) 1 ∷ Tick ∷ Delay 9 ∷ Give (objectOf 0) ∷ [];
-  expected = both 3 ∷ both 3 ∷ both 3 ∷ both 3 ∷ both 5 ∷ both 5 ∷ both 5 ∷ both 3 ∷ [];
+  tasks = 1 ∷ 2 ∷ [];
+  lines =
+      two (Create 3) (has 3 3) gone
+      ∷ two MakeMutex (has 3 3) gone
+      ∷ two (Take (objectOf 0) 0) (has 3 3) gone
+      ∷ two (Create 5) (has 3 3) (has 5 5)
+      ∷ two (Take (objectOf 0) 1) (has 3 5) (has 5 5)
+      ∷ two Tick (has 3 3) (has 5 5)
+      ∷ two (Take (objectOf 0) 1) (has 3 5) (has 5 5)
+      ∷ [];
 }
 
--- task 2 is handed the mutex, and with it the waiter 3, which is then set to 9; task 4 begins to wait later
+-- tasks 3 and 4 wait for tasks 1 and 2 until the same tick
+unfoldable pub twoLoansEnd : Tale
+twoLoansEnd = record {
+  tasks = 1 ∷ 2 ∷ 3 ∷ 4 ∷ [];
+  lines =
+      four (Create 3) (has 3 3) gone gone gone
+      ∷ four MakeMutex (has 3 3) gone gone gone
+      ∷ four MakeMutex (has 3 3) gone gone gone
+      ∷ four (Take (objectOf 0) 0) (has 3 3) gone gone gone
+      ∷ four (Create 4) (has 3 3) (has 4 4) gone gone
+      ∷ four (Take (objectOf 1) 0) (has 3 3) (has 4 4) gone gone
+      ∷ four (Create 8) (has 3 3) (has 4 4) (has 8 8) gone
+      ∷ four (Take (objectOf 0) 1) (has 3 8) (has 4 4) (has 8 8) gone
+      ∷ four (Create 9) (has 3 8) (has 4 4) (has 8 8) (has 9 9)
+      ∷ four (Take (objectOf 1) 1) (has 3 8) (has 4 9) (has 8 8) (has 9 9)
+      ∷ four Tick (has 3 3) (has 4 4) (has 8 8) (has 9 9)
+      ∷ [];
+}
+
+-- "a circle must still end": each waits on the other's mutex, task 2 until the next tick
+unfoldable pub circleOfTwo : Tale
+circleOfTwo = record {
+  tasks = 1 ∷ 2 ∷ [];
+  lines =
+      two (Create 3) (has 3 3) gone
+      ∷ two MakeMutex (has 3 3) gone
+      ∷ two MakeMutex (has 3 3) gone
+      ∷ two (Take (objectOf 0) 0) (has 3 3) gone
+      ∷ two (Create 5) (has 3 3) (has 5 5)
+      ∷ two (Take (objectOf 1) 0) (has 3 3) (has 5 5)
+      ∷ two (Take (objectOf 0) 1) (has 3 5) (has 5 5)
+      ∷ two (Take (objectOf 1) 10) (has 3 5) (has 5 5)
+      ∷ two (SetPriority (taskOf 1) 8) (has 8 8) (has 5 8)
+      ∷ two (SetPriority (taskOf 1) 2) (has 2 5) (has 5 5)
+      ∷ two Tick (has 2 2) (has 5 5)
+      ∷ [];
+}
+
+-- task 4 waits for task 3, that one for task 2, and that one for task 1: task 4 set lower, and then higher, changes all three
+unfoldable pub threeLinks : Tale
+threeLinks = record {
+  tasks = 1 ∷ 2 ∷ 3 ∷ 4 ∷ [];
+  lines =
+      four (Create 3) (has 3 3) gone gone gone
+      ∷ four MakeMutex (has 3 3) gone gone gone
+      ∷ four MakeMutex (has 3 3) gone gone gone
+      ∷ four MakeMutex (has 3 3) gone gone gone
+      ∷ four (Take (objectOf 0) 0) (has 3 3) gone gone gone
+      ∷ four (Create 4) (has 3 3) (has 4 4) gone gone
+      ∷ four (Take (objectOf 1) 0) (has 3 3) (has 4 4) gone gone
+      ∷ four (Take (objectOf 0) 10) (has 3 4) (has 4 4) gone gone
+      ∷ four (Create 5) (has 3 4) (has 4 4) (has 5 5) gone
+      ∷ four (Take (objectOf 2) 0) (has 3 4) (has 4 4) (has 5 5) gone
+      ∷ four (Take (objectOf 1) 10) (has 3 5) (has 4 5) (has 5 5) gone
+      ∷ four (Create 6) (has 3 5) (has 4 5) (has 5 5) (has 6 6)
+      ∷ four (Take (objectOf 2) 10) (has 3 6) (has 4 6) (has 5 6) (has 6 6)
+      ∷ four (SetPriority (taskOf 4) 2) (has 3 5) (has 4 5) (has 5 5) (has 2 2)
+      ∷ four (SetPriority (taskOf 4) 20) (has 3 20) (has 4 20) (has 5 20) (has 20 20)
+      ∷ [];
+}
+
+-- the mutex goes to task 3, of 29, while task 2, of 11, still waits; then task 3 is set to 10
 unfoldable pub handedWithWaiter : Tale
 handedWithWaiter = record {
-  task = task 2;
-  calls =
-      Create 3
-      ∷ MakeMutex
-      ∷ Take (objectOf 0) 0
-      ∷ Create 6
-      ∷ Take (objectOf 0) 10
-      ∷ Create 7
-      ∷ Take (objectOf 0) 10
-      ∷ SetPriority (taskOf 3) 5
-      ∷ Give (objectOf 0)
-      ∷ SetPriority (taskOf 3) 9
-      ∷ Create 8
-      ∷ Take (objectOf 0) 10
-      ∷ Give (objectOf 0)
+  tasks = 1 ∷ 2 ∷ 3 ∷ [];
+  lines =
+      three (Create 3) (has 3 3) gone gone
+      ∷ three MakeMutex (has 3 3) gone gone
+      ∷ three (Take (objectOf 0) 0) (has 3 3) gone gone
+      ∷ three (Create 11) (has 3 3) (has 11 11) gone
+      ∷ three (Take (objectOf 0) 10) (has 3 11) (has 11 11) gone
+      ∷ three (Create 29) (has 3 11) (has 11 11) (has 29 29)
+      ∷ three (Take (objectOf 0) 10) (has 3 29) (has 11 11) (has 29 29)
+      ∷ three (Give (objectOf 0)) (has 3 3) (has 11 11) (has 29 29)
+      ∷ three (SetPriority (taskOf 3) 10) (has 3 3) (has 11 11) (has 10 11)
+      ∷ three (Give (objectOf 0)) (has 3 3) (has 11 11) (has 10 10)
       ∷ [];
-  expected = gone ∷ gone ∷ gone ∷ both 6 ∷ both 6 ∷ both 6 ∷ both 6 ∷ both 6 ∷ both 6 ∷ both 6 ∷ both 6 ∷ both 8 ∷ both 6 ∷ [];
 }
 
--- task 2, of priority 4, has a loan of 7 when it begins to wait for task 1
-unfoldable pub lendsBorrowed : Tale
-lendsBorrowed = record {
-  task = task 1;
-  calls = Create 3 ∷ MakeMutex ∷ MakeMutex ∷ Take (objectOf 0) 0 ∷ Create 4 ∷ Take (objectOf 1) 0 ∷ Create 7 ∷ Take (objectOf 1) 10 ∷ Take (objectOf 0) 10 ∷ Give (objectOf 0) ∷ [];
-  expected = both 3 ∷ both 3 ∷ both 3 ∷ both 3 ∷ both 3 ∷ both 3 ∷ both 3 ∷ both 3 ∷ both 7 ∷ both 3 ∷ [];
+-- task 2 is set lower while it waits, and then task 3, of 8, begins to wait on the same mutex, which a task of 7 holds
+unfoldable pub waiterSetLower : Tale
+waiterSetLower = record {
+  tasks = 1 ∷ 2 ∷ 3 ∷ [];
+  lines =
+      three (Create 7) (has 7 7) gone gone
+      ∷ three MakeMutex (has 7 7) gone gone
+      ∷ three (Take (objectOf 0) 0) (has 7 7) gone gone
+      ∷ three (Create 9) (has 7 7) (has 9 9) gone
+      ∷ three (Take (objectOf 0) 10) (has 7 9) (has 9 9) gone
+      ∷ three (SetPriority (taskOf 2) 5) (has 7 7) (has 5 5) gone
+      ∷ three (Create 8) (has 7 7) (has 5 5) (has 8 8)
+      ∷ three (Take (objectOf 0) 10) (has 7 8) (has 5 5) (has 8 8)
+      ∷ [];
 }
 
--- a change to 40 is refused, without a mutex and with one
+-- a waiter that is suspended lends no more, resumed or not, nor does one that is deleted
+unfoldable pub waitersGone : Tale
+waitersGone = record {
+  tasks = 1 ∷ 2 ∷ 3 ∷ [];
+  lines =
+      three (Create 3) (has 3 3) gone gone
+      ∷ three MakeMutex (has 3 3) gone gone
+      ∷ three (Take (objectOf 0) 0) (has 3 3) gone gone
+      ∷ three (Create 5) (has 3 3) (has 5 5) gone
+      ∷ three (Take (objectOf 0) 10) (has 3 5) (has 5 5) gone
+      ∷ three (Create 6) (has 3 5) (has 5 5) (has 6 6)
+      ∷ three (Take (objectOf 0) 10) (has 3 6) (has 5 5) (has 6 6)
+      ∷ three (Suspend (taskOf 3)) (has 3 5) (has 5 5) (has 6 6)
+      ∷ three (Delete (taskOf 2)) (has 3 3) gone (has 6 6)
+      ∷ three (Resume (taskOf 3)) (has 3 3) gone (has 6 6)
+      ∷ [];
+}
+
+-- a change to 40 is refused, and so is one of number 17, which names nothing
 unfoldable pub refusedChange : Tale
 refusedChange = record {
-  task = task 1;
-  calls = Create 3 ∷ SetPriority (taskOf 1) 40 ∷ MakeMutex ∷ Take (objectOf 0) 0 ∷ SetPriority (taskOf 1) 40 ∷ Give (objectOf 0) ∷ [];
-  expected = both 3 ∷ both 3 ∷ both 3 ∷ both 3 ∷ both 3 ∷ both 3 ∷ [];
+  tasks = 1 ∷ 17 ∷ [];
+  lines = two (Create 3) (has 3 3) gone ∷ two (SetPriority (taskOf 1) 40) (has 3 3) gone ∷ two (SetPriority (taskOf 17) 5) (has 3 3) gone ∷ [];
 }
 
 -- the slot's first task had 5, the next has 3
 unfoldable pub slotUsedAgain : Tale
-slotUsedAgain = record { task = task 1; calls = Create 5 ∷ Delete (taskOf 1) ∷ Create 3 ∷ []; expected = both 5 ∷ gone ∷ both 3 ∷ [] }
+slotUsedAgain = record {
+  tasks = 1 ∷ 17 ∷ [];
+  lines = two (Create 5) (has 5 5) gone ∷ two (Delete (taskOf 1)) gone gone ∷ two (Create 3) gone (has 3 3) ∷ [];
+}

@@ -6,3 +6,4 @@ pub mod StepEnds
 pub mod Shown
 pub mod SessionRuns
 pub mod SoundQuick
+pub mod LevelWorks

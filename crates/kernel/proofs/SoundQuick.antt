@@ -10,6 +10,14 @@ use borrow.Author.Tests.{ltb-true, ltb-false}
 use Rattle.lists.specs.Choice.{if_then_else_}
 use Rattle.lists.specs.Lists.{kept, allBelow}
 use Rattle.lists.proofs.Bools.{and-left, and-right, and-intro, same-test, all-below, below-all}
+use Rattle.chains.specs.Columns.{says}
+use Rattle.chains.proofs.Largest.{largest-same as chain-same}
+use Rattle.lists.proofs.Loops.{values-same}
+use Rattle.slots.specs.declared.Object.{Object}
+use Rattle.tasks.specs.Loans.{levelsIn}
+use Rattle.rules.specs.Loans.{forWhom, ruled}
+use Rattle.rules.proofs.LoanRule.{ownOf, nextOf, ruled-sixteen}
+use Rattle.kernel.proofs.LevelWorks.{holdersOf, next-is, all-values, ruled-is}
 use Rattle.numbers.specs.declared.TaskSlot.{TaskSlot}
 use Rattle.numbers.specs.Numbers.{task, object}
 use Rattle.order.specs.Order.{listed}
@@ -20,7 +28,7 @@ use Rattle.slots.specs.declared.Place.the-variants.{Free, Ready, Delayed, Waiti
 use Rattle.heights.proofs.Counts.{largest-same}
 use Rattle.slots.specs.declared.Task.{Task}
 use Rattle.slots.specs.Who.{AllReady}
-use Rattle.slots.specs.Places.{isReady}
+use Rattle.slots.specs.Places.{isReady, waitedOn}
 use Rattle.slots.specs.Values.{freeTask, taskAt, inLine}
 use Rattle.slots.specs.Kinds.{kindAt, marksOf}
 use Rattle.slots.specs.SoundSlots.{idleFine, standsFine, remembersFine, ordersFine, mayWait, mayWaitOn, waitsFine, prioritiesFine, holderSlot, freeHolds, notDue, ringInRange, outcomeFine, freshIfFree}
@@ -35,7 +43,7 @@ use Rattle.tasks.specs.Fine.{aloneFine, rowsFine, wakesFine, idleAlone, waitsBy
 use Rattle.tasks.proofs.Columns.{row-at, rows-many}
 use Rattle.objects.specs.declared.Objects.{Objects}
 use Rattle.objects.specs.declared.Holdings.{Holdings}
-use Rattle.objects.specs.Columns.{kindIn, rowsOf as kindsOf, canonical as canonicalKinds}
+use Rattle.objects.specs.Columns.{kindIn, rowsOf as kindsOf, holdersIn, canonical as canonicalKinds}
 use Rattle.objects.specs.Fine.{fineAt, HoldingsAre}
 use Rattle.objects.proofs.Columns.{row-at as kind-row, rows-many as kinds-many}
 use Rattle.objects.proofs.Fines.{fine-canonical}
@@ -67,7 +75,7 @@ record AloneTested (n : ℕ) (held : Bool) (x : Task) : Type 0 where
   stands : standsFine n (x .place) ≡ true
   remembers : remembersFine n (x .place) ≡ true
   orders : ordersFine n (x .place) ≡ true
-  levels : prioritiesFine held x ≡ true
+  range : prioritiesFine x ≡ true
   outcome : outcomeFine x ≡ true
   fresh : freshIfFree x ≡ true
   free : freeHolds held (x .place) ≡ true
@@ -77,13 +85,13 @@ alone-tested n held x e =
     let a = and-right (standsFine n (x .place)) _ e in
     let b = and-right (remembersFine n (x .place)) _ a in
     let c = and-right (ordersFine n (x .place)) _ b in
-    let d = and-right (prioritiesFine held x) _ c in
+    let d = and-right (prioritiesFine x) _ c in
     let f = and-right (outcomeFine x) _ d in
     record {
       stands = and-left (standsFine n (x .place)) _ e;
       remembers = and-left (remembersFine n (x .place)) _ a;
       orders = and-left (ordersFine n (x .place)) _ b;
-      levels = and-left (prioritiesFine held x) _ c;
+      range = and-left (prioritiesFine x) _ c;
       outcome = and-left (outcomeFine x) _ d;
       fresh = and-left (freshIfFree x) _ f;
       free = and-right (freshIfFree x) _ f;
@@ -94,7 +102,7 @@ tested-alone n held x T =
     and-intro (standsFine n (x .place)) _ (T .stands)
     (and-intro (remembersFine n (x .place)) _ (T .remembers)
     (and-intro (ordersFine n (x .place)) _ (T .orders)
-    (and-intro (prioritiesFine held x) _ (T .levels)
+    (and-intro (prioritiesFine x) _ (T .range)
     (and-intro (outcomeFine x) _ (T .outcome)
     (and-intro (freshIfFree x) (freeHolds held (x .place)) (T .fresh) (T .free))))))
 
@@ -125,6 +133,32 @@ module _ (ts : Tasks) (many : length (rowsOf ts) ≡ 16) where
   unfolding kept
   same-kept f free [] = refl
   same-kept f free (t ∷ l) = rw (same-row f free t, same-kept f free l)
+
+  -- ── the effective priorities
+  module _ (os : Objects) (kinds : length (kindsOf os) ≡ 16) where
+    abbrev xs : List Task
+    xs = rowsOf ts
+
+    abbrev ys : List Object
+    ys = kindsOf os
+
+    next-at : (s : ℕ) → says (holdersIn os) (waitedOn (rowAt ts s .place)) ≡ nextOf xs ys s
+    unfolding holdersIn
+    next-at s = go (ltb s 16) refl
+      where
+        go : (b : Bool) → ltb s 16 ≡ b → says (holdersOf ys) (waitedOn (rowAt ts s .place)) ≡ nextOf xs ys s
+        go true q = ap (λ (x : Task). says (holdersOf ys) (waitedOn (x .place))) (sym (at-row s (ltb-true s 16 q))) ∙ next-is xs ys many kinds (taskAt xs (task s) .place)
+        go false q =
+            ap (λ (p : Place). says (holdersOf ys) (waitedOn p)) (past-free s (ltb-false s 16 q))
+            ∙ sym (ap (λ (x : Task). forWhom ys (x .place) .0) (past-tasks xs (task s) (omega (arith, many, ltb-false s 16 q))))
+
+    pub levels-rows : levelsIn ts (holdersIn os) ≡ ruled xs ys
+    unfolding levelsIn
+    levels-rows =
+        values-same _ (λ u. getD (ruled xs ys) u 0) 16
+        (λ u l. chain-same (λ s. rowAt ts s .own) (ownOf xs ys) (λ s. says (holdersIn os) (waitedOn (rowAt ts s .place))) (nextOf xs ys)
+        (λ s h. ap (λ (x : Task). x .own) (sym (at-row s h))) next-at u ∙ sym (ruled-is xs ys many kinds u l))
+        ∙ all-values xs ys many kinds (ruled xs ys) (ruled-sixteen xs ys)
 
   -- ── who runs
   same-top : (l : List TaskSlot) → topIn ts l ≡ highest (rowsOf ts) (those (rowsOf ts) AllReady l)
@@ -183,6 +217,7 @@ module _ (os : Objects) (hs : Holdings) (H : HoldingsAre os hs) where
 
 -- ── the whole test
 module _ (k : Core) (stands : List ℕ) (hs : Holdings) (fine : Bool) (F : Fine (k .tasks) (k .tick) stands (hs .held) fine) (H : HoldingsAre (k .objects) hs)
+    (levels : Bool) (Q : levels ≡ allBelow 16 (λ n. eqb (rowAt (k .tasks) n .effective) (getD (levelsIn (k .tasks) (hs .by)) n 0)))
     (tallies : stands ≡ talliesOf (listed (k .order))) (places : length (k .order .places) ≡ 16) (ranges : counted (k .tick) (k .hold) (k .pended) ≡ true) where
   abbrev ts : Tasks
   ts = k .tasks
@@ -210,7 +245,10 @@ module _ (k : Core) (stands : List ℕ) (hs : Holdings) (fine : Bool) (F : Fine 
   pends = pendsFine (k .hold) (k .pended)
 
   abbrev pub quick : Bool
-  quick = (fine && (waits && hs .fine)) && (runs && (tidy (k .order) && pends))
+  quick = (fine && (waits && (levels && hs .fine))) && (runs && (tidy (k .order) && pends))
+
+  rule : levelsIn ts (hs .by) ≡ ruled (s .tasks) (s .objects)
+  rule = ap (levelsIn ts) (H .by) ∙ levels-rows ts (F .many) (k .objects) (H .many)
 
   row : (n : ℕ) → n < 16 → slotTask (s .tasks) n ≡ rowAt ts n
   row n l = at-row ts (F .many) n l
@@ -219,11 +257,11 @@ module _ (k : Core) (stands : List ℕ) (hs : Holdings) (fine : Bool) (F : Fine 
   kind n l = at-kind (k .objects) hs H n l
 
   module _ (q : quick ≡ true) where
-    tables : (fine && (waits && hs .fine)) ≡ true
-    tables = and-left (fine && (waits && hs .fine)) _ q
+    tables : (fine && (waits && (levels && hs .fine))) ≡ true
+    tables = and-left (fine && (waits && (levels && hs .fine))) _ q
 
     last : (runs && (tidy (k .order) && pends)) ≡ true
-    last = and-right (fine && (waits && hs .fine)) _ q
+    last = and-right (fine && (waits && (levels && hs .fine))) _ q
 
     all-rows : (idleAlone (getD (hs .held) 0 false) (rowAt ts 0) && (allBelow 16 (rowsFine ts stands (hs .held)) && allBelow 16 (wakesFine ts (k .tick)))) ≡ true
     all-rows = sym (F .said) ∙ and-left fine _ tables
@@ -236,7 +274,10 @@ module _ (k : Core) (stands : List ℕ) (hs : Holdings) (fine : Bool) (F : Fine 
         all-below 16 (wakesFine ts (k .tick)) (and-right (allBelow 16 (rowsFine ts stands (hs .held))) _ (and-right (idleAlone (getD (hs .held) 0 false) (rowAt ts 0)) _ all-rows)) n l
 
     kinds : allBelow 16 (fineAt (k .objects)) ≡ true
-    kinds = sym (H .said) ∙ and-right waits _ (and-right fine _ tables)
+    kinds = sym (H .said) ∙ and-right levels _ (and-right waits _ (and-right fine _ tables))
+
+    levelled : allBelow 16 (λ n. eqb (rowAt ts n .effective) (getD (levelsIn ts (hs .by)) n 0)) ≡ true
+    levelled = sym Q ∙ and-left levels _ (and-right waits _ (and-right fine _ tables))
 
     -- so it stands for a state
     pub is-plain : plain k ≡ true
@@ -280,7 +321,7 @@ module _ (k : Core) (stands : List ℕ) (hs : Holdings) (fine : Bool) (F : Fine 
         let orders = and-right runs _ last in
         tested-sound s record {
           tables = tested-tables _ _ tables-so;
-          levels = below-all 16 _ (λ n l. rw (← holding-at n l) (alone n l .levels));
+          levels = below-all 16 _ (λ n l. and-intro (prioritiesFine (slotTask (s .tasks) n)) _ (alone n l .range) (rw (row n l, ← rule) (all-below 16 _ levelled n l)));
           listing = tested-listing _ _ record {
             places = rw places;
             stands = below-all 16 _ once;
@@ -315,7 +356,7 @@ module _ (k : Core) (stands : List ℕ) (hs : Holdings) (fine : Bool) (F : Fine 
     unfolding levelsFine plain canonical
     from-plain =
         and-intro _ _ (and-intro fine _ (F .said ∙ and-intro _ _ idles (and-intro _ _ (below-all 16 _ each-row) (below-all 16 _ each-wake)))
-        (and-intro waits _ (below-all 16 _ each-wait) (H .said ∙ below-all 16 _ each-kind)))
+        (and-intro waits _ (below-all 16 _ each-wait) (and-intro levels _ (Q ∙ below-all 16 _ each-level) (H .said ∙ below-all 16 _ each-kind))))
         (and-intro runs _ (runs-is ts (F .many) (listed (k .order)) (k .running) (k .hold) ∙ E .runs) (and-intro (tidy (k .order)) pends (L .tidied) (C .pends)))
       where
         cells : (n : ℕ) → n < 16 → (known (getD (ts .state) n 0) (getD (ts .object) n 0) && wakeKnown (getD (ts .state) n 0) (getD (ts .wake) n 0)) ≡ true
@@ -343,11 +384,14 @@ module _ (k : Core) (stands : List ℕ) (hs : Holdings) (fine : Bool) (F : Fine 
               stands = rw (stands-at n l) (all-below 16 _ (L .stands) n l);
               remembers = rw (stands-at n l) (all-below 16 _ (L .remembered) n l);
               orders = rw (stands-at n l) (all-below 16 _ (L .none-else) n l);
-              levels = rw (holding-at n l) (all-below 16 _ (E .levels) n l);
+              range = and-left (prioritiesFine (slotTask (s .tasks) n)) _ (all-below 16 _ (E .levels) n l);
               outcome = all-below 16 _ (T .outcomes) n l;
               fresh = all-below 16 _ (T .fresh) n l;
               free = rw (marked n) (all-below 16 _ (and-right slotted unheld halves) n l);
             }))
+
+        each-level : (n : ℕ) → n < 16 → eqb (rowAt ts n .effective) (getD (levelsIn ts (hs .by)) n 0) ≡ true
+        each-level n l = rw (rule, ← row n l) (and-right (prioritiesFine (slotTask (s .tasks) n)) _ (all-below 16 _ (E .levels) n l))
 
         each-wake : (n : ℕ) → n < 16 → wakesFine ts (k .tick) n ≡ true
         each-wake n l =
@@ -376,5 +420,5 @@ module _ (k : Core) (stands : List ℕ) (hs : Holdings) (fine : Bool) (F : Fine 
   unfolding shownWith coreOf
   stands-for q =
       let f = and-left fine _ (tables q) in
-      let g = and-right waits _ (and-right fine _ (tables q)) in
+      let g = and-right levels _ (and-right waits _ (and-right fine _ (tables q))) in
       rw (is-plain q) (λ i. record { tasks = F .whole f i; objects = H .whole g i; order = k .order; running = k .running; tick = k .tick; hold = k .hold; pended = k .pended })

@@ -27,19 +27,21 @@ use Rattle.rules.specs.Lines.{line, those, level, highest, first, chosen}
 use Rattle.rules.specs.Sentences.{Unheld}
 use Rattle.rules.specs.Waits.{later}
 use Rattle.rules.specs.Ticks.{oneTick, untilDue, turnedIf, turnings, ticks, released, advanced}
-use Rattle.rules.proofs.TickJumps.{no-turnings, jump-all, jump-tick}
+use Rattle.rules.proofs.TickJumps.{no-turnings, jump-all, jump-tick, turnings-only}
 use Rattle.rules.proofs.SoundLists.{listing-room}
 use Rattle.rules.proofs.LineLeads.{first-heads-highest}
 use Rattle.rules.proofs.KeepNearly.{settled, Nearly}
 use Rattle.rules.proofs.KeepChosen.{some-ready}
-use Rattle.rules.proofs.KeepTicks.{one-tick, unheld-nearly, tick-unheld, ticks-unheld}
+use Rattle.rules.proofs.KeepTicks.{one-tick, unheld-nearly, tick-unheld, ticks-unheld, ticks-reckoned}
 use Rattle.rules.proofs.LineTurns.{itsLine, turns-at-once, its-room, tick-still}
 use Rattle.kernel.specs.Types.{Core}
 use Rattle.kernel.specs.Stands.{coreOf, shownCore}
-use Rattle.kernel.specs.Does.{Does, Turning}
+use Rattle.kernel.specs.Does.{Does, Turning, Reckons}
 use Rattle.kernel.proofs.Stands.{same-tick, same-hold, same-pended}
 use Rattle.kernel.proofs.TableWalks.{top-highest, chosen-by, no-higher-of, no-turn}
 use Rattle.kernel.proofs.Shown.{shown-with}
+use Rattle.kernel.proofs.LevelWorks.{Settled, reckons-next, reckons-of}
+use Rattle.rules.specs.Loans.{Reckoned}
 
 -- ── a value of which the line may be turned
 unheld-with : (s : State) → Unheld s → Unheld (withUses s freshUses)
@@ -171,27 +173,42 @@ record Left (turns : Bool) (s : State) (n : ℕ) (k : Core) (left : ℕ) : Type 
 
 pub record Ticking (turns : Bool) (k₀ : Core) (n : ℕ) (k : Core) (left : ℕ) : Type 0 where
   on : (s : State) → k₀ ≡ coreOf s → Left turns s n k left
+  pub reckons : Reckons k
   pub may-turn : turns ≡ true → Turning k
 
-pub ticking-begins : (turns : Bool) (k : Core) (n : ℕ) → (turns ≡ true → Turning k) → Ticking turns k n k n
-ticking-begins turns k n T = record { on = λ s h. record { state = s; stands = h; goes = refl }; may-turn = T }
+pub ticking-begins : (turns : Bool) (k : Core) (n : ℕ) → Reckons k → (turns ≡ true → Turning k) → Ticking turns k n k n
+ticking-begins turns k n R T = record { on = λ s h. record { state = s; stands = h; goes = refl }; reckons = R; may-turn = T }
+
+-- the turns change no task and no object, and a tick works the effective priorities out
+passing-settled : (turns : Bool) (d : ℕ) (e : State) → Settled e → Settled (passing turns d e)
+passing-settled turns d e S = let o = turnings-only turns d e in rw (o .tasks, o .objects) S
+
+tick-settled : (turns : Bool) (e : State) → Settled e → Settled (turnedIf turns (oneTick e))
+unfolding ticks upTo
+tick-settled turns e S = ticks-reckoned turns 1 e (S .0) (S .1)
 
 module _ {turns : Bool} {k₀ : Core} {n : ℕ} {k : Core} {left : ℕ} (T : Ticking turns k₀ n k left)
     (d : ℕ) (small : k .tick ≤ 4294967295) (until : (e : State) → k ≡ coreOf e → d ≡ untilDue (e .tick) (e .tasks)) where
   counts : (e : State) → k ≡ coreOf e → e .tick ≤ 4294967295
   counts e h = omega (arith, same-tick k e h)
 
+  by-rule : (e : State) → k ≡ coreOf e → Reckoned (e .tasks) (e .objects)
+  by-rule e h = reckons-of (T .reckons) e h .1
+
+  pub jumps-reckons : {j : Core} → Does k (passing turns d) j → Reckons j
+  jumps-reckons f = reckons-next (passing turns d) (T .reckons) f (λ e h S. passing-settled turns d e S)
+
   -- nobody is due any more: only the count and the turn go on
   pub jumps-all : {r : Core} → left ≤ d → Does k (passing turns left) r → Does k₀ (ticks turns n) r
   jumps-all l f s h =
       let i = T .on s h in
-      f (i .state) (i .stands) ∙ ap coreOf (jump-all turns (i .state) d left (counts (i .state) (i .stands)) (until (i .state) (i .stands)) l ∙ i .goes)
+      f (i .state) (i .stands) ∙ ap coreOf (jump-all turns (i .state) d left (counts (i .state) (i .stands)) (by-rule (i .state) (i .stands)) (until (i .state) (i .stands)) l ∙ i .goes)
 
   -- the line may be turned after a jump
   pub jumps-turning : {j : Core} → Does k (passing turns d) j → turns ≡ true → Turning j
   jumps-turning f q =
       turning-next (passing turns d) (T .may-turn q) f
-      (λ e h U. subst Unheld (sym (jump-all turns e d d (counts e h) (until e h) (omega arith))) (rw q (ticks-unheld d e U)))
+      (λ e h U. subst Unheld (sym (jump-all turns e d d (counts e h) (by-rule e h) (until e h) (omega arith))) (rw q (ticks-unheld d e U)))
 
   -- somebody is due: the tick after the jump is a plain one
   pub jumps-on : {j r : Core} → Does k (passing turns d) j → Does j (λ e. turnedIf turns (oneTick e)) r → (m : ℕ) → left ≡ d + 1 + m → Ticking turns k₀ n r m
@@ -200,7 +217,8 @@ module _ {turns : Bool} {k₀ : Core} {n : ℕ} {k : Core} {left : ℕ} (T : Tic
         let i = T .on s h in
         let e = i .state in
         let after = turnedIf turns (oneTick (passing turns d e)) in
-        record { state = after; stands = g (passing turns d e) (f e (i .stands)); goes = jump-tick turns e after d left m (counts e (i .stands)) (until e (i .stands)) l refl ∙ i .goes };
+        record { state = after; stands = g (passing turns d e) (f e (i .stands)); goes = jump-tick turns e after d left m (counts e (i .stands)) (by-rule e (i .stands)) (until e (i .stands)) l refl ∙ i .goes };
+    reckons = reckons-next (λ e. turnedIf turns (oneTick e)) (jumps-reckons f) g (λ e h S. tick-settled turns e S);
     may-turn = λ q. turning-next (λ e. turnedIf turns (oneTick e)) (jumps-turning f q) g (λ e h U. rw q (tick-unheld e U));
   }
 

@@ -1,12 +1,14 @@
 -- What a function of the kernel value does, said of the state that the value stands for.
 use Prim.Native.Nat.{ℕ, _<_}
 use mathlib.Core.Path.{_≡_}
+use lib.ListN.{length}
 use Rattle.lists.specs.Choice.{if_then_else_}
 use Rattle.numbers.specs.declared.TaskSlot.{TaskSlot}
 use Rattle.calls.specs.declared.Asked.{Asked}
 use Rattle.calls.specs.Said.{Saying, says, done, made, waiting}
 use Rattle.slots.specs.Places.{isBlocked}
 use Rattle.slots.specs.Values.{taskAt}
+use Rattle.rules.specs.Loans.{Reckoned}
 use Rattle.rules.specs.State.{State}
 use Rattle.rows.specs.Asking.{makes}
 use Rattle.rules.specs.Sentences.{Sound, Unheld}
@@ -38,3 +40,9 @@ pub record Firm (k : Core) : Type 0 where
 pub record Turning (k : Core) : Type 0 where
   pub stands : k ≡ coreOf (shownCore k)
   pub unheld : Unheld (shownCore k)
+
+-- the value stands for a state, and each effective priority of that state is the rule's
+pub record Reckons (k : Core) : Type 0 where
+  pub stands : k ≡ coreOf (shownCore k)
+  pub full : length (shownCore k .tasks) ≡ 16
+  pub reckoned : Reckoned (shownCore k .tasks) (shownCore k .objects)

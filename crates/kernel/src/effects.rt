@@ -12,10 +12,10 @@ ghost use Rattle.rows.specs.Applies.{sizeDiffers};
 ghost use Rattle.rules.specs.Refusals.{laterRow};
 ghost use Rattle.rules.specs.Ticks.{ticked, held, released, advanced};
 ghost use Rattle.rules.specs.Queues.{sentTo, receivedFrom, storeSentTo, storeReceivedFrom};
-ghost use Rattle.rules.specs.Effects.{created, deleted, suspended, resumed, delayed, queueMade, mutexMade, removed, taken, handedOn, given, effect};
+ghost use Rattle.rules.specs.Effects.{created, deleted, suspended, resumed, delayed, queueMade, mutexMade, removed, taken, given, effect};
 ghost use Rattle.rules.specs.Steps.{stored};
 ghost use Rattle.kernel.specs.Stands.{shownCore};
-ghost use Rattle.kernel.specs.Does.{Reads, Does, Firm, Turning};
+ghost use Rattle.kernel.specs.Does.{Reads, Does, Firm, Turning, Reckons};
 use crate::Core;
 use calls::Asked;
 use numbers::ObjSlot;
@@ -115,7 +115,7 @@ impl Core {
     // Time passes: at the last release the pended ticks, in an advance those asked for, with their turns. Both here, so that the ticks stand in one place of the
     // compiled step: a kernel that is handed on is copied.
     fn time_passes(self, a: Asked) -> Core
-        requires { ⌜ (is 18 a ≡ true → Turning self) × (is 18 a ≡ false → eqb (self .hold) 0 ≡ false) ⌝ }
+        requires { ⌜ (is 18 a ≡ true → Turning self) × (is 18 a ≡ false → eqb (self .hold) 0 ≡ false) × Reckons self ⌝ }
         ensures { λ r. ⌜ Does self (λ s. if is 18 a then advanced s (a .ticks) else released s) r ⌝ }
     {
         if 1 < self.hold {
@@ -180,14 +180,14 @@ impl Core {
             Kind::Queue(_) => self,
             Kind::Mutex(h) => match h {
                 Holder::Nobody => self.with_object(o, Kind::Mutex(Holder::By(u))),
-                Holder::By(t) => self.lent(t).wait_for(o, w),
+                Holder::By(_) => self.wait_for(o, w),
             },
         }
     }
 
     // The mutex goes to the first waiter, or is free.
-    fn handed_on(self, o: ObjSlot) -> Core
-        ensures { λ r. ⌜ Does self (λ s. handedOn s o) r ⌝ }
+    fn give(self, o: ObjSlot) -> Core
+        ensures { λ r. ⌜ Does self (λ s. given s o) r ⌝ }
     {
         match self.first_waiter(o) {
             Found::NoOne => self.with_object(o, Kind::Mutex(Holder::Nobody)),
@@ -196,15 +196,8 @@ impl Core {
         }
     }
 
-    fn give(self, o: ObjSlot) -> Core
-        ensures { λ r. ⌜ Does self (λ s. given s o) r ⌝ }
-    {
-        let u = self.running;
-        self.handed_on(o).own_again(u)
-    }
-
     fn tick_on(self) -> Core
-        requires { ⌜ (ltb 0 (self .hold) && eqb (self .pended) 65535) ≡ false ⌝ }
+        requires { ⌜ ((ltb 0 (self .hold) && eqb (self .pended) 65535) ≡ false) × Reckons self ⌝ }
         ensures { λ r. ⌜ Does self ticked r ⌝ }
     {
         if 0 < self.hold {

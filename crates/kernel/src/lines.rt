@@ -1,7 +1,7 @@
 // Who stands first, who runs, and moves within the order.
 ghost use Rattle.slots.specs.Who.{WaitersOf};
 ghost use Rattle.slots.specs.Leads.{whom};
-ghost use Rattle.rules.specs.Lines.{first, chosen, toTail, toHead, leaves};
+ghost use Rattle.rules.specs.Lines.{first, chosen, toTail, leaves};
 ghost use Rattle.kernel.specs.Does.{Reads, Does};
 use crate::Core;
 use numbers::ObjSlot;
@@ -30,13 +30,6 @@ impl Core {
         ensures { λ r. ⌜ Does self (λ s. toTail s t) r ⌝ }
     {
         self.order = self.order.to_tail(t);
-        self
-    }
-
-    pub(crate) fn to_head(mut self, t: TaskSlot) -> Core
-        ensures { λ r. ⌜ Does self (λ s. toHead s t) r ⌝ }
-    {
-        self.order = self.order.to_front(t);
         self
     }
 

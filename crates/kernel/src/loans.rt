@@ -1,67 +1,47 @@
-// How a priority comes about: given, lent, paid back.
-ghost use Rattle.rules.specs.Loans.{moved, prioritized, newPriority, lent, ownAgain};
+// How a priority comes about: given to the task, and lent along the chain of those who wait.
+ghost use mathlib.Core.Path.{_≡_};
+ghost use Rattle.rules.specs.Loans.{workedOut, newPriority};
+ghost use Rattle.rules.specs.Steps.{mayLend};
 ghost use Rattle.kernel.specs.Does.{Does};
 use crate::Core;
+use calls::Asked;
 use numbers::TaskSlot;
 
+// The call may change an own priority, a holder or a wait on a mutex.
+pub(crate) fn may_lend(a: Asked) -> bool
+    ensures { λ r. ⌜ r ≡ mayLend a ⌝ }
+{
+    let n = a.number;
+    let mutexes = lists::either(n == 15, n == 16);
+    let tasks = lists::either(n == 3, lists::either(n == 5, mutexes));
+    lists::either(n == 2, tasks)
+}
+
 impl Core {
-    fn moved(self, t: TaskSlot) -> Core
-        ensures { λ r. ⌜ Does self (λ s. moved s t) r ⌝ }
-    {
-        let u = self.running;
-        if t.same(u) {
-            self.to_head(t)
-        } else {
-            self.to_tail(t)
-        }
-    }
-
-    // Own and effective priority changed; a ready task whose effective priority changes moves.
-    fn prioritized(self, t: TaskSlot, own: u8, effective: u8) -> Core
-        ensures { λ r. ⌜ Does self (λ s. prioritized s t own effective) r ⌝ }
-    {
-        let x = self.task(t);
-        let p = x.place;
-        let next = self.ranked(t, own, effective);
-        if p.is_ready() {
-            if x.effective == effective {
-                return next;
-            }
-            next.moved(t)
-        } else {
-            next
-        }
-    }
-
     pub(crate) fn new_priority(self, t: TaskSlot, p: u8) -> Core
         ensures { λ r. ⌜ Does self (λ s. newPriority s t p) r ⌝ }
     {
-        if self.holds(t) {
-            let x = self.task(t);
-            self.prioritized(t, p, lists::larger(x.effective, p))
-        } else {
-            self.prioritized(t, p, p)
-        }
+        self.owned(t, p)
     }
 
-    // The caller lends its effective priority to the holder.
-    pub(crate) fn lent(self, h: TaskSlot) -> Core
-        ensures { λ r. ⌜ Does self (λ s. lent s h) r ⌝ }
+    // Every task gets the effective priority that the rule gives it; ready tasks whose line changes move in order of slot.
+    pub(crate) fn worked_out(self) -> Core
+        ensures { λ r. ⌜ Does self workedOut r ⌝ }
     {
-        let x = self.task(h);
-        let y = self.task(self.running);
-        self.prioritized(h, x.own, lists::larger(x.effective, y.effective))
-    }
-
-    // A giver that still holds a mutex keeps what was lent.
-    pub(crate) fn own_again(self, t: TaskSlot) -> Core
-        ensures { λ r. ⌜ Does self (λ s. ownAgain s t) r ⌝ }
-    {
-        if self.holds(t) {
-            self
-        } else {
-            let x = self.task(t);
-            self.prioritized(t, x.own, x.own)
+        let by = self.objects.holders();
+        let worked = self.tasks.worked_out(self.order, by, self.running);
+        let tasks = worked.tasks;
+        let order = worked.order;
+        let objects = self.objects;
+        let running = self.running;
+        Core {
+            tasks,
+            objects,
+            order,
+            running,
+            tick: self.tick,
+            hold: self.hold,
+            pended: self.pended,
         }
     }
 }

@@ -28,7 +28,9 @@ impl Core {
         let holder = holdings.holder;
         let rows = self.tasks.fine(self.tick, tallies, held);
         let waits = self.tasks.waits_fine(open, taken, holder);
-        let tables = lists::both(rows, lists::both(waits, holdings.fine));
+        let by = holdings.by;
+        let levels = self.tasks.levels_fine(by);
+        let tables = lists::both(rows, lists::both(waits, lists::both(levels, holdings.fine)));
         let runs = self.tasks.runs_fine(o, self.running, 0 < self.hold);
         let tidy = lists::both(o.living <= 16, lists::both(walk.numbers, o.zeros()));
         let pends = lists::either(0 < self.hold, self.pended == 0);

@@ -88,8 +88,11 @@ impl Kernel {
             };
         }
         let u = self.core.running;
-        let next = self.core.served(a, s.new, item, store);
+        let mut next = self.core.served(a, s.new, item, store);
         let answer = next.answered(a, u, self.uses, s.new);
+        if crate::loans::may_lend(a) {
+            next = next.worked_out();
+        }
         self.core = next.chosen();
         self.uses = uses_after(self.uses, a);
         Step {

@@ -1,6 +1,6 @@
 // The fresh kernel, the rows of the two tables, and a kernel with one part changed.
 ghost use mathlib.Core.Path.{_≡_};
-ghost use Rattle.slots.specs.Values.{taskAt, placed, ranked};
+ghost use Rattle.slots.specs.Values.{taskAt, placed, owned};
 ghost use Rattle.slots.specs.Kinds.{kindAt};
 ghost use Rattle.rules.specs.Tables.{fresh, holds, withTask, withObject, withTick, withHold};
 ghost use Rattle.kernel.specs.Stands.{coreOf, kernelOf};
@@ -60,10 +60,10 @@ impl Core {
         self
     }
 
-    pub(crate) fn ranked(mut self, t: TaskSlot, own: u8, effective: u8) -> Core
-        ensures { λ r. ⌜ Does self (λ s. withTask s t (ranked (taskAt (s .tasks) t) own effective)) r ⌝ }
+    pub(crate) fn owned(mut self, t: TaskSlot, own: u8) -> Core
+        ensures { λ r. ⌜ Does self (λ s. withTask s t (owned (taskAt (s .tasks) t) own)) r ⌝ }
     {
-        self.tasks = self.tasks.ranked(t, own, effective);
+        self.tasks = self.tasks.owned(t, own);
         self
     }
 

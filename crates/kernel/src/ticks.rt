@@ -5,23 +5,31 @@ ghost use mathlib.Core.Bool.{true};
 ghost use Rattle.order.specs.Order.{listed};
 ghost use Rattle.rules.specs.Tables.{withTick};
 ghost use Rattle.rules.specs.Lines.{begun};
+ghost use Rattle.rules.specs.Loans.{workedOut};
 ghost use Rattle.rules.specs.Waits.{later};
 ghost use Rattle.rules.specs.Ticks.{wakes, oneTick, untilDue, untilSome, turned, turnedIf, turnings, ticks, sleeps};
 ghost use Rattle.kernel.specs.Stands.{shown};
-ghost use Rattle.kernel.specs.Does.{Reads, Does, Turning};
+ghost use Rattle.kernel.specs.Does.{Reads, Does, Turning, Reckons};
 ghost use Rattle.kernel.specs.Promises.{ticksOf};
 use crate::Core;
 use crate::Kernel;
 use crate::Sleep;
 
 impl Core {
-    // The due are made ready, first whoever began its delay or wait earlier.
+    // The due are made ready, first whoever began its delay or wait earlier; then the effective priorities are worked out, if a wait ended.
     fn wakes(self) -> Core
-        ensures { λ r. ⌜ Does self (λ s. wakes s (begun (s .tasks) (listed (s .order)))) r ⌝ }
+        requires { ⌜ Reckons self ⌝ }
+        ensures { λ r. ⌜ Does self (λ s. workedOut (wakes s (begun (s .tasks) (listed (s .order))))) r ⌝ }
     {
-        let woken = self.tasks.wakes(self.order, self.tick);
-        let tasks = woken.tasks;
-        let order = woken.order;
+        let woken = self.tasks.woken(self.order, self.tick);
+        let mut tasks = woken.tasks;
+        let mut order = woken.order;
+        if !self.tasks.waits_last(self.tick) {
+            let by = self.objects.holders();
+            let worked = tasks.worked_out(order, by, self.running);
+            tasks = worked.tasks;
+            order = worked.order;
+        }
         let objects = self.objects;
         let running = self.running;
         Core {
@@ -35,11 +43,18 @@ impl Core {
         }
     }
 
+    // Where nobody is due only the count goes up: no wait ends, so the effective priorities are what they were.
     pub(crate) fn one_tick(self) -> Core
+        requires { ⌜ Reckons self ⌝ }
         ensures { λ r. ⌜ Does self oneTick r ⌝ }
     {
         let next = std::num::wrapping_add_u32(self.tick, 1);
-        self.with_tick(next).wakes()
+        let k = self.with_tick(next);
+        if k.tasks.someone_due(next) {
+            k.wakes()
+        } else {
+            k
+        }
     }
 
     // How many ticks pass before the one on which a task is next due.
@@ -92,7 +107,7 @@ impl Core {
     // A tick on which somebody may be due. Who then outranks the running task runs; where nobody does, the line turns. (`turned` and `chosen` are the tick's and the
     // step's: called from here too, they would no longer be compiled into these.)
     fn tick_turned(self, turns: bool) -> Core
-        requires { ⌜ (turns ≡ true → Turning self) ⌝ }
+        requires { ⌜ Reckons self × (turns ≡ true → Turning self) ⌝ }
         ensures { λ r. ⌜ Does self (λ s. turnedIf turns (oneTick s)) r ⌝ }
     {
         let mut k = self.one_tick();
@@ -111,7 +126,7 @@ impl Core {
     // The next `n` ticks one by one, with each one's turn of the line and choose or without: a jump to the next tick on which somebody is due, that tick, and so on. Each
     // round but the last wakes somebody, so there are at most 16.
     pub(crate) fn ticks(self, n: u32, turns: bool) -> Core
-        requires { ⌜ (turns ≡ true → Turning self) ⌝ }
+        requires { ⌜ Reckons self × (turns ≡ true → Turning self) ⌝ }
         ensures { λ r. ⌜ Does self (ticks turns n) r ⌝ }
     {
         let mut k = self;

@@ -8,7 +8,8 @@ use lib.Dec.{eqb, leb}
 use lib.ListN.{length, getD, set, length-map, List·getD-map, List·getD-eq-default}
 use lib.Seq.{set-out}
 use borrow.Author.Tests.{ne-eqb, le-leb}
-use Rattle.slots.proofs.Sweeps.{map-set, values-many, value-at, values-of, some-row, first-row}
+use Rattle.slots.proofs.Sweeps.{map-set, values-of, some-row, first-row}
+use Rattle.lists.proofs.Loops.{values-many, value-at}
 use Rattle.lists.specs.Lists.{upTo, index}
 use Rattle.numbers.specs.declared.TaskSlot.{TaskSlot}
 use Rattle.numbers.specs.Numbers.{task}

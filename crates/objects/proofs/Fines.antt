@@ -2,22 +2,23 @@
 use Prim.Native.Nat.{ℕ, zero, suc, _+_, _*_, _<_, _≤_, min}
 use mathlib.Core.Path.{_≡_, refl, sym, ap, _∙_}
 use mathlib.Core.Bool.{Bool, true, false, not, _&&_, _||_, or-false}
-use mathlib.Core.List.{List}
+use mathlib.Core.List.{List, map}
 use native.Mathlib.Omega.{arith}
 use lib.Dec.{eqb, ltb, leb}
-use lib.ListN.{length, getD, set, replicate, length-set}
-use lib.Seq.{getD-set-same, getD-set-other}
+use lib.ListN.{length, getD, set, replicate, getD-replicate, length-set, length-map, List·getD-map}
+use lib.Seq.{ext-getD}
 use borrow.Author.Tests.{eqb-true, eqb-false, ne-eqb, le-leb, lt-leb}
 use Rattle.lists.specs.Choice.{if_then_else_}
 use Rattle.lists.specs.Lists.{allBelow, upTo}
 use Rattle.lists.proofs.Loops.{Upto, next, ended}
 use Rattle.lists.proofs.Bools.{and-left, all-below, below-all, all-same}
 use Rattle.numbers.specs.declared.TaskSlot.{TaskSlot}
+use Rattle.slots.specs.declared.Object.{Object}
 use Rattle.slots.specs.Kinds.{unused, holderOf, mark, marksOf}
-use Rattle.slots.proofs.Sweeps.{by-rows, none-counted}
+use Rattle.slots.proofs.Sweeps.{by-rows, none-counted, Filled, fill-each}
 use Rattle.slots.specs.SoundSlots.{mayWait, mayWaitOn, ringFine}
 use Rattle.objects.specs.declared.Objects.{Objects}
-use Rattle.objects.specs.Columns.{six, ring, noRing, known, cellsAt, kindOf, kindIn, rowsOf, canonical}
+use Rattle.objects.specs.Columns.{six, ring, noRing, known, cellsAt, kindOf, kindIn, rowsOf, holdersIn, canonical}
 use Rattle.objects.specs.Fine.{rangesFine, fineAt, rowFine, openAt, takenAt, holdingIn, Each}
 use Rattle.objects.proofs.Columns.{Full, by-state, held-kind, row-at, rows-many}
 
@@ -56,9 +57,12 @@ holder-is os n =
     ≡ (if leb 4 s then getD (os .holder) n 0 else 16))
     refl refl refl refl (λ s l. rw (held-kind os n s l, le-leb 4 s l)) (getD (os .state) n 0)
 
+abbrev pub holding : List ℕ → List ℕ → ℕ → ℕ
+holding states holders i = if leb 4 (getD states i 0) then getD holders i 0 else 16
+
 -- the marks of the rows, in numbers
 abbrev pub marking : List ℕ → List ℕ → List Bool → ℕ → List Bool
-marking states holders c i = set c (if leb 4 (getD states i 0) then getD holders i 0 else 16) true
+marking states holders c i = set c (holding states holders i) true
 
 pub record Marked (states holders : List ℕ) (c₀ c : List Bool) (i : ℕ) : Type 0 where
   pub upto : Upto (marking states holders) c₀ c i
@@ -112,21 +116,32 @@ pub fine-canonical : (os : Objects) → allBelow 16 (fineAt os) ≡ true → can
 unfolding canonical
 fine-canonical os h = below-all 16 (λ i. known (cellsAt os i)) (λ i l. and-left (known (cellsAt os i)) (rangesFine (kindIn os i)) (all-below 16 (fineAt os) h i l))
 
--- a loop that fills sixteen answers has filled those below i
-pub record Filled (f : ℕ → Bool) (out : List Bool) (i : ℕ) : Type 0 where
-  pub wide : length out ≡ 16
-  pub filled : (n : ℕ) → n < i → getD out n false ≡ f n
+-- sixteen answers, when a loop has filled them
+pub fill-done : {f : ℕ → Bool} {out : List Bool} {i : ℕ} → Filled f false out i → 16 ≤ i → Each f out
+fill-done inv h = record { each = fill-each inv h }
 
-module _ {f : ℕ → Bool} where
-  pub fill-begin : {out : List Bool} → length out ≡ 16 → Filled f out 0
-  fill-begin l = record { wide = l; filled = λ n h. absurd (omega arith) }
+-- the holders, when a loop has filled them
+pub holders-done : (os : Objects) → Full os → {out : List ℕ} {i : ℕ} → Filled (holding (os .state) (os .holder)) 16 out i → 16 ≤ i → out ≡ holdersIn os
+unfolding holdersIn
+holders-done os f {out} inv h = ext-getD 16 out (map (λ (x : Object). holderOf (x .kind) .0) (rowsOf os)) (inv .wide ∙ sym long) at
+  where
+    long : length (map (λ (x : Object). holderOf (x .kind) .0) (rowsOf os)) ≡ 16
+    long = length-map (rowsOf os) (λ (x : Object). holderOf (x .kind) .0) ∙ rows-many os ∙ f .states
 
-  pub fill-turn : {out : List Bool} {i : ℕ} → Filled f out i → i < 16 → (v : Bool) → v ≡ f i → Filled f (set out i v) (i + 1)
-  fill-turn {out} {i} inv l v e = record { wide = rw length-set (inv .wide); filled = λ n h. go n h (eqb n i) refl }
-    where
-      go : (n : ℕ) → n < i + 1 → (b : Bool) → eqb n i ≡ b → getD (set out i v) n false ≡ f n
-      go n h true q = rw (eqb-true n i q, getD-set-same out i v false (omega (arith, inv .wide))) e
-      go n h false q = getD-set-other out i n v false (eqb-false n i q) ∙ inv .filled n (omega (arith, eqb-false n i q))
+    at : (n : ℕ) → n < length out → getD out n 16 ≡ getD (map (λ (x : Object). holderOf (x .kind) .0) (rowsOf os)) n 16
+    at n l =
+        inv .filled n (omega (arith, inv .wide))
+        ∙ sym (List·getD-map (λ (x : Object). holderOf (x .kind) .0) (rowsOf os) n unused ∙ ap (λ x. holderOf x .0) (row-at os n (omega (arith, inv .wide, f .states))) ∙ holder-is os n)
 
-  pub fill-done : {out : List Bool} {i : ℕ} → Filled f out i → 16 ≤ i → Each f out
-  fill-done inv h = record { each = λ n l. inv .filled n (omega arith) }
+-- a walk over as many as there may be: none where nobody holds, else all
+pub holders-end : (os : Objects) → Full os → {out : List ℕ} {i : ℕ} → Filled (holding (os .state) (os .holder)) 16 out i → (i ≡ 0 → out ≡ replicate 16 16) → i ≡ min 16 (16 * holdingIn os)
+    → out ≡ holdersIn os
+unfolding holdingIn
+holders-end os f {out} {i} inv z e = go (eqb (holdingIn os) 0) refl
+  where
+    go : (b : Bool) → eqb (holdingIn os) 0 ≡ b → out ≡ holdersIn os
+    go true q =
+        let none = none-counted (takenAt os) 16 (eqb-true (holdingIn os) 0 q) in
+        z (omega (arith, eqb-true (holdingIn os) 0 q))
+        ∙ holders-done os f {i = 16} (record { wide = refl; filled = λ n l. getD-replicate 16 n 16 16 l ∙ rw (none n l) }) (omega arith)
+    go false q = holders-done os f inv (omega (arith, eqb-false (holdingIn os) 0 q))

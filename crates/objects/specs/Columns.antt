@@ -1,6 +1,7 @@
 -- The table of objects as a list, in the words of the rules; and as the columns that stand for it.
 use Prim.Native.Nat.{ℕ}
 use mathlib.Core.Bool.{Bool, _&&_, _||_}
+use mathlib.Core.Path.{_≡_}
 use mathlib.Core.List.{List, map}
 use lib.Dec.{eqb, leb}
 use lib.ListN.{length, getD, set}
@@ -13,7 +14,7 @@ use Rattle.slots.specs.declared.Kind.{Kind}
 use Rattle.slots.specs.declared.Kind.the-variants.{Unused, Spent as SpentObject, Queue, Mutex}
 use Rattle.slots.specs.declared.Ring.{Ring}
 use Rattle.slots.specs.declared.Object.{Object}
-use Rattle.slots.specs.Kinds.{takesObject, heldBy}
+use Rattle.slots.specs.Kinds.{takesObject, heldBy, holderOf}
 use Rattle.objects.specs.declared.Cells.{Cells}
 use Rattle.objects.specs.declared.Objects.{Objects}
 
@@ -92,6 +93,15 @@ rowsOf os = values (rowAt os) (length (os .state))
 -- the task holds a mutex
 unfoldable pub heldIn : Objects → TaskSlot → Bool
 heldIn os t = any (λ (x : Object). heldBy t (x .kind)) (rowsOf os)
+
+-- who holds each; 16 where nobody does
+unfoldable pub holdersIn : Objects → List ℕ
+holdersIn os = map (λ (x : Object). holderOf (x .kind) .0) (rowsOf os)
+
+-- all that is answered
+pub record HoldersAre (os : Objects) (r : List ℕ) : Type 0 where
+  pub many : length (rowsOf os) ≡ 16
+  pub said : r ≡ holdersIn os
 
 -- the lowest unused row, spent ones left out; their number where there is none
 unfoldable pub unusedIn : Objects → ℕ

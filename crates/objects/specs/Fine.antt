@@ -14,7 +14,8 @@ use Rattle.slots.specs.SoundSlots.{mayWait, mayWaitOn, holderSlot, ringFine, ri
 use Rattle.objects.specs.declared.Cells.{Cells}
 use Rattle.objects.specs.declared.Objects.{Objects}
 use Rattle.objects.specs.declared.Holdings.{Holdings}
-use Rattle.objects.specs.Columns.{ring, known, cellsAt, kindIn, objectsOf, rowsOf}
+use Rattle.objects.specs.declared.Marks.{Marks}
+use Rattle.objects.specs.Columns.{ring, known, cellsAt, kindIn, objectsOf, rowsOf, holdersIn}
 
 -- what is asked of an object by itself, in words; and as the code tests it
 abbrev pub rangesFine : Kind → Bool
@@ -41,10 +42,16 @@ holdingIn os = upTo (λ n i. n + (if takenAt os i then 1 else 0)) 16 0
 pub record Each (f : ℕ → Bool) (r : List Bool) : Type 0 where
   pub each : (n : ℕ) → n < 16 → getD r n false ≡ f n
 
+-- who holds, by task slot and by object
+pub record MarksAre (os : Objects) (r : Marks) : Type 0 where
+  pub marks : r .held ≡ marksOf (rowsOf os)
+  pub by : r .by ≡ holdersIn os
+
 -- all that is answered: what is fine stands for the list that it reads as
 pub record HoldingsAre (os : Objects) (r : Holdings) : Type 0 where
   pub many : length (rowsOf os) ≡ 16
   pub marks : r .held ≡ marksOf (rowsOf os)
+  pub by : r .by ≡ holdersIn os
   pub waited : (t : TaskSlot) (n : ℕ) → n < 16 → mayWaitOn (r .open) (r .taken) (r .holder) t n ≡ mayWait t (kindIn os n)
   pub said : r .fine ≡ allBelow 16 (fineAt os)
   pub whole : r .fine ≡ true → os ≡ objectsOf (rowsOf os)

@@ -4,10 +4,10 @@ ghost use lib.Dec.{leb};
 ghost use Rattle.lists.specs.Choice.{if_then_else_};
 ghost use Rattle.lists.specs.Lists.{allBelow};
 ghost use Rattle.slots.specs.SoundSlots.{ringFine};
-ghost use Rattle.slots.specs.Kinds.{marksOf};
-ghost use Rattle.objects.specs.Columns.{rowsOf, ring, six};
-ghost use Rattle.objects.specs.Fine.{rowFine, fineAt, openAt, takenAt, holdingIn, Each, HoldingsAre};
+ghost use Rattle.objects.specs.Columns.{HoldersAre, ring, six};
+ghost use Rattle.objects.specs.Fine.{rowFine, fineAt, openAt, takenAt, holdingIn, Each, MarksAre, HoldingsAre};
 use crate::Holdings;
+use crate::Marks;
 use crate::Objects;
 
 fn ring_fine(c: u8, z: u8, f: u8, k: u8) -> bool
@@ -31,10 +31,10 @@ fn row_fine(s: u8, c: u8, z: u8, f: u8, k: u8, h: u8) -> bool
 }
 
 // Who holds it; 16 where nobody does.
-fn by_whom(s: u8, h: u8) -> usize
+fn holder(s: u8, h: u8) -> u8
     ensures { λ r. ⌜ r ≡ if leb 4 s then h else 16 ⌝ }
 {
-    if 4 <= s { h as usize } else { 16 }
+    if 4 <= s { h } else { 16 }
 }
 
 impl Objects {
@@ -78,23 +78,26 @@ impl Objects {
         n
     }
 
-    // For each task slot, whether its task holds a mutex. Where nobody holds the walk costs nothing.
-    fn marks(self) -> [bool; 16]
-        ensures { λ r. ⌜ r ≡ marksOf (rowsOf self) ⌝ }
+    // Who holds: by task slot and by object. Where nobody holds the walk costs nothing.
+    fn marks(self) -> Marks
+        ensures { λ r. ⌜ MarksAre self r ⌝ }
     {
         let state = self.state;
-        let holder = self.holder;
+        let whom = self.holder;
         let n = lists::bound(self.holding());
         let mut held = [false; 16];
+        let mut by = [16u8; 16];
         let mut i = 0usize;
         while i < n {
-            let h = by_whom(state[i], holder[i]);
-            if h < 16 {
-                held[h] = true;
+            let h = holder(state[i], whom[i]);
+            by[i] = h;
+            let t = h as usize;
+            if t < 16 {
+                held[t] = true;
             }
             i += 1;
         }
-        held
+        Marks { held, by }
     }
 
     // The queues that are empty or full.
@@ -128,11 +131,28 @@ impl Objects {
         out
     }
 
+    // Who holds each object; 16 where nobody does.
+    pub fn holders(self) -> [u8; 16]
+        ensures { λ r. ⌜ HoldersAre self r ⌝ }
+    {
+        let state = self.state;
+        let by = self.holder;
+        let mut out = [16u8; 16];
+        let mut i = 0usize;
+        while i < 16 {
+            out[i] = holder(state[i], by[i]);
+            i += 1;
+        }
+        out
+    }
+
     // Who holds, who may be waited on, and whether each object is fine. What is fine stands for the list that it reads as.
     pub fn holdings(self) -> Holdings
         ensures { λ r. ⌜ HoldingsAre self r ⌝ }
     {
-        let held = self.marks();
+        let marks = self.marks();
+        let held = marks.held;
+        let by = marks.by;
         let open = self.opens();
         let taken = self.takes();
         let holder = self.holder;
@@ -142,6 +162,7 @@ impl Objects {
             open,
             taken,
             holder,
+            by,
             fine,
         }
     }

@@ -11,20 +11,23 @@ use Rattle.lists.specs.Choice.{if_then_else_}
 use Rattle.lists.specs.Lists.{upTo}
 use Rattle.lists.proofs.Loops.{some-more}
 use Rattle.calls.specs.Behind.{asked}
-use Rattle.calls.specs.Said.{says}
 use Rattle.rows.specs.Applies.{outOfRange, namesNone, wrongSize, notForIdle, notWithHold, noneFree, notHis, hisAlready, notSuspended, mustWait, noDepth, noTick, table}
 use Rattle.slots.specs.Values.{taskAt}
 use Rattle.rules.specs.Tables.{withUses, withHold}
 use Rattle.rules.specs.Lines.{chosen}
 use Rattle.rules.specs.Sound.{sound}
-use Rattle.rules.specs.Sentences.{Unheld}
+use Rattle.rules.specs.Sentences.{Sound, Unheld}
+use Rattle.rules.specs.Loans.{workedOut}
 use Rattle.rules.specs.Ticks.{SomeoneWakes, oneTick, untilDue, turned, turnedIf, ticked, ticks, released, advanced, sleeps}
 use Rattle.rules.specs.Refusals.{inUse, laterRow, refusal}
 use Rattle.rules.specs.Effects.{effect}
-use Rattle.rules.specs.Steps.{Stepped, stored, answered, usesAfter, accepted, turnedAway, step}
+use Rattle.rules.specs.Steps.{Stepped, stored, answered, usesAfter, after, accepted, turnedAway, step}
 use Rattle.rules.proofs.SoundSays.{sound-says}
 use Rattle.rules.proofs.RowPasses.{above-0, passed, advance-free}
 use Rattle.rules.proofs.TickJumps.{chosen-only, until-quiet}
+use Rattle.rules.proofs.LoanWorks.{worked-still}
+use Rattle.rules.proofs.LoanStill.{ticked-reckoned, advanced-reckoned}
+use Rattle.rules.proofs.KeepChosen.{sound-reckoned}
 use Rattle.rules.proofs.KeepTicks.{sound-unheld, ticks-unheld}
 use Rattle.rules.proofs.KeepEvery.{step-kept}
 use Rattle.rules.proofs.LineTurns.{chosen-again}
@@ -70,15 +73,17 @@ module _ (k : State) (s : List ℕ) (e : sound k ≡ true) (z : k .hold ≡ 0) (
   still n = ticks-ready true n k (k .running) (sound-says k e .running .runs .ready)
 
   advance-step : (item : List ℕ) (n : ℕ) → 1 ≤ n → n ≤ 65535 → step k (Advance n) item s ≡ atFirst (ticks true n k) s
-  unfolding step refusal accepted answered stored usesAfter effect advanced asked
+  unfolding step refusal accepted after answered stored usesAfter effect advanced asked
   advance-step item n l m =
-      rw (e, advance-passes k (length item) (length s) whole z n l m, chosen-again (ticks true n k) (ticks-unheld n k U), still n)
-      (ap (λ us. atFirst (withUses (ticks true n k) us) s) (sym (ticks-uses true n k)))
+      rw (e, advance-passes k (length item) (length s) whole z n l m, worked-still (ticks true n k) (advanced-reckoned k (sound-says k e) n))
+      (rw (chosen-again (ticks true n k) (ticks-unheld n k U), still n)
+      (ap (λ us. atFirst (withUses (ticks true n k) us) s) (sym (ticks-uses true n k))))
 
   tick-step : step k Tick [] s ≡ atFirst (turnedIf true (oneTick k)) s
-  unfolding step refusal accepted answered stored usesAfter effect asked ticks upTo
+  unfolding step refusal accepted after answered stored usesAfter effect asked ticks upTo
   tick-step =
-      rw (e, tick-passes k 0 (length s) whole z, ticked-free k z, still 1) (ap (λ us. atFirst (withUses (turnedIf true (oneTick k)) us) s) (sym (ticks-uses true 1 k)))
+      rw (e, tick-passes k 0 (length s) whole z, worked-still (ticked k) (ticked-reckoned k (sound-says k e)), ticked-free k z, still 1)
+      (ap (λ us. atFirst (withUses (turnedIf true (oneTick k)) us) s) (sym (ticks-uses true 1 k)))
 
 -- so n ticks are
 module _ (k : State) (s : List ℕ) (e : sound k ≡ true) (z : k .hold ≡ 0) (whole : length s ≡ 9216) where
@@ -164,18 +169,23 @@ record Pends (k : State) (s : List ℕ) (d : Stepped) : Type 0 where
   store : d .store ≡ s
 
 pended-step : (k : State) (s : List ℕ) → 0 < k .hold → Pends k s (step k Tick [] s)
-unfolding step accepted stored effect ticked asked
-pended-step k s h = go (eqb (refusal k (asked (k .uses) Tick) 0 (length s)) 0)
+unfolding step accepted after stored effect ticked asked
+pended-step k s h = go (eqb no 0) refl
   where
+    no : ℕ
+    no = refusal k (asked (k .uses) Tick) 0 (length s)
+
     j : State
     j = withHold k (k .hold) (k .pended + 1)
 
-    next : ticked k ≡ j
-    next = rw (lt-ltb 0 (k .hold) h)
+    next : Sound k → workedOut (ticked k) ≡ j
+    next S = worked-still (ticked k) (ticked-reckoned k S) ∙ rw (lt-ltb 0 (k .hold) h)
 
-    go : (b : Bool) → Pends k s (if b then accepted k (asked (k .uses) Tick) [] s else turnedAway k (refusal k (asked (k .uses) Tick) 0 (length s)) s)
-    go true = record { tasks = ap (λ (i : State). chosen i .tasks) next ∙ chosen-only j .tasks; hold = rw (next, chosen-only j .hold) h; store = refl }
-    go false = record { tasks = refl; hold = h; store = refl }
+    go : (b : Bool) → eqb no 0 ≡ b → Pends k s (if b then accepted k (asked (k .uses) Tick) [] s else turnedAway k no s)
+    go true q =
+        let e = next (sound-says k (not-refused k (asked (k .uses) Tick) 0 (length s) (eqb-true _ 0 q) .0)) in
+        record { tasks = ap (λ (i : State). chosen i .tasks) e ∙ chosen-only j .tasks; hold = rw (e, chosen-only j .hold) h; store = refl }
+    go false q = record { tasks = refl; hold = h; store = refl }
 
 pends : (k : State) (s : List ℕ) → 0 < k .hold → (n : ℕ) → Pends k s (singly n (atFirst k s))
 unfolding singly upTo
@@ -205,7 +215,7 @@ module _ (k : State) (s : List ℕ) where
       go false e true z c w (suc m) g = ap (λ (d : Stepped). d .kernel .tasks) (none-changed k s 1 (turned-away-1 k s e) m)
 
   advance-quiet : (item : List ℕ) (n : ℕ) → Quiet k n → step k (Advance n) item s .kernel .tasks ≡ k .tasks
-  unfolding step accepted effect advanced asked
+  unfolding step accepted after effect advanced asked
   advance-quiet item n f = go (eqb (refusal k a (length item) (length s)) 0) refl
     where
       a : Asked
@@ -215,7 +225,9 @@ module _ (k : State) (s : List ℕ) where
           → (if b then accepted k a item s else turnedAway k (refusal k a (length item) (length s)) s) .kernel .tasks ≡ k .tasks
       go true q =
           let r = not-refused k a (length item) (length s) (eqb-true _ 0 q) in
-          chosen-only (ticks true n k) .tasks ∙ f (r .0) (advance-free k a refl (passed k a (length item) (length s) (r .1) .held))
+          ap (λ (j : State). chosen j .tasks) (worked-still (ticks true n k) (advanced-reckoned k (sound-says k (r .0)) n))
+          ∙ chosen-only (ticks true n k) .tasks
+          ∙ f (r .0) (advance-free k a refl (passed k a (length item) (length s) (r .1) .held))
       go false q = refl
 
 -- what the answer says of the distance
@@ -249,13 +261,14 @@ module _ (k : State) where
       go false g h = ltb-false until 4294967295 g
 
   sooner-quiet : (d n : ℕ) → sleeps k ≡ d ∷ [] → n < d → Quiet k n
-  sooner-quiet d n h l e z = let u = until-is d h in none-sooner true k n (sound-says k e .clock .counts .tick-range) (omega (arith, u .due-at))
+  sooner-quiet d n h l e z = let u = until-is d h in none-sooner true k (sound-reckoned k (sound-says k e)) n (sound-says k e .clock .counts .tick-range) (omega (arith, u .due-at))
 
   ever-quiet : (n : ℕ) → sleeps k ≡ [] → Quiet k n
   ever-quiet n h e z =
       let C = sound-says k e .clock in
+      let R = sound-reckoned k (sound-says k e) in
       let small = C .counts .tick-range in
-      none-ever true k (λ m t. never-due (k .tick) m (taskAt (k .tasks) t .place) small (C .wakes t) (omega (arith, never h e, until-quiet k small .away t))) n
+      none-ever true k R (λ m t. never-due (k .tick) m (taskAt (k .tasks) t .place) small (C .wakes t) (omega (arith, never h e, until-quiet k small R .away t))) n
 
   released-quiet : (d : ℕ) → sleeps k ≡ d ∷ [] → k .pended < d → released k .tasks ≡ k .tasks
   unfolding released
@@ -265,7 +278,7 @@ module _ (k : State) where
       u = until-is d h
 
       go : (b : Bool) → (if b then ticks false (k .pended) (withHold k 0 0) else withHold k (k .hold - 1) (k .pended)) .tasks ≡ k .tasks
-      go true = none-sooner false (withHold k 0 0) (k .pended) (sound-says k (u .is-sound) .clock .counts .tick-range) (omega (arith, u .due-at))
+      go true = none-sooner false (withHold k 0 0) (sound-reckoned k (sound-says k (u .is-sound))) (k .pended) (sound-says k (u .is-sound) .clock .counts .tick-range) (omega (arith, u .due-at))
       go false = refl
 
   someone : (d : ℕ) → sleeps k ≡ d ∷ [] → k .hold ≡ 0 → SomeoneWakes k (ticks true d k)

@@ -5,10 +5,10 @@ use mathlib.Core.Bool.{Bool, true, false, false≢true}
 use mathlib.Core.List.{List, [], _∷_}
 use native.Mathlib.Omega.{arith}
 use lib.Dec.{eqb, ltb, leb}
-use lib.ListN.{length, set}
+use lib.ListN.{length, getD, set}
 use borrow.Author.Tests.{eqb-true, leb-true, leb-false}
 use Rattle.lists.specs.Choice.{if_then_else_}
-use Rattle.lists.specs.Lists.{foldl, upTo, larger}
+use Rattle.lists.specs.Lists.{foldl, upTo}
 use Rattle.numbers.specs.declared.TaskSlot.{TaskSlot}
 use Rattle.numbers.specs.declared.ObjSlot.{ObjSlot}
 use Rattle.numbers.specs.Numbers.{task, object, sameTask}
@@ -23,19 +23,20 @@ use Rattle.slots.specs.declared.Kind.{Kind}
 use Rattle.slots.specs.declared.Kind.the-variants.{Unused, Queue, Mutex}
 use Rattle.slots.specs.Who.{Who, AllReady, WaitersOf}
 use Rattle.slots.specs.Places.{isReady, isListed, wakesAt, outcomeDue}
-use Rattle.slots.specs.Values.{freeTask, spentTask, readyAt, placed, ranked, brokenOff, taskAt}
+use Rattle.slots.specs.Values.{freeTask, spentTask, readyAt, placed, owned, levelled, brokenOff, taskAt}
 use Rattle.rules.specs.State.{State}
 use Rattle.slots.specs.Kinds.{kindAt}
-use Rattle.rules.specs.Tables.{holds, freeSlot, freeObject, withTask, withObject, withOrder, withRunning, withHold}
+use Rattle.rules.specs.Tables.{freeSlot, freeObject, withTask, withObject, withOrder, withRunning, withHold}
 use Rattle.rules.specs.Lines.{begun, level, first, runsIf, chosen, toTail, toHead, leaves}
 use Rattle.rules.specs.Sound.{noHigher}
 use Rattle.rules.specs.Waits.{later, wakeOf, arrives, waitFor}
-use Rattle.rules.specs.Loans.{moved, movedIf, prioritized, newPriority, lent, ownAgain}
-use Rattle.rules.specs.Ticks.{wokenIfDue, wakes, oneTick, turned, ticked, ticks, released, held, advanced}
+use Rattle.rules.specs.Loans.{moved, movedIf, prioritized, ruled, relevelled, workedOut, newPriority}
+use Rattle.rules.specs.Ticks.{wokenIfDue, wakes, countedOn, oneTick, turned, ticked, ticks, released, held, advanced}
 use Rattle.rules.specs.Rings.{oneLess, oneMore}
 use Rattle.rules.specs.Queues.{outlet, outletFor, sentBy, sent, refilledBy, received, sentTo, receivedFrom}
-use Rattle.rules.specs.Effects.{created, deleted, suspended, resumed, yielded, delayed, queueMade, mutexMade, removed, takenFrom, taken, handedTo, handedOn, given}
+use Rattle.rules.specs.Effects.{created, deleted, suspended, resumed, yielded, delayed, queueMade, mutexMade, removed, takenFrom, taken, handedTo, given}
 use Rattle.rules.proofs.TableSlots.{past-tasks}
+use Rattle.rules.proofs.LoanWorks.{upToSlot}
 use Rattle.rules.proofs.TableWithin.{first-within, first-single, by-outlet}
 use Rattle.promises.specs.Alike.{Alike}
 use Rattle.promises.proofs.AlikeFirsts.{same-leader, same-higher}
@@ -85,15 +86,15 @@ unfolding waitFor
 wait-too {k} o n w = twice (λ z. waitFor z o n) w (λ m v. arrives-too (k .running) (Waiting o (wakeOf (k .tick) n)) 0 (v .runs) v)
 
 -- ── priorities
-prioritized-too : {k j : State} (t : TaskSlot) (own eff : ℕ) → Twins k j → Twins (prioritized k t own eff) (prioritized j t own eff)
+prioritized-too : {k j : State} (t : TaskSlot) (eff : ℕ) → Twins k j → Twins (prioritized k t eff) (prioritized j t eff)
 unfolding prioritized movedIf moved toTail toHead
-prioritized-too {k} t own eff w = twice (λ z. prioritized z t own eff) w (λ o v. go o v (isReady (x .place)) refl (eqb (x .effective) eff) refl)
+prioritized-too {k} t eff w = twice (λ z. prioritized z t eff) w (λ o v. go o v (isReady (x .place)) refl (eqb (x .effective) eff) refl)
   where
     x : Task
     x = taskAt (k .tasks) t
 
     y : Task
-    y = ranked x own eff
+    y = levelled x eff
 
     to-new-line : (o : Order) → Twins k (withOrder k o) → t .0 < 16 → (runs : Bool)
         → Twins (if runs then toHead (withTask k t y) t else toTail (withTask k t y) t) (if runs then toHead (withTask (withOrder k o) t y) t else toTail (withTask (withOrder k o) t y) t)
@@ -107,24 +108,19 @@ prioritized-too {k} t own eff w = twice (λ z. prioritized z t own eff) w (λ o 
     go o v true e true f = unseen k o v t y (λ p. rw (eqb-true (x .effective) eff f)) refl
     go o v true e false f = to-new-line o v (slot-low isReady refl (k .tasks) t (v .slots) e) (sameTask t (k .running))
 
+slots-too : {k j : State} (ls : List ℕ) (n : ℕ) → Twins k j → Twins (upToSlot ls k n) (upToSlot ls j n)
+unfolding upTo
+slots-too ls zero w = w
+slots-too ls (suc n) w = prioritized-too (task n) (getD ls n 0) (slots-too ls n w)
+
+-- the rule looks at the tables alone
+pub worked-too : {k j : State} → Twins k j → Twins (workedOut k) (workedOut j)
+unfolding workedOut relevelled
+worked-too {k} w = twice (λ z. workedOut z) w (λ o v. slots-too (ruled (k .tasks) (k .objects)) 16 v)
+
 pub new-priority-too : {k j : State} (t : TaskSlot) (p : ℕ) → Twins k j → Twins (newPriority k t p) (newPriority j t p)
 unfolding newPriority
-new-priority-too {k} t p w = twice (λ z. newPriority z t p) w (λ o v. prioritized-too t p (if holds (k .objects) t then larger (level (k .tasks) t) p else p) v)
-
-lent-too : {k j : State} (h : TaskSlot) → Twins k j → Twins (lent k h) (lent j h)
-unfolding lent
-lent-too {k} h w = twice (λ z. lent z h) w (λ o v. prioritized-too h (taskAt (k .tasks) h .own) (larger (level (k .tasks) h) (level (k .tasks) (k .running))) v)
-
-own-again-too : {k j : State} (t : TaskSlot) → Twins k j → Twins (ownAgain k t) (ownAgain j t)
-unfolding ownAgain
-own-again-too {k} t w = twice (λ z. ownAgain z t) w (λ o v. go o v (holds (k .objects) t))
-  where
-    x : Task
-    x = taskAt (k .tasks) t
-
-    go : (o : Order) → Twins k (withOrder k o) → (b : Bool) → Twins (if b then k else prioritized k t (x .own) (x .own)) (if b then withOrder k o else prioritized (withOrder k o) t (x .own) (x .own))
-    go o v true = v
-    go o v false = prioritized-too t (x .own) (x .own) v
+new-priority-too {k} t p w = twice (λ z. newPriority z t p) w (λ o v. unseen k o v t (owned (taskAt (k .tasks) t) p) (λ q. refl) refl)
 
 -- ── tasks made, stopped, set going
 pub created-too : {k j : State} (p : ℕ) → freeSlot (k .tasks) < 16 → Twins k j → Twins (created k p) (created j p)
@@ -205,10 +201,14 @@ unfolding foldl
 wakes-too [] w = w
 wakes-too (t ∷ l) w = wakes-too l (woken-too t w)
 
-one-tick-too : {k j : State} → Twins k j → Twins (oneTick k) (oneTick j)
-unfolding oneTick wakes
-one-tick-too {k} w = twice (λ z. oneTick z) w
+counted-too : {k j : State} → Twins k j → Twins (countedOn k) (countedOn j)
+unfolding countedOn wakes
+counted-too {k} w = twice (λ z. countedOn z) w
     (λ o v. rw (← v .alike .begun) (wakes-too (begun (k .tasks) (listed (k .order))) (beside k o v (k .objects) (later (k .tick) 1) (k .hold) (k .pended))))
+
+one-tick-too : {k j : State} → Twins k j → Twins (oneTick k) (oneTick j)
+unfolding oneTick
+one-tick-too w = worked-too (counted-too w)
 
 turned-too : {k j : State} → Twins k j → Twins (turned k) (turned j)
 unfolding turned
@@ -301,16 +301,12 @@ taken-too {k} o n w = twice (λ z. taken z o n) w (λ m v. go m v (kindAt (k .ob
     go m v SpentObject = v
     go m v (Queue q) = v
     go m v (Mutex Nobody) = object-too o (Mutex (By (k .running))) v
-    go m v (Mutex (By h)) = wait-too o n (lent-too h v)
+    go m v (Mutex (By h)) = wait-too o n v
 
-handed-on-too : {k j : State} (o : ObjSlot) → Twins k j → Twins (handedOn k o) (handedOn j o)
-unfolding handedOn
-handed-on-too {k} o w = twice (λ z. handedOn z o) w (λ m v. rw (← first-same k m (v .alike) (WaitersOf o)) (go m v (first k (WaitersOf o)) refl))
+pub given-too : {k j : State} (o : ObjSlot) → Twins k j → Twins (given k o) (given j o)
+unfolding given
+given-too {k} o w = twice (λ z. given z o) w (λ m v. rw (← first-same k m (v .alike) (WaitersOf o)) (go m v (first k (WaitersOf o)) refl))
   where
     go : (m : Order) → Twins k (withOrder k m) → (f : List TaskSlot) → first k (WaitersOf o) ≡ f → Twins (handedTo k o f) (handedTo (withOrder k m) o f)
     go m v [] e = object-too o (Mutex Nobody) v
     go m v (t ∷ r) e = object-too o (Mutex (By t)) (arrives-too t Ready 1 (first-low k (WaitersOf o) t r (v .slots) e) v)
-
-pub given-too : {k j : State} (o : ObjSlot) → Twins k j → Twins (given k o) (given j o)
-unfolding given
-given-too {k} o w = twice (λ z. given z o) w (λ m v. own-again-too (k .running) (handed-on-too o v))

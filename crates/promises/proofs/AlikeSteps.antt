@@ -27,11 +27,11 @@ use Rattle.items.specs.Bytes.{putAt}
 use Rattle.rules.specs.Queues.{placeBy, storeSent, storeReceived, sentTo, receivedFrom, storeSentTo, storeReceivedFrom}
 use Rattle.rules.specs.Refusals.{laterRow, refusal}
 use Rattle.rules.specs.Effects.{effect}
-use Rattle.rules.specs.Steps.{stored, answered, usesAfter, accepted, turnedAway, steppedBy, step}
+use Rattle.rules.specs.Steps.{stored, answered, usesAfter, after, accepted, turnedAway, steppedBy, step}
 use Rattle.rules.proofs.TableWithin.{by-outlet}
 use Rattle.promises.specs.Alike.{Alike, AlikeSteps, Ordered}
 use Rattle.promises.proofs.AlikeTwins.{Twins, shared, twice}
-use Rattle.promises.proofs.AlikeEffects.{first-same, chosen-too, outlet-same, created-too, deleted-too, suspended-too, resumed-too, new-priority-too, yielded-too}
+use Rattle.promises.proofs.AlikeEffects.{first-same, chosen-too, worked-too, outlet-same, created-too, deleted-too, suspended-too, resumed-too, new-priority-too, yielded-too}
 use Rattle.promises.proofs.AlikeEffects.{delayed-too, queue-made-too, mutex-made-too, removed-too, ticked-too, released-too, held-too, advanced-too, sent-to-too}
 use Rattle.promises.proofs.AlikeEffects.{received-from-too, taken-too, given-too}
 use Rattle.promises.proofs.AlikeSound.{alike-sound, twins}
@@ -98,15 +98,15 @@ stored-too k j a item s w =
     shared (λ z. stored k a item s ≡ stored z a item s) k j w
     (λ m v. rw (sent-store-too k m (v .alike) (a .object) x item s, received-store-too k m (v .alike) (a .object) x s))
 
-answered-too : {k j next after : State} (a : Asked) → Alike k j → Alike next after → answered k a next ≡ answered j a after
+answered-too : {k j m n : State} (a : Asked) → Alike k j → Alike m n → answered k a m ≡ answered j a n
 unfolding answered
 answered-too a b c = rw (b .tasks, b .objects, b .running, b .uses, c .tasks)
 
 accepted-too : (k j : State) (c : Call) (item s : List ℕ) → laterRow k (asked (k .uses) c) (length item) (length s) ≡ 0 → Twins k j
     → AlikeSteps (accepted k (asked (k .uses) c) item s) (accepted j (asked (k .uses) c) item s)
-unfolding accepted
+unfolding accepted after
 accepted-too k j c item s e w =
-    let next = chosen-too (effect-too k j c (length item) (length s) e w) .alike in
+    let next = chosen-too (worked-too (effect-too k j c (length item) (length s) e w)) .alike in
     record {
       answer = answered-too (asked (k .uses) c) (w .alike) next;
       store = stored-too k j (asked (k .uses) c) item s w;

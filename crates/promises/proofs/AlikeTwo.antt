@@ -7,7 +7,7 @@ use mathlib.Core.List.{[]}
 use native.Mathlib.Omega.{arith}
 use lib.ListN.{getD, replicate}
 use borrow.Author.Tests.{ne-eqb}
-use Rattle.lists.specs.Lists.{every, allBelow, foldl, any, kept}
+use Rattle.lists.specs.Lists.{every, allBelow, foldl, upTo, values, any, kept}
 use Rattle.numbers.specs.declared.ObjSlot.{ObjSlot}
 use Rattle.numbers.specs.Numbers.{task, idle}
 use Rattle.calls.specs.declared.Call.the-variants.{Tick}
@@ -23,16 +23,18 @@ use Rattle.rules.specs.Tables.{holds, withOrder}
 use Rattle.rules.specs.Lines.{line, those, begun, highest, leader, first, chosen, toTail}
 use Rattle.rules.specs.Sound.{tablesFine, levelsFine, listingFine, clockFine, noHigher, runsFine, sound}
 use Rattle.rules.specs.Waits.{arrives}
-use Rattle.rules.specs.Ticks.{wokenIfDue, wakes, oneTick, turned, ticked}
+use Rattle.chains.specs.Lent.{goesOn, levels}
+use Rattle.rules.specs.Loans.{movedIf, prioritized, ruled, relevelled, workedOut}
+use Rattle.rules.specs.Ticks.{wokenIfDue, wakes, countedOn, oneTick, turned, ticked}
 use Rattle.rows.specs.Applies.{outOfRange, namesNone, wrongSize, notForIdle, notWithHold, noneFree, notHis, hisAlready, notSuspended, mustWait, noDepth, noTick, table}
 use Rattle.rules.specs.Refusals.{inUse, laterRow, refusal}
 use Rattle.rules.specs.Effects.{effect}
-use Rattle.rules.specs.Steps.{accepted, step}
+use Rattle.rules.specs.Steps.{after, accepted, step}
 use Rattle.promises.specs.Alike.{Alike, idleFirst, idleLast, firstBegan, secondBegan}
 
 pub two-sound : (sound idleFirst ≡ true) × (sound idleLast ≡ true)
 unfolding idleFirst idleLast sound every allBelow any kept ordered count tidy
-    taskAt kindAt holds line noHigher runsFine tablesFine levelsFine listingFine clockFine usesFine freshUses
+    taskAt kindAt holds line noHigher runsFine tablesFine levelsFine ruled levels goesOn values upTo listingFine clockFine usesFine freshUses
 two-sound = (refl, refl)
 
 pub two-alike : Alike idleFirst idleLast
@@ -50,7 +52,7 @@ two-differ e = let z : _≡_ {A = ℕ} 0 1 = ap (λ (o : Order). getD (o .places
 -- ── who began first
 pub began-sound : (sound firstBegan ≡ true) × (sound secondBegan ≡ true)
 unfolding firstBegan secondBegan sound every allBelow any kept ordered count tidy
-    taskAt kindAt holds line noHigher runsFine tablesFine levelsFine listingFine clockFine usesFine freshUses
+    taskAt kindAt holds line noHigher runsFine tablesFine levelsFine ruled levels goesOn values upTo listingFine clockFine usesFine freshUses
 began-sound = (refl, refl)
 
 -- all is the same but the order, and so is each line and each list
@@ -62,8 +64,8 @@ same-but-begun = (refl, (λ p. refl, λ o. refl))
 
 -- so without the field `begun` alike kernels would part
 pub order-counts : (step firstBegan Tick [] (replicate 9216 0) .kernel .running ≡ task 1) × (step secondBegan Tick [] (replicate 9216 0) .kernel .running ≡ task 2)
-unfolding firstBegan secondBegan step accepted asked refusal laterRow table outOfRange namesNone wrongSize notForIdle notWithHold noneFree inUse
+unfolding firstBegan secondBegan step accepted after asked refusal laterRow table outOfRange namesNone wrongSize notForIdle notWithHold noneFree inUse
     notHis hisAlready notSuspended mustWait noDepth noTick sound every allBelow any kept foldl ordered without count tidy taskAt kindAt holds line those
-    begun highest leader first chosen toTail arrives wokenIfDue wakes oneTick turned ticked effect noHigher runsFine tablesFine levelsFine listingFine
-    clockFine usesFine freshUses
+    begun highest leader first chosen toTail arrives wokenIfDue wakes countedOn oneTick turned ticked effect noHigher runsFine tablesFine levelsFine listingFine
+    clockFine usesFine freshUses ruled levels goesOn values upTo relevelled workedOut prioritized movedIf
 order-counts = (refl, refl)

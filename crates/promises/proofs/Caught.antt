@@ -17,33 +17,35 @@ use Rattle.order.specs.Tidy.{count, tidy}
 use Rattle.items.specs.Bytes.{putAt}
 use Rattle.promises.specs.Types.{Asked, Call, State}
 use Rattle.promises.specs.Cases.{View}
-use Rattle.promises.specs.Wrong.{Stepping, raised, stepOf, stepBy, Numbers, turnsAllAway, alwaysDone, changesNothing, asBegun, tickedBy, releasedBy, madeUp, Wrong, showsBy, ofWord}
+use Rattle.promises.specs.Wrong.{Stepping, usesThen, stepOf, stepBy, Numbers, turnsAllAway, alwaysDone, changesNothing, asBegun, oneTickBy, tickedBy, releasedBy, madeUp, Wrong, showsBy, ofWord}
 use Rattle.promises.specs.Wrong.{sameNumber, sameList, sameView, Verdict, found, verdict, idlePrograms, easyMistakes, numberMistakes, chosenBy, lineMistakes, wakesAlong, wakeMistakes}
 use Rattle.promises.specs.Wrong.{advancesBy, asAsked, allBegun, nothingMore, advanceMistakes, wrongs}
-use Rattle.rules.specs.Effects.{created, deleted, suspended, resumed, yielded, delayed, queueMade, mutexMade, removed, taken, handedOn, given, effect}
+use Rattle.chains.specs.Columns.{raised}
+use Rattle.chains.specs.Lent.{goesOn, levels}
+use Rattle.rules.specs.Effects.{created, deleted, suspended, resumed, yielded, delayed, queueMade, mutexMade, removed, taken, given, effect}
 use Rattle.rules.specs.Parts.{itemAt}
 use Rattle.rules.specs.Queues.{outlet, sent, storeSent, received, storeReceived}
 use Rattle.rules.specs.Lines.{line, those, begun, highest, leader, first, chosen, toTail, toHead, leaves}
 use Rattle.rules.specs.Occupied.{linesOf}
 use Rattle.rules.proofs.LineHeights.{height-highest}
 use Rattle.rules.proofs.LineLeads.{first-heads-highest}
-use Rattle.rules.specs.Loans.{moved, movedIf, prioritized, newPriority, lent, ownAgain}
+use Rattle.rules.specs.Loans.{moved, movedIf, ruled, prioritized, relevelled, workedOut, newPriority}
 use Rattle.rows.specs.Asking.{is}
 use Rattle.rows.specs.Applies.{outOfRange, namesNone, wrongSize, notForIdle, notWithHold, noneFree, notHis, hisAlready, notSuspended, mustWait, noDepth}
 use Rattle.rules.specs.Refusals.{heldOrWaited, inUse}
 use Rattle.rows.specs.Applies.{noTick, table}
 use Rattle.rules.specs.Refusals.{laterRow, refusal}
 use Rattle.rules.specs.Sound.{tablesFine, levelsFine, listingFine, clockFine, noHigher, runsFine, sound}
-use Rattle.rules.specs.Steps.{stored, answered, usesAfter, accepted, step}
+use Rattle.rules.specs.Steps.{stored, answered, usesAfter, after, accepted, step}
 use Rattle.rules.specs.Trace.{trace}
 use Rattle.slots.specs.Values.{taskAt}
 use Rattle.slots.specs.Kinds.{kindAt}
 use Rattle.rules.specs.Tables.{fresh, holds, freeSlot, freeObject}
-use Rattle.rules.specs.Ticks.{wokenIfDue, wakes, oneTick, turned, turnedIf, ticked, ticks, released, held, advanced}
+use Rattle.rules.specs.Ticks.{wokenIfDue, wakes, countedOn, oneTick, turned, turnedIf, ticked, ticks, released, held, advanced}
 use Rattle.rules.specs.Waits.{arrives, waitFor}
 
 -- what is changed is changed in the step itself: with the kernel's own parts the frame is the step
-pub frame : (k : State) (c : Call) (i s : List ℕ) → stepOf asked refusal effect chosen stored raised k c i s ≡ step k c i s
+pub frame : (k : State) (c : Call) (i s : List ℕ) → stepOf asked refusal after chosen stored usesThen k c i s ≡ step k c i s
 unfolding stepOf step accepted
 frame k c i s = refl
 
@@ -52,34 +54,37 @@ pub chosen-by-height : (k : State) → chosenBy (λ j. height (linesOf j)) k ≡
 unfolding chosen
 chosen-by-height k = rw (height-highest k, first-heads-highest k)
 
--- along the list of those who began, at a tick and at a release, it is the effect
-pub wakes-as-begun : (k : State) (a : Asked) → wakesAlong asBegun k a ≡ effect k a
-unfolding effect oneTick ticked ticks released
+-- along the list of those who began, at a tick and at a release, it is the effect, worked out
+pub wakes-as-begun : (k : State) (a : Asked) → wakesAlong asBegun k a ≡ after k a
+unfolding after effect oneTick countedOn ticked ticks released
 wakes-as-begun k a = go (is 17 a) refl (is 9 a) refl
   where
+    count : State → State
+    count = oneTickBy (λ j. wakes j (asBegun j))
+
     go : (b : Bool) → is 17 a ≡ b → (c : Bool) → is 9 a ≡ c
-        → (if b then tickedBy (λ j. wakes j (asBegun j)) k else if c then releasedBy (λ j. wakes j (asBegun j)) k else effect k a) ≡ effect k a
+        → (if b then workedOut (tickedBy count k) else if c then workedOut (releasedBy count k) else after k a) ≡ after k a
     go true e c f = rw (eqb-true (a .number) 17 e)
     go false e true f = rw (eqb-true (a .number) 9 f)
     go false e false f = refl
 
 -- with the right parts an advance is the effect
-pub advances-as-asked : (k : State) (a : Asked) → advancesBy asAsked allBegun (turnedIf true) nothingMore k a ≡ effect k a
-unfolding effect oneTick ticks advanced
+pub advances-as-asked : (k : State) (a : Asked) → advancesBy asAsked allBegun (turnedIf true) nothingMore k a ≡ after k a
+unfolding after effect oneTick countedOn ticks advanced
 advances-as-asked k a = go (is 18 a) refl
   where
-    go : (b : Bool) → is 18 a ≡ b → (if b then ticks true (a .ticks) k else effect k a) ≡ effect k a
+    go : (b : Bool) → is 18 a ≡ b → (if b then workedOut (ticks true (a .ticks) k) else after k a) ≡ after k a
     go true e = rw (eqb-true (a .number) 18 e)
     go false e = refl
 
 pub caught : (number : Numbers) (n : ℕ) → map found (wrongs number n) ≡ map verdict (wrongs number n)
 unfolding wrongs idlePrograms easyMistakes numberMistakes lineMistakes wakeMistakes advanceMistakes linesOf occupied lit top leadingZeros trailingZeros stepOf turnsAllAway
     alwaysDone changesNothing trace showsBy sameNumber sameList sameView every allBelow foldl upTo values index any kept asked ordered without count tidy
-    putAt created deleted suspended resumed yielded delayed queueMade mutexMade removed taken handedOn given effect itemAt outlet sent storeSent
-    received storeReceived line those begun highest leader first chosen toTail toHead leaves moved movedIf prioritized newPriority lent ownAgain outOfRange
+    putAt created deleted suspended resumed yielded delayed queueMade mutexMade removed taken given effect itemAt outlet sent storeSent
+    received storeReceived line those begun highest leader first chosen toTail toHead leaves moved movedIf prioritized newPriority ruled levels goesOn raised relevelled workedOut outOfRange
     namesNone wrongSize notForIdle notWithHold noneFree heldOrWaited inUse notHis hisAlready notSuspended mustWait noDepth noTick table laterRow
-    refusal noHigher runsFine tablesFine levelsFine listingFine clockFine usesFine sound stored answered usesAfter accepted step fresh freshUses
-    taskAt kindAt holds freeSlot freeObject wokenIfDue wakes oneTick turned ticked ticks released held advanced arrives waitFor
+    refusal noHigher runsFine tablesFine levelsFine listingFine clockFine usesFine sound stored answered usesAfter after accepted step fresh freshUses
+    taskAt kindAt holds freeSlot freeObject wokenIfDue wakes countedOn oneTick turned ticked ticks released held advanced arrives waitFor
 caught number n = refl
 
 same-number : (n : ℕ) → sameNumber n n ≡ true
@@ -104,7 +109,7 @@ not-the-step w h e =
     false≢true (ap not (sym (same-view (w .right))) ∙ rw shown at apart)
 
 -- so it is with each of a list
-none-of : (ws : List Wrong) → map found ws ≡ map verdict ws → (w : Wrong) → List·Memᴰ w ws → w .step ≡ step → ⊥
+pub none-of : (ws : List Wrong) → map found ws ≡ map verdict ws → (w : Wrong) → List·Memᴰ w ws → w .step ≡ step → ⊥
 none-of [] h w m = absurd (List·Memᴰ·not-nil m)
 none-of (x ∷ ws) h w m =
     let front : found x ≡ verdict x = cc in

@@ -14,20 +14,20 @@ use Rattle.calls.specs.Behind.{asked}
 use Rattle.slots.specs.Places.{isListed}
 use Rattle.slots.specs.Values.{brokenOff, taskAt}
 use Rattle.slots.specs.Kinds.{kindAt}
-use Rattle.rules.specs.Tables.{fresh, holds, withTask, withHold}
+use Rattle.rules.specs.Tables.{fresh, withTask, withHold}
 use Rattle.rules.specs.Lines.{first, toTail, leaves}
 use Rattle.rules.specs.Waits.{later, arrives, waitFor}
-use Rattle.rules.specs.Loans.{prioritized, newPriority, lent, ownAgain}
+use Rattle.rules.specs.Loans.{workedOut, newPriority}
 use Rattle.rules.specs.Ticks.{oneTick, turned, ticked, ticks, released, held, advanced}
 use Rattle.rules.specs.Rings.{oneLess}
 use Rattle.rules.specs.Queues.{sentBy, sent, sentTo, refilledBy, received, receivedFrom}
-use Rattle.rules.specs.Effects.{created, deleted, suspended, resumed, yielded, delayed, queueMade, mutexMade, removed, takenFrom, taken, handedTo, handedOn, given, effect}
+use Rattle.rules.specs.Effects.{created, deleted, suspended, resumed, yielded, delayed, queueMade, mutexMade, removed, takenFrom, taken, handedTo, given, effect}
 use Rattle.rules.specs.Refusals.{refusal}
-use Rattle.rules.specs.Steps.{accepted, turnedAway, step}
+use Rattle.rules.specs.Steps.{after, accepted, turnedAway, step}
 use Rattle.rules.specs.Trace.{momentOf, trace, stateAfter, CallMade, stepMade}
 use Rattle.rules.proofs.TableWithin.{by-outlet}
 use Rattle.rules.proofs.TickJumps.{chosen-only, turned-only, turn-only}
-use Rattle.rules.proofs.KeepBlocks.{prioritized-same}
+use Rattle.rules.proofs.LoanWorks.{worked-same}
 use Rattle.rules.proofs.KeepTicks.{tick-after}
 use Rattle.promises.specs.Types.{TaskSlot, ObjSlot, Call, Create, Delete, Suspend, Resume, SetPriority, Delay, Yield, Hold, Release, MakeQueue, MakeMutex, Remove, Send}
 use Rattle.promises.specs.Types.{Receive, Take, Give, Tick, Advance, Delayed, WaitersOf, Nobody, By, Kind, Unused, SpentObject, Queue, Mutex, State}
@@ -85,21 +85,17 @@ module _ (k : State) where
   received-hold o (Mutex h) w = refl
 
   taken-hold : (o : ObjSlot) (x : Kind) (w : ℕ) → takenFrom k o x w .hold ≡ k .hold
-  unfolding lent waitFor arrives toTail
+  unfolding waitFor arrives toTail
   taken-hold o Unused w = refl
   taken-hold o SpentObject w = refl
   taken-hold o (Queue q) w = refl
   taken-hold o (Mutex Nobody) w = refl
-  taken-hold o (Mutex (By h)) w = prioritized-same k h _ _ .hold
+  taken-hold o (Mutex (By h)) w = refl
 
   given-hold : (o : ObjSlot) → given k o .hold ≡ k .hold
-  unfolding given ownAgain handedOn arrives toTail
-  given-hold o = again (handedOn k o) (holds (handedOn k o .objects) (k .running)) ∙ hand (first k (WaitersOf o))
+  unfolding given arrives toTail
+  given-hold o = hand (first k (WaitersOf o))
     where
-      again : (j : State) (b : Bool) → (if b then j else prioritized j (k .running) (taskAt (j .tasks) (k .running) .own) (taskAt (j .tasks) (k .running) .own)) .hold ≡ j .hold
-      again j true = refl
-      again j false = prioritized-same j (k .running) _ _ .hold
-
       hand : (l : List TaskSlot) → handedTo k o l .hold ≡ k .hold
       hand [] = refl
       hand (t ∷ l) = refl
@@ -118,7 +114,7 @@ module _ (k : State) where
   effect-hold (Delete t) = refl
   effect-hold (Suspend t) = suspended-hold (taskSlot (k .uses) t)
   effect-hold (Resume t) = refl
-  effect-hold (SetPriority t p) = prioritized-same k (taskSlot (k .uses) t) _ _ .hold
+  effect-hold (SetPriority t p) = refl
   effect-hold (Delay n) = delayed-hold n
   effect-hold Yield = refl
   effect-hold Hold = refl
@@ -135,7 +131,7 @@ module _ (k : State) where
 
 -- ── one step: an accepted hold is one deeper, an accepted release one less, and nothing else changes the depth
 pub step-depth : (k : State) (s : List ℕ) (m : CallMade) → stepMade k s m .kernel .hold ≡ depthAt (k .hold) (momentOf stepMade k s m)
-unfolding step accepted
+unfolding step accepted after
 step-depth k s m = go (isAccepted k m)
   where
     no : ℕ
@@ -143,7 +139,7 @@ step-depth k s m = go (isAccepted k m)
 
     go : (b : Bool) → (if b then accepted k (asked (k .uses) (m .call)) (m .item) (m .store) else turnedAway k no (m .store)) .kernel .hold
         ≡ (if b then deeper (asked (k .uses) (m .call)) (k .hold) else k .hold)
-    go true = chosen-only (effect k (asked (k .uses) (m .call))) .hold ∙ effect-hold k (m .call)
+    go true = let j = effect k (asked (k .uses) (m .call)) in chosen-only (workedOut j) .hold ∙ worked-same j .hold ∙ effect-hold k (m .call)
     go false = refl
 
 run-depth : (k : State) (n : ℕ) (s : List ℕ) (ms : List CallMade) → k .hold ≡ n

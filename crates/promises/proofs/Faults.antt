@@ -3,28 +3,26 @@ use Prim.Native.Nat.{ℕ, _<_, _≤_}
 use mathlib.Core.Path.{_≡_, refl, ap, _∙_}
 use mathlib.Core.Bool.{true, false}
 use mathlib.Core.List.{List}
-use lib.ListN.{length}
 use native.Mathlib.Omega.{arith}
-use Rattle.lists.specs.Lists.{larger}
 use Rattle.numbers.specs.Numbers.{idle}
 use Rattle.calls.specs.declared.TaskNo.{TaskNo}
 use Rattle.calls.specs.Door.{taskSlot}
 use Rattle.calls.specs.Behind.{asked}
-use Rattle.slots.specs.Values.{ranked, taskAt}
+use Rattle.slots.specs.Values.{owned, taskAt}
 use Rattle.slots.specs.Kinds.{isUnused, kindAt}
 use Rattle.rules.specs.Lines.{level}
-use Rattle.rules.specs.Sentences.{Holds, Exists, MayWait, receiver, sender, taker, Sound}
-use Rattle.rules.specs.Loans.{prioritized, newPriority}
+use Rattle.rules.specs.Sentences.{Holds, Exists, Reaches, MayWait, receiver, sender, taker, Sound}
+use Rattle.rules.specs.Loans.{workedOut, newPriority}
 use Rattle.rules.specs.Effects.{effect}
-use Rattle.rules.specs.Steps.{accepted, step}
+use Rattle.rules.specs.Steps.{after, accepted, step}
 use Rattle.rules.specs.Trace.{CallMade}
 use Rattle.rules.proofs.TickJumps.{chosen-only}
-use Rattle.rules.proofs.TableHolds.{some-holds}
 use Rattle.rules.proofs.SoundSays.{sound-says}
 use Rattle.rules.proofs.KeepSlot.{at-same}
-use Rattle.rules.proofs.KeepBlocks.{prioritized-tasks}
+use Rattle.rules.proofs.KeepEvery.{step-kept}
+use Rattle.rules.proofs.LoanWorks.{worked-own}
 use Rattle.rules.proofs.Keeps.{there-low}
-use Rattle.promises.specs.Types.{TaskSlot, ObjSlot, SetPriority, Wake, Ready, Waiting, Kind, State}
+use Rattle.promises.specs.Types.{TaskSlot, ObjSlot, SetPriority, Wake, Ready, Waiting, Task, Kind, State}
 use Rattle.promises.specs.History.{reached}
 use Rattle.promises.specs.Depth.{isAccepted, depth}
 use Rattle.promises.proofs.Histories.{reached-sound}
@@ -58,20 +56,26 @@ module _ (ms : List CallMade) where
       not-unused (sender h) = refl
       not-unused (taker h) = refl
 
-  -- a raised priority of a boosted holder lost: a holder whose accepted change says p owns p after it, and runs at the larger of p and what it had
+  -- a raised priority of a boosted holder lost: a holder whose accepted change says p owns p after it, and has at least p and at least what each owns that waits for it
   pub raise-stays : (t : TaskNo) (o : ObjSlot) (p : ℕ) (item s : List ℕ) → Holds (k .objects) (taskSlot (k .uses) t) o → isAccepted k record { call = SetPriority t p; item = item; store = s } ≡ true
-      → taskAt (step k (SetPriority t p) item s .kernel .tasks) (taskSlot (k .uses) t) ≡ ranked (taskAt (k .tasks) (taskSlot (k .uses) t)) p (larger (level (k .tasks) (taskSlot (k .uses) t)) p)
-  unfolding step accepted effect asked newPriority
-  raise-stays t o p item s h e =
-      rw (e, some-holds (k .objects) u o h)
-      (ap (λ ts. taskAt ts u) (chosen-only (prioritized k u p both) .tasks ∙ prioritized-tasks k u p both)
-      ∙ at-same (k .tasks) u (ranked (taskAt (k .tasks) u) p both) low)
+      → let u = taskSlot (k .uses) t in let j = step k (SetPriority t p) item s .kernel in
+      (taskAt (j .tasks) u .own ≡ p) × ((v : TaskSlot) → Reaches (j .tasks) (j .objects) v u → taskAt (j .tasks) v .own ≤ level (j .tasks) u)
+  unfolding step accepted after effect asked newPriority
+  raise-stays t o p item s h e = (owns, λ v r. T .levels .rule u low .at-least v r)
     where
       u : TaskSlot
       u = taskSlot (k .uses) t
 
-      both : ℕ
-      both = larger (level (k .tasks) u) p
+      low : u .0 < 16
+      low = there-low (k .tasks) u (S .tables .task-slots) (S .tables .holders u o h)
 
-      low : u .0 < length (k .tasks)
-      low = omega (arith, S .tables .task-slots, there-low (k .tasks) u (S .tables .task-slots) (S .tables .holders u o h))
+      T : Sound (step k (SetPriority t p) item s .kernel)
+      T = sound-says (step k (SetPriority t p) item s .kernel) (step-kept k (SetPriority t p) item s (reached-sound ms))
+
+      owns : taskAt (step k (SetPriority t p) item s .kernel .tasks) u .own ≡ p
+      owns =
+          let j = newPriority k u p in
+          rw e
+          (ap (λ ts. taskAt ts u .own) (chosen-only (workedOut j) .tasks)
+          ∙ worked-own j u
+          ∙ ap (λ (x : Task). x .own) (at-same (k .tasks) u (owned (taskAt (k .tasks) u) p) (omega (arith, low, S .tables .task-slots))))

@@ -1,5 +1,6 @@
 pub mod Gate
 pub mod Caught
+pub mod LoansCaught
 pub mod AlikeFirsts
 pub mod AlikeTwins
 pub mod AlikeEffects
@@ -22,3 +23,5 @@ pub mod EachLine
 pub mod Typing
 pub mod Advances
 pub mod Wakings
+pub mod Lendings
+pub mod Quickly

@@ -20,8 +20,7 @@ use Rattle.rules.specs.Refusals.{newSlot}
 use Rattle.rows.proofs.InTurn.{allNumbered}
 use Rattle.rows.specs.Applies.{Row, firstRow, table}
 use Rattle.rules.specs.Refusals.{seen, laterRow, refusal}
-use Rattle.rules.specs.Effects.{effect}
-use Rattle.rules.specs.Steps.{Stepped, newNumber, answered, accepted, turnedAway, step}
+use Rattle.rules.specs.Steps.{Stepped, newNumber, answered, after, accepted, turnedAway, step}
 use Rattle.promises.specs.Types.{Asked, Call, State}
 use Rattle.promises.specs.TurnedAway.{wholeTable, First, thisRow, below, None, end, notThisRow, Refusal, Accepted, Exactly, Decided}
 
@@ -115,7 +114,7 @@ module _ (k : State) (c : Call) (item s : List ℕ) where
 
   accepted-so : Accepted k c item s (accepted k (asked (k .uses) c) item s)
   unfolding accepted
-  accepted-so = record { kernel = refl; answer = refl; store = refl; no-refusal = not-refused k (asked (k .uses) c) (chosen (effect k (asked (k .uses) c))) }
+  accepted-so = record { kernel = refl; answer = refl; store = refl; no-refusal = not-refused k (asked (k .uses) c) (chosen (after k (asked (k .uses) c))) }
 
   pub turned-away-exactly : Exactly k c item s (step k c item s)
   turned-away-exactly =

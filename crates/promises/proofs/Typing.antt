@@ -2,18 +2,20 @@
 use Prim.Native.Nat.{ℕ, _≤_}
 use mathlib.Core.Path.{_≡_, refl, ap, _∙_}
 use mathlib.Core.List.{List, [], flatten}
-use Rattle.lists.specs.Lists.{every, allBelow, foldl, upTo, index, any, kept}
+use Rattle.lists.specs.Lists.{every, allBelow, foldl, upTo, values, index, any, kept}
 use Rattle.calls.specs.Door.{freshUses, usesFine}
 use Rattle.calls.specs.Behind.{asked}
 use Rattle.order.specs.Order.{ordered, without}
 use Rattle.order.specs.Tidy.{count, tidy}
-use Rattle.rules.specs.Effects.{created, mutexMade, taken, handedOn, given, effect}
+use Rattle.chains.specs.Columns.{raised}
+use Rattle.chains.specs.Lent.{goesOn, levels}
+use Rattle.rules.specs.Effects.{created, mutexMade, taken, given, effect}
 use Rattle.rules.specs.Lines.{line, those, highest, leader, first, chosen, toTail, toHead, leaves}
-use Rattle.rules.specs.Loans.{moved, movedIf, prioritized, lent, ownAgain}
+use Rattle.rules.specs.Loans.{moved, movedIf, prioritized, ruled, relevelled, workedOut}
 use Rattle.rows.specs.Applies.{outOfRange, namesNone, wrongSize, notForIdle, notWithHold, noneFree, notHis, hisAlready, notSuspended, mustWait, noDepth, noTick, table}
 use Rattle.rules.specs.Refusals.{inUse, laterRow, refusal}
 use Rattle.rules.specs.Sound.{tablesFine, levelsFine, listingFine, clockFine, noHigher, runsFine, sound}
-use Rattle.rules.specs.Steps.{stored, answered, usesAfter, accepted, step}
+use Rattle.rules.specs.Steps.{stored, answered, usesAfter, after, accepted, step}
 use Rattle.rules.specs.Sessions.{readLine, stepOfLine}
 use Rattle.rules.specs.Trace.{trace}
 use Rattle.slots.specs.Values.{taskAt}
@@ -34,10 +36,10 @@ use Rattle.promises.proofs.LineForLine.{session-is-the-program}
 
 pub p1-as-bytes : answersTo typed ≡ written
 unfolding asBytes typed written linesOf readLine stepOfLine trace answering flatten digits dec among grow callOf shapeOf nums readOf reply every
-    allBelow foldl upTo index any kept asked ordered without count tidy created mutexMade taken handedOn given effect line those highest leader first
-    chosen toTail toHead leaves moved movedIf prioritized lent ownAgain outOfRange namesNone wrongSize notForIdle notWithHold noneFree inUse notHis
+    allBelow foldl upTo index any kept asked ordered without count tidy created mutexMade taken given effect line those highest leader first
+    chosen toTail toHead leaves moved movedIf prioritized ruled levels goesOn raised values relevelled workedOut outOfRange namesNone wrongSize notForIdle notWithHold noneFree inUse notHis
     hisAlready notSuspended mustWait noDepth noTick table laterRow refusal noHigher runsFine tablesFine levelsFine listingFine clockFine usesFine
-    sound stored answered usesAfter accepted step fresh freshUses taskAt kindAt holds freeSlot freeObject arrives waitFor
+    sound stored answered usesAfter after accepted step fresh freshUses taskAt kindAt holds freeSlot freeObject arrives waitFor
 p1-as-bytes = refl
 
 pub p1-in-any-blocks : (ts : List Turn) → cameIn ts ≡ typed → afterTurns atStart ts .waits ≡ [] → (n : ℕ) → 256 ≤ n → afterEnd (afterTurns atStart ts) n .answers ≡ written

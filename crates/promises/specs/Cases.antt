@@ -114,18 +114,25 @@ p8 = fromFresh
 unfoldable pub p9 : Case
 p9 = fromFresh (replicate 256 Hold) (replicate 255 (ok 0) ++ (refuses 15 0 ∷ []))
 
--- P10: "a mutex holder set lower keeps its effective priority until it gives"; task 1's effective priority is looked at
+-- P10: "the holder keeps only what its waiters lend"; task 1's effective priority is looked at. Set lower it keeps nothing while nobody waits, and just what task 2 lends
+-- while that waits; it has its own again once the wait has ended, and once it gives
 unfoldable pub p10 : Case
 p10 = record {
   start = fresh;
   look = λ d. level (d .kernel .tasks) (task 1) ∷ [];
-  calls = Create 5 ∷ MakeMutex ∷ Take (objectOf 0) 0 ∷ Create 4 ∷ SetPriority (taskOf 1) 2 ∷ Give (objectOf 0) ∷ [];
+  calls =
+      Create 5 ∷ MakeMutex ∷ Take (objectOf 0) 0 ∷ SetPriority (taskOf 1) 4 ∷ Create 7 ∷ Take (objectOf 0) 1 ∷ SetPriority (taskOf 1) 2 ∷ Tick
+      ∷ Take (objectOf 0) 10 ∷ Give (objectOf 0) ∷ [];
   expected =
       view made 1 1 (5 ∷ [])
       ∷ view made 0 1 (5 ∷ [])
       ∷ view done 0 1 (5 ∷ [])
-      ∷ view made 2 1 (5 ∷ [])
-      ∷ view done 0 1 (5 ∷ [])
+      ∷ view done 0 1 (4 ∷ [])
+      ∷ view made 2 2 (4 ∷ [])
+      ∷ view waiting 0 1 (7 ∷ [])
+      ∷ view done 0 1 (7 ∷ [])
+      ∷ view done 0 2 (2 ∷ [])
+      ∷ view waiting 0 1 (7 ∷ [])
       ∷ view done 0 2 (2 ∷ [])
       ∷ [];
 }

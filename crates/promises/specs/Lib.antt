@@ -1,6 +1,7 @@
 pub mod Types
 pub mod Cases
 pub mod Wrong
+pub mod WrongLoans
 pub mod Alike
 pub mod History
 pub mod Program
@@ -11,3 +12,4 @@ pub mod TurnedAway
 pub mod Depth
 pub mod Typed
 pub mod Advance
+pub mod Lending

@@ -12,8 +12,7 @@ use Rattle.rules.specs.Lines.{chosen}
 use Rattle.rules.specs.Sound.{sound}
 use Rattle.rows.specs.Applies.{Row, row, table}
 use Rattle.rules.specs.Refusals.{seen}
-use Rattle.rules.specs.Effects.{effect}
-use Rattle.rules.specs.Steps.{Stepped, answered, stored, usesAfter}
+use Rattle.rules.specs.Steps.{Stepped, answered, stored, usesAfter, after}
 use Rattle.promises.specs.Types.{Asked, Call, State}
 
 -- the table of refusals, whole: 1 "the kernel value is not sound" stands first. (3 is the line reader's.)
@@ -38,8 +37,8 @@ pub record Refusal (k : State) (s : List ℕ) (n : ℕ) (d : Stepped) : Type 0 w
 
 -- the step d is what the call tables say, and no refusal
 pub record Accepted (k : State) (c : Call) (item s : List ℕ) (d : Stepped) : Type 0 where
-  pub kernel : d .kernel ≡ withUses (chosen (effect k (asked (k .uses) c))) (usesAfter (k .uses) (asked (k .uses) c))
-  pub answer : d .answer ≡ answered k (asked (k .uses) c) (chosen (effect k (asked (k .uses) c)))
+  pub kernel : d .kernel ≡ withUses (chosen (after k (asked (k .uses) c))) (usesAfter (k .uses) (asked (k .uses) c))
+  pub answer : d .answer ≡ answered k (asked (k .uses) c) (chosen (after k (asked (k .uses) c)))
   pub store : d .store ≡ stored k (asked (k .uses) c) item s
   pub no-refusal : (n : ℕ) → d .answer ≡ says refused n → ⊥
 

@@ -30,24 +30,24 @@ use Rattle.rules.specs.Tables.{fresh, freeSlot, withTask, withTick, withHold, w
 use Rattle.rules.specs.Lines.{line, hasBegun, begun, level, leader, runsIf, chosen, toTail}
 use Rattle.rules.specs.Occupied.{linesOf}
 use Rattle.rules.specs.Waits.{later, arrives}
-use Rattle.rules.specs.Loans.{prioritized, newPriority}
+use Rattle.rules.specs.Loans.{prioritized, workedOut, newPriority}
 use Rattle.rules.specs.Ticks.{wakes, oneTick, turned, turnedIf, ticked, released}
 use Rattle.rules.specs.Parts.{slipOf}
 use Rattle.rows.specs.Asking.{is}
 use Rattle.rows.specs.Applies.{isEmpty}
 use Rattle.rules.specs.Refusals.{laterRow, refusal}
-use Rattle.rules.specs.Effects.{deleted, suspended, taken, handedOn, effect}
-use Rattle.rules.specs.Steps.{Stepped, answered, stored, usesAfter, turnedAway, step}
+use Rattle.rules.specs.Effects.{deleted, suspended, taken}
+use Rattle.rules.specs.Steps.{Stepped, answered, stored, usesAfter, after, turnedAway, step}
 use Rattle.rules.specs.Trace.{trace, atLast, lending}
 
 abbrev pub Stepping : Type 0
 Stepping = State → Call → List ℕ → List ℕ → Stepped
 
 -- the uses after an accepted call
-abbrev pub raised : State → Asked → Uses
-raised k a = usesAfter (k .uses) a
+abbrev pub usesThen : State → Asked → Uses
+usesThen k a = usesAfter (k .uses) a
 
--- the step with another door, refusal, effect, choose, store and uses afterwards; with the kernel's own it is the step
+-- the step with another door, refusal, effect with the effective priorities worked out, choose, store and uses afterwards; with the kernel's own it is the step
 unfoldable pub stepOf : (Uses → Call → Asked) → (State → Asked → ℕ → ℕ → ℕ) → (State → Asked → State) → (State → State) → (State → Asked → List ℕ → List ℕ → List ℕ) → (State → Asked → Uses) → Stepping
 stepOf door refuses does choose stores raises k c item s =
     let a = door (k .uses) c in
@@ -56,11 +56,11 @@ stepOf door refuses does choose stores raises k c item s =
     if eqb n 0 then record { kernel = withUses next (raises k a); answer = answered k a next; store = stores k a item s } else turnedAway k n s
 
 abbrev pub stepBy : (State → Asked → State) → (State → State) → Stepping
-stepBy does choose = stepOf asked refusal does choose stored raised
+stepBy does choose = stepOf asked refusal does choose stored usesThen
 
--- the effect with the row of call n changed
+-- the effect with the row of call n changed, and the effective priorities worked out
 abbrev pub changed : ℕ → (State → Asked → State) → State → Asked → State
-changed n does k a = if is n a then does k a else effect k a
+changed n does k a = if is n a then workedOut (does k a) else after k a
 
 -- "One that turns every call away", with whatever number each gets
 abbrev pub Numbers : Type 0
@@ -81,22 +81,22 @@ changesNothing k c item s = record { kernel = k; answer = step k c item s .answe
 abbrev pub asBegun : State → List TaskSlot
 asBegun k = begun (k .tasks) (listed (k .order))
 
--- a tick's count with other wakes; a tick, and a release, with these
+-- a tick's count with other wakes; a tick, and a release, with another count
 abbrev pub oneTickBy : (State → State) → State → State
-oneTickBy wake k = wake (withTick k (later (k .tick) 1))
+oneTickBy wake k = workedOut (wake (withTick k (later (k .tick) 1)))
 
 abbrev pub tickedBy : (State → State) → State → State
-tickedBy wake k = if ltb 0 (k .hold) then withHold k (k .hold) (k .pended + 1) else turned (oneTickBy wake k)
+tickedBy count k = if ltb 0 (k .hold) then withHold k (k .hold) (k .pended + 1) else turned (count k)
 
 abbrev pub releasedBy : (State → State) → State → State
-releasedBy wake k = if eqb (k .hold) 1 then upTo (λ x i. oneTickBy wake x) (k .pended) (withHold k 0 0) else withHold k (k .hold - 1) (k .pended)
+releasedBy count k = if eqb (k .hold) 1 then upTo (λ x i. count x) (k .pended) (withHold k 0 0) else withHold k (k .hold - 1) (k .pended)
 
 -- "One that makes the first due task ready and skips the rest"
 abbrev pub firstWoken : State → State
 firstWoken k = wakes k (head (kept (λ t. wakesAt (k .tick) (taskAt (k .tasks) t .place)) (asBegun k)))
 
 abbrev pub skipsTheRest : State → Asked → State
-skipsTheRest = changed 17 (λ k a. tickedBy firstWoken k)
+skipsTheRest = changed 17 (λ k a. tickedBy (oneTickBy firstWoken) k)
 
 -- "or runs one pended tick for all"
 abbrev pub oneForAll : State → Asked → State
@@ -106,12 +106,9 @@ oneForAll = changed 9 (λ k a. if eqb (k .hold) 1 && ltb 0 (k .pended) then oneT
 abbrev pub madeUp : ℕ → State → Asked → State
 madeUp n = changed 17 (λ k a. if ltb 0 (k .hold) then withHold k (k .hold) n else ticked k)
 
--- "On give, dropping the giver although it still holds another mutex."
-abbrev pub ownPriority : State → ℕ
-ownPriority k = taskAt (k .tasks) (k .running) .own
-
+-- "On give, dropping the giver although it still holds another mutex.": it gets its own priority, whatever a waiter of the other lends
 abbrev pub dropsGiver : State → Asked → State
-dropsGiver = changed 16 (λ k a. prioritized (handedOn k (a .object)) (k .running) (ownPriority k) (ownPriority k))
+dropsGiver k a = if is 16 a then prioritized (after k a) (k .running) (taskAt (k .tasks) (k .running) .own) else after k a
 
 -- "Treating a wake tick smaller than the count as past."
 abbrev pub isPast : ℕ → Place → Bool
@@ -123,7 +120,7 @@ wokenIfPast k t =
     if isPast (k .tick) p then arrives k t Ready (outcomeDue p) else k
 
 abbrev pub wakesThePast : State → Asked → State
-wakesThePast = changed 17 (λ k a. tickedBy (λ j. foldl wokenIfPast j (asBegun j)) k)
+wakesThePast = changed 17 (λ k a. tickedBy (oneTickBy (λ j. foldl wokenIfPast j (asBegun j))) k)
 
 -- "Putting an overtaken task at the tail, so it loses its turn."
 abbrev pub behind : State → TaskSlot → State
@@ -151,29 +148,29 @@ foundBy k a = if is 13 a && isEmpty (kindAt (k .objects) (a .object)) then still
 -- it gets the item in its slip and is made ready, outcome 1; with none all is done as it should be, but for a suspend
 abbrev pub wokenOr : State → Asked → List TaskSlot → State
 wokenOr k a [] = changed 3 (λ k a. staysIfWaiting k (a .task)) k a
-wokenOr k a (t ∷ l) = arrives k t Ready 1
+wokenOr k a (t ∷ l) = workedOut (arrives k t Ready 1)
 
 abbrev pub slipOr : State → Asked → List ℕ → List ℕ → List TaskSlot → List ℕ
 slipOr k a item s [] = stored k a item s
 slipOr k a item s (t ∷ l) = putAt (slipOf t) item s
 
 abbrev pub staysListed : Stepping
-staysListed = stepOf asked laterRow (λ k a. wokenOr k a (foundBy k a)) chosen (λ k a item s. slipOr k a item s (foundBy k a)) raised
+staysListed = stepOf asked laterRow (λ k a. wokenOr k a (foundBy k a)) chosen (λ k a item s. slipOr k a item s (foundBy k a)) usesThen
 
 -- "Deleting a holder and leaving the next task in that slot as holder."; a kernel whose holder is gone is not sound, so neither does this one ask that
 abbrev pub tenLifted : State → Asked → ℕ → ℕ → ℕ
 tenLifted k a item store = let n = laterRow k a item store in if is 2 a && eqb n 10 then 0 else n
 
 abbrev pub deletesHolders : Stepping
-deletesHolders = stepOf asked tenLifted effect chosen stored raised
+deletesHolders = stepOf asked tenLifted after chosen stored usesThen
 
 -- "where a slot's use .. goes up by one at each delete or remove": a step with other uses afterwards
 abbrev pub raisedBy : (State → Asked → Uses) → Stepping
-raisedBy raises = stepOf asked refusal effect chosen stored raises
+raisedBy raises = stepOf asked refusal after chosen stored raises
 
 -- not raised at a delete
 abbrev pub notAtDelete : State → Asked → Uses
-notAtDelete k a = if is 2 a then k .uses else raised k a
+notAtDelete k a = if is 2 a then k .uses else usesThen k a
 
 -- raised at create instead
 abbrev pub atCreate : State → Asked → Uses
@@ -204,11 +201,11 @@ objectNow us o = objNo us (object (o .0 % 16))
 
 -- an old number still opens its slot
 abbrev pub oldOpens : Stepping
-oldOpens = stepOf (doorBy taskNow objectNow) refusal effect chosen stored raised
+oldOpens = stepOf (doorBy taskNow objectNow) refusal after chosen stored usesThen
 
 -- the use is compared for tasks only
 abbrev pub tasksOnly : Stepping
-tasksOnly = stepOf (doorBy (λ us t. t) objectNow) refusal effect chosen stored raised
+tasksOnly = stepOf (doorBy (λ us t. t) objectNow) refusal after chosen stored usesThen
 
 -- "A slot given up at use 65,535 then has use 65,536 and is not used again": one that is free and not spent
 abbrev pub usedAgain : State → Asked → State
@@ -239,11 +236,11 @@ abbrev pub lowestLine : State → ℕ
 lowestLine k = trailingZeros 32 (linesOf k .word)
 
 -- "Among tasks due on one tick, make ready first whoever began its delay or wait earlier. This replaces document 01's order by task number, for a tick and for release.":
--- the effect with other lists along which a tick and a release wake
+-- other lists along which a tick and a release wake
 abbrev pub wakesAlongTwo : (State → List TaskSlot) → (State → List TaskSlot) → State → Asked → State
 wakesAlongTwo atTick atRelease k a =
-    if is 17 a then tickedBy (λ j. wakes j (atTick j)) k
-    else changed 9 (λ k a. releasedBy (λ j. wakes j (atRelease j)) k) k a
+    if is 17 a then workedOut (tickedBy (oneTickBy (λ j. wakes j (atTick j))) k)
+    else changed 9 (λ k a. releasedBy (oneTickBy (λ j. wakes j (atRelease j))) k) k a
 
 abbrev pub wakesAlong : (State → List TaskSlot) → State → Asked → State
 wakesAlong order = wakesAlongTwo order order
@@ -252,7 +249,7 @@ wakesAlong order = wakesAlongTwo order order
 abbrev pub byNumber : State → List TaskSlot
 byNumber k = values (λ n. task n) 16
 
--- by own priority, the highest first; by effective priority nothing would show, since each line has one
+-- by own priority, the highest first
 abbrev pub byPriority : State → List TaskSlot
 byPriority k = upTo (λ l p. kept (λ t. eqb (taskAt (k .tasks) t .own) p) (asBegun k) ++ l) 32 []
 
@@ -276,7 +273,7 @@ setAnew = changed 5 (λ k a. newPriority (beginsAnew k (a .task)) (a .task) (a .
 abbrev pub lentAnew : State → Asked → State
 lentAnew = changed 15 (λ k a. taken (beginsAnew k (holderOf (kindAt (k .objects) (a .object)))) (a .object) (a .wait))
 
--- "n ticks .. and the result must equal n single ticks one by one, turns of the line and wakes included": the effect with an advance of other parts: how many ticks,
+-- "n ticks .. and the result must equal n single ticks one by one, turns of the line and wakes included": an advance of other parts: how many ticks,
 -- the list along which each wakes, which may look at the count from which the advance began, what comes after each one's wakes, and what after the last
 abbrev pub advancesBy : (ℕ → ℕ) → (ℕ → State → List TaskSlot) → (State → State) → (State → State) → State → Asked → State
 advancesBy many along each last = changed 18 (λ k a. last (upTo (λ x i. each (oneTickBy (λ j. wakes j (along (k .tick) j)) x)) (many (a .ticks)) k))
@@ -427,7 +424,7 @@ easyMistakes =
       wrong = view done 0 1 (1 ∷ 0 ∷ []);
     }
     -- task 3 overtakes 1, ahead of 2 in its line, and leaves again
-    ∷ fails (stepBy effect losesTurn) (Create 3 ∷ Create 3 ∷ Create 5 ∷ Suspend (taskOf 3) ∷ []) saysNothing (view done 0 1 []) (view done 0 2 [])
+    ∷ fails (stepBy after losesTurn) (Create 3 ∷ Create 3 ∷ Create 5 ∷ Suspend (taskOf 3) ∷ []) saysNothing (view done 0 1 []) (view done 0 2 [])
     -- task 1's outcome, suspended as it is, and how many are listed
     ∷ fails staysListed
     (MakeQueue 1 1 ∷ Create 3 ∷ Receive (objectOf 0) 10 ∷ Suspend (taskOf 1) ∷ [])
@@ -472,24 +469,24 @@ numberMistakes =
 unfoldable pub lineMistakes : List Wrong
 lineMistakes =
     -- nobody stands in line 4, so idle goes on
-    fails (stepBy effect (chosenBy bitOff)) (Create 3 ∷ []) saysNothing (view made 1 1 []) (view made 1 0 [])
-    ∷ fails (stepBy effect (chosenBy from32)) (Create 3 ∷ []) saysNothing (view made 1 1 []) (view made 1 0 [])
+    fails (stepBy after (chosenBy bitOff)) (Create 3 ∷ []) saysNothing (view made 1 1 []) (view made 1 0 [])
+    ∷ fails (stepBy after (chosenBy from32)) (Create 3 ∷ []) saysNothing (view made 1 1 []) (view made 1 0 [])
     -- task 1 is delayed, and goes on
-    ∷ fails (stepBy effect (chosenBy countsBlocked)) (Create 3 ∷ Delay 5 ∷ []) saysNothing (view waiting 0 0 []) (view waiting 0 1 [])
+    ∷ fails (stepBy after (chosenBy countsBlocked)) (Create 3 ∷ Delay 5 ∷ []) saysNothing (view waiting 0 0 []) (view waiting 0 1 [])
     -- idle's line is the lowest
-    ∷ fails (stepBy effect (chosenBy lowestLine)) (Create 3 ∷ []) saysNothing (view made 1 1 []) (view made 1 0 [])
+    ∷ fails (stepBy after (chosenBy lowestLine)) (Create 3 ∷ []) saysNothing (view made 1 1 []) (view made 1 0 [])
     ∷ []
 
 unfoldable pub wakeMistakes : List Wrong
 wakeMistakes =
     -- task 2 began before task 1
     fails (stepBy (wakesAlong byNumber) chosen) (Create 3 ∷ Create 3 ∷ Yield ∷ Delay 1 ∷ Delay 1 ∷ Tick ∷ []) saysNothing (view done 0 2 []) (view done 0 1 [])
-    -- task 1, which began first, keeps effective priority 5 with own priority 2
+    -- task 1, which began first, has own priority 2, and 5 from task 2; task 3's own is 5
     ∷ fails (stepBy (wakesAlong byPriority) chosen)
-    (Create 5 ∷ MakeMutex ∷ Take (objectOf 0) 0 ∷ SetPriority (taskOf 1) 2 ∷ Delay 1 ∷ Create 5 ∷ Delay 1 ∷ Tick ∷ [])
+    (Create 2 ∷ MakeMutex ∷ Take (objectOf 0) 0 ∷ Create 5 ∷ Create 5 ∷ Take (objectOf 0) 9 ∷ Yield ∷ Delay 1 ∷ Delay 1 ∷ Tick ∷ [])
     saysNothing
     (view done 0 1 [])
-    (view done 0 2 [])
+    (view done 0 3 [])
     ∷ fails (stepBy (wakesAlong laterFirst) chosen) (Create 3 ∷ Delay 1 ∷ Create 3 ∷ Delay 1 ∷ Tick ∷ []) saysNothing (view done 0 1 []) (view done 0 2 [])
     -- the first again, with the tick pended
     ∷ fails (stepBy (wakesAlongTwo asBegun byNumber) chosen)

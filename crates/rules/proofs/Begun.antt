@@ -1,27 +1,27 @@
 -- The order of those who began a delay or a wait, and what each building block makes of it.
-use Prim.Native.Nat.{ℕ, _<_}
+use Prim.Native.Nat.{ℕ, zero, suc, _<_}
 use mathlib.Core.Path.{_≡_, refl, sym, ap, _∙_}
 use mathlib.Core.Bool.{Bool, true, false, _&&_, false≢true}
 use mathlib.Core.List.{List, [], _∷_, _++_, append-nil}
 use native.Mathlib.Omega.{arith}
 use lib.Dec.{eqb}
-use lib.ListN.{length, set, length-set}
+use lib.ListN.{length, set, length-set, getD}
 use borrow.Author.Tests.{eqb-true, eqb-false}
 use Rattle.lists.specs.Choice.{if_then_else_}
-use Rattle.lists.specs.Lists.{kept}
+use Rattle.lists.specs.Lists.{kept, upTo}
 use Rattle.lists.proofs.Bools.{untrue}
 use Rattle.lists.proofs.Tests.{kept-kept, kept-within, kept-all}
-use Rattle.numbers.specs.Numbers.{sameTask}
+use Rattle.numbers.specs.Numbers.{sameTask, task}
 use Rattle.order.specs.Order.{listed, ordered, without}
 use Rattle.order.proofs.Passing.{kept-not, one-number}
 use Rattle.order.proofs.Fits.{HasRoom, fits-listed, fits-tail, fits-head, fits-leaves}
 use Rattle.slots.specs.Places.{isReady, isBlocked}
-use Rattle.slots.specs.Values.{placed, ranked, taskAt}
+use Rattle.slots.specs.Values.{placed, taskAt, levelled}
 use Rattle.rules.specs.Types.{TaskSlot, Place, Task, State}
 use Rattle.rules.specs.Tables.{withTask}
 use Rattle.rules.specs.Lines.{hasBegun, begun, level, toTail, toHead}
 use Rattle.rules.specs.Waits.{arrives}
-use Rattle.rules.specs.Loans.{moved, movedIf, prioritized}
+use Rattle.rules.specs.Loans.{moved, movedIf, prioritized, workedOut, relevelled, ruled}
 use Rattle.rules.proofs.TableSlots.{is-ready}
 use Rattle.rules.proofs.LineMoves.{passing-tail, other-tail, other-head, other-leaves}
 use Rattle.rules.proofs.KeepSlot.{at-same, at-other}
@@ -100,6 +100,16 @@ module _ {ts us : List Task} {l m : List TaskSlot} where
           ∙ (λ i. kept (λ t. both t i) l)
           ∙ sym (kept-kept (hasBegun ts) (hasBegun vs) l)
 
+-- the caller may begin, and then nobody begins or ends
+pub then-fades : {r : TaskSlot} {ts us vs : List Task} {l m n : List TaskSlot} → Remembers r ts l us m → Fades us m vs n → ((t : TaskSlot) → hasBegun us t ≡ hasBegun vs t) → Remembers r ts l vs n
+unfolding begun
+then-fades {r} {ts} {us} {vs} {l} {m} a f e =
+    record {
+      roomy = f .roomy;
+      began = λ t h c. a .began t (f .fewer t h) c;
+      stand = f .stand ∙ kept-all (hasBegun us) (hasBegun vs) (λ t h. sym (e t) ∙ h) m ∙ a .stand ∙ (λ i. kept (λ t. e t i) (begun ts l) ++ (if e r i then r ∷ [] else []));
+    }
+
 -- ── the order unmoved: some may be done
 pub still : {ts us : List Task} {l : List TaskSlot} → Roomy us l → ((t : TaskSlot) → hasBegun us t ≡ true → hasBegun ts t ≡ true) → Fades ts l us l
 unfolding begun
@@ -150,13 +160,13 @@ arrives-fades k R t p n e h =
     let x = placed (taskAt (k .tasks) t) p n in
     onward (set-fades k R t x (λ b. absurd (false≢true (sym e ∙ b)))) (tail-fades (set-roomy k R t x) t (ap (λ (y : Task). isBlocked (y .place)) (set-at k R t x h) ∙ e) h)
 
--- other priorities, and the move to the new line
-pub prioritized-fades : (k : State) → RoomyIn k → (t : TaskSlot) (own eff : ℕ) → Fade k (prioritized k t own eff)
+-- another effective priority, and the move to the new line
+prioritized-fades : (k : State) → RoomyIn k → (t : TaskSlot) (eff : ℕ) → Fade k (prioritized k t eff)
 unfolding prioritized movedIf moved toTail toHead
-prioritized-fades k R t own eff = go (isReady (taskAt (k .tasks) t .place)) refl (eqb (level (k .tasks) t) eff) (sameTask t (k .running))
+prioritized-fades k R t eff = go (isReady (taskAt (k .tasks) t .place)) refl (eqb (level (k .tasks) t) eff) (sameTask t (k .running))
   where
     x : Task
-    x = ranked (taskAt (k .tasks) t) own eff
+    x = levelled (taskAt (k .tasks) t) eff
 
     changed : Fade k (withTask k t x)
     changed = set-fades k R t x (λ b. b)
@@ -173,6 +183,15 @@ prioritized-fades k R t own eff = go (isReady (taskAt (k .tasks) t .place)) refl
     go true e false true = onward changed (head-fades (set-roomy k R t x) t (not-begun e) (low e))
     go true e false false = onward changed (tail-fades (set-roomy k R t x) t (not-begun e) (low e))
     go false e b c = changed
+
+pub slots-fade : (ls : List ℕ) (k : State) → RoomyIn k → (n : ℕ) → Fade k (upTo (λ j m. prioritized j (task m) (getD ls m 0)) n k)
+unfolding upTo
+slots-fade ls k R zero = stays R
+slots-fade ls k R (suc n) = let f = slots-fade ls k R n in onward f (prioritized-fades _ (f .roomy) (task n) (getD ls n 0))
+
+pub worked-fades : (k : State) → RoomyIn k → Fade k (workedOut k)
+unfolding workedOut relevelled
+worked-fades k R = slots-fade (ruled (k .tasks) (k .objects)) k R 16
 
 -- ── a delay or a wait begins
 pub arrives-begins : (k : State) → RoomyIn k → (t : TaskSlot) (p : Place) (n : ℕ) → isBlocked p ≡ true → hasBegun (k .tasks) t ≡ false → t .0 < 16

@@ -1,6 +1,6 @@
 -- What each call makes of the order of those who began: those who are not done stand as they stood, and a caller that begins stands last.
 use Prim.Native.Nat.{ℕ, zero, suc, _+_, _-_, _<_}
-use mathlib.Core.Path.{_≡_, refl, sym, ap, subst, _∙_}
+use mathlib.Core.Path.{_≡_, refl, sym, ap, _∙_}
 use mathlib.Core.Bool.{Bool, true, false, false≢true}
 use mathlib.Core.List.{List, [], _∷_}
 use native.Mathlib.Omega.{arith}
@@ -17,29 +17,30 @@ use Rattle.slots.specs.Values.{freeTask, spentTask, readyAt, placed, brokenOff,
 use Rattle.slots.specs.Kinds.{kindAt}
 use Rattle.rules.specs.Types.{TaskSlot, ObjSlot, Place, Ready, Delayed, Waiting, Task, Ring, WaitersOf}
 use Rattle.rules.specs.Types.{Call, Create, Delete, Suspend, Resume, SetPriority, Delay, Yield, Hold, Release, MakeQueue, MakeMutex, Remove, Send, Receive, Take, Give, Tick, Advance, State}
-use Rattle.rules.specs.Tables.{freeSlot, holds, withTask, withHold}
+use Rattle.rules.specs.Tables.{freeSlot, withTask, withHold, withTick}
 use Rattle.rules.specs.Lines.{hasBegun, begun, level, first, chosen, toTail, leaves}
 use Rattle.rules.specs.Sound.{noHigher}
 use Rattle.rules.specs.Sentences.{Sound, Unheld}
 use Rattle.rules.specs.Waits.{later, wakeOf, arrives, waitFor}
-use Rattle.rules.specs.Loans.{newPriority, lent, ownAgain, prioritized}
-use Rattle.rules.specs.Ticks.{held, wokenIfDue, wakes, oneTick, turned, turnedIf, ticked, ticks, released, advanced}
+use Rattle.rules.specs.Loans.{newPriority}
+use Rattle.rules.specs.Ticks.{held, wokenIfDue, wakes, oneTick, turned, turnedIf, ticked, ticks, released, advanced, countedOn}
 use Rattle.rules.specs.Rings.{oneLess}
 use Rattle.rules.specs.Queues.{sentBy, sent, sentTo, refilledBy, received, receivedFrom}
-use Rattle.rules.specs.Effects.{effect, created, deleted, suspended, resumed, yielded, delayed, queueMade, mutexMade, removed, takenFrom, taken, handedTo, handedOn, given}
+use Rattle.rules.specs.Effects.{effect, created, deleted, suspended, resumed, yielded, delayed, queueMade, mutexMade, removed, takenFrom, taken, handedTo, given}
 use Rattle.rows.specs.Applies.{namesNone, noneFree}
 use Rattle.rules.proofs.TableSlots.{passes-there, passes-blocked, by-kind}
 use Rattle.rules.proofs.TableWithin.{first-within, first-single, by-outlet}
 use Rattle.rules.proofs.SoundLists.{listing-room}
 use Rattle.rules.proofs.RowPasses.{Passed, advance-free}
 use Rattle.rules.proofs.Keeps.{there-low, ready-low}
-use Rattle.rules.proofs.KeepBlocks.{prioritized-same}
 use Rattle.rules.proofs.KeepTasks.{has-slot}
 use Rattle.rules.proofs.TickJumps.{passed-over, chosen-only, chosen-order}
 use Rattle.rules.proofs.KeepTicks.{due-there, tick-after, sound-unheld, ticks-unheld}
 use Rattle.rules.proofs.KeepTaken.{each-task}
-use Rattle.rules.proofs.Begun.{Fades, Remembers, RoomyIn, Fade, Remember, onward, none-begins, then-begins, stays, tail-fades, leave-fades}
-use Rattle.rules.proofs.Begun.{set-roomy, set-fades, set-at, arrives-fades, prioritized-fades, arrives-begins}
+use Rattle.rules.proofs.Begun.{Fades, Remembers, RoomyIn, Fade, Remember, onward, none-begins, stays, tail-fades, leave-fades, worked-fades, then-fades}
+use Rattle.rules.proofs.Begun.{set-roomy, set-fades, set-at, arrives-fades, arrives-begins}
+use Rattle.rules.specs.Steps.{after}
+use Rattle.rules.proofs.LoanWorks.{worked-place}
 
 -- ── the wakes of a tick
 -- who is due has begun
@@ -86,14 +87,17 @@ module _ (k : State) (R : RoomyIn k) where
       go true e = arrives-fades k R t Ready _ refl (there-low (k .tasks) t (R .many) (due-there (k .tick) (taskAt (k .tasks) t .place) e))
       go false e = stays R
 
-wakes-fade : (l : List TaskSlot) (k : State) → RoomyIn k → Fade k (foldl wokenIfDue k l)
+pub wakes-fade : (l : List TaskSlot) (k : State) → RoomyIn k → Fade k (foldl wokenIfDue k l)
 unfolding foldl
 wakes-fade [] k R = stays R
 wakes-fade (t ∷ l) k R = let f = woken-fades k R t in onward f (wakes-fade l (wokenIfDue k t) (f .roomy))
 
 pub tick-fades : (k : State) → RoomyIn k → Fade k (oneTick k)
-unfolding oneTick wakes
-tick-fades k R = wakes-fade (begun (k .tasks) (listed (k .order))) _ R
+unfolding oneTick countedOn wakes
+tick-fades k R =
+    let j = withTick k (later (k .tick) 1) in
+    let f = wakes-fade (begun (k .tasks) (listed (k .order))) j R in
+    onward f (worked-fades (foldl wokenIfDue j (begun (k .tasks) (listed (k .order)))) (f .roomy))
 
 -- in the turn of the line the running task moves, and nobody else
 pub turned-fades : (k : State) → RoomyIn k → taskAt (k .tasks) (k .running) .place ≡ Ready → Fade k (turned k)
@@ -199,17 +203,9 @@ module _ (k : State) (S : Sound k) where
       onward (set-fades k roomy-in t (readyAt p) (λ b. absurd (false≢true b)))
       (tail-fades (set-roomy k roomy-in t (readyAt p)) t (ap (λ (y : Task). isBlocked (y .place)) (set-at k roomy-in t (readyAt p) low)) low)
 
-  own-again-fades : (j : State) → RoomyIn j → (t : TaskSlot) → Fade j (ownAgain j t)
-  unfolding ownAgain
-  own-again-fades j Q t = go (holds (j .objects) t)
-    where
-      go : (b : Bool) → Fade j (if b then j else prioritized j t (taskAt (j .tasks) t .own) (taskAt (j .tasks) t .own))
-      go true = stays Q
-      go false = prioritized-fades j Q t _ _
-
   given-fades : (o : ObjSlot) → Fade k (given k o)
-  unfolding given handedOn
-  given-fades o = let f = handed (first k (WaitersOf o)) refl in onward f (own-again-fades (handedOn k o) (f .roomy) (k .running))
+  unfolding given
+  given-fades o = handed (first k (WaitersOf o)) refl
     where
       handed : (l : List TaskSlot) → first k (WaitersOf o) ≡ l → Fade k (handedTo k o l)
       handed [] e = stays roomy-in
@@ -255,31 +251,11 @@ module _ (k : State) (S : Sound k) where
       by-kind (kindAt (k .objects) o) (λ x. Remember k (receivedFrom k o x w)) (quietly (stays roomy-in)) (quietly (stays roomy-in)) (λ q e. received-remembers o q w) (λ e. quietly (stays roomy-in))
       (λ h e. quietly (stays roomy-in))
 
-  -- the holder is lent to, and then the caller begins to wait
-  module _ (h : TaskSlot) where
-    lent-fades : Fade k (lent k h)
-    unfolding lent
-    lent-fades = prioritized-fades k roomy-in h _ _
-
-    lent-running : lent k h .running ≡ k .running
-    unfolding lent
-    lent-running = prioritized-same k h _ _ .running
-
-    lent-ready : hasBegun (lent k h .tasks) (lent k h .running) ≡ false
-    lent-ready = untrue _ (λ e. false≢true (sym caller-ready ∙ ap (hasBegun (k .tasks)) (sym lent-running) ∙ lent-fades .fewer (lent k h .running) e))
-
-    lent-waits : (o : ObjSlot) (w : ℕ) → Remember k (waitFor (lent k h) o w)
-    unfolding waitFor
-    lent-waits o w =
-        then-begins caller-ready lent-fades
-        (subst (λ r. Remembers r (lent k h .tasks) (listed (lent k h .order)) (waitFor (lent k h) o w .tasks) (listed (waitFor (lent k h) o w .order))) lent-running
-        (arrives-begins (lent k h) (lent-fades .roomy) (lent k h .running) (Waiting o (wakeOf (lent k h .tick) w)) 0 refl lent-ready (rw lent-running caller-low)))
-
   taken-remembers : (o : ObjSlot) (w : ℕ) → Remember k (taken k o w)
   unfolding taken
   taken-remembers o w =
       by-kind (kindAt (k .objects) o) (λ x. Remember k (takenFrom k o x w)) (quietly (stays roomy-in)) (quietly (stays roomy-in)) (λ q e. quietly (stays roomy-in)) (λ e. quietly (stays roomy-in))
-      (λ h e. lent-waits h o w)
+      (λ h e. wait-begins o w)
 
 -- ── every call
 pub effect-remembers : (k : State) → Sound k → (n : ℕ) (c : Call) → Passed k (asked (k .uses) c) n → Remember k (effect k (asked (k .uses) c))
@@ -290,7 +266,7 @@ effect-remembers k S n (Delete t) P =
 effect-remembers k S n (Suspend t) P = quietly k S (suspended-fades k S (taskSlot (k .uses) t))
 effect-remembers k S n (Resume t) P =
     let u = taskSlot (k .uses) t in quietly k S (arrives-fades k (roomy-in k S) u Ready _ refl (there-low (k .tasks) u (S .tables .task-slots) (P .named)))
-effect-remembers k S n (SetPriority t p) P = quietly k S (prioritized-fades k (roomy-in k S) (taskSlot (k .uses) t) p _)
+effect-remembers k S n (SetPriority t p) P = quietly k S (set-fades k (roomy-in k S) (taskSlot (k .uses) t) _ (λ b. b))
 effect-remembers k S n (Delay d) P = delayed-remembers k S d
 effect-remembers k S n Yield P = quietly k S (yielded-fades k S)
 effect-remembers k S n Hold P = quietly k S (stays (roomy-in k S))
@@ -304,3 +280,8 @@ effect-remembers k S n (Take o w) P = taken-remembers k S (objSlot (k .uses) o) 
 effect-remembers k S n (Give o) P = quietly k S (given-fades k S (objSlot (k .uses) o))
 effect-remembers k S n Tick P = quietly k S (ticked-fades k S)
 effect-remembers k S n (Advance d) P = quietly k S (advanced-fades d k (roomy-in k S) (sound-unheld k S (advance-free k (asked (k .uses) (Advance d)) refl (P .held))))
+
+-- the effective priorities worked out, too
+pub after-remembers : (k : State) → Sound k → (n : ℕ) (c : Call) → Passed k (asked (k .uses) c) n → Remember k (after k (asked (k .uses) c))
+unfolding after
+after-remembers k S n c P = let r = effect-remembers k S n c P in then-fades r (worked-fades (effect k (asked (k .uses) c)) (r .roomy)) (λ t. ap isBlocked (sym (worked-place (effect k (asked (k .uses) c)) t)))

@@ -1,10 +1,12 @@
--- But for a tick, a release and an advance, no call ends more than one delay or wait. So of two who are due on one tick and both ready after a call, whatever the call,
--- who began earlier stands ahead. (In an advance, so it is after the tick on which they are due; the ticks behind it may turn their line.)
-use Prim.Native.Nat.{ℕ, _+_, _-_}
+-- But for a tick, a release and an advance, no call ends more than one delay or wait. So of two of one effective priority who are due on one tick, and are both ready
+-- after a call, whatever the call, with the effective priority that they had, who began earlier stands ahead. (In an advance, so it is after the tick on which they are
+-- due; the ticks behind it may turn their line.)
+use Prim.Native.Nat.{ℕ, _+_, _-_, _<_}
 use mathlib.Core.Path.{_≡_, refl, sym, ap, _∙_}
 use mathlib.Core.Bool.{Bool, true, false, false≢true}
 use mathlib.Core.List.{List, [], _∷_}
-use mathlib.Core.Logic.{inl, inr}
+use mathlib.Core.Logic.{_⊎_, inl, inr}
+use native.Mathlib.Omega.{arith}
 use lib.Dec.{eqb, ltb}
 use lib.ListN.{set}
 use borrow.Author.Tests.{eqb-true, eqb-false}
@@ -15,28 +17,31 @@ use Rattle.calls.specs.Door.{taskSlot, objSlot}
 use Rattle.calls.specs.Behind.{asked}
 use Rattle.order.specs.Order.{listed}
 use Rattle.slots.specs.Places.{isBlocked, isListed, wakesAt}
-use Rattle.slots.specs.Values.{readyAt, placed, brokenOff, ranked, taskAt}
+use Rattle.slots.specs.Values.{readyAt, placed, brokenOff, taskAt}
 use Rattle.slots.specs.Kinds.{kindAt}
 use Rattle.rules.specs.Types.{TaskSlot, ObjSlot, Place, Ready, Delayed, Waiting, Task, Ring, WaitersOf}
 use Rattle.rules.specs.Types.{Call, Create, Delete, Suspend, Resume, SetPriority, Delay, Yield, Hold, Release, MakeQueue, MakeMutex, Remove, Send, Receive, Take, Give, Tick, Advance, State}
-use Rattle.rules.specs.Tables.{freeSlot, holds, withTask, withHold}
-use Rattle.rules.specs.Lines.{hasBegun, Ahead, first, toTail, leaves}
+use Rattle.rules.specs.Tables.{freeSlot, withTask, withHold}
+use Rattle.rules.specs.Lines.{hasBegun, Ahead, first, toTail, leaves, level}
 use Rattle.rules.specs.Waits.{later, wakeOf, arrives, waitFor}
-use Rattle.rules.specs.Loans.{prioritized, newPriority, lent, ownAgain}
+use Rattle.rules.specs.Loans.{newPriority, workedOut}
 use Rattle.rules.specs.Ticks.{held, oneTick, turned, ticked, ticks, released}
 use Rattle.rules.specs.Rings.{oneLess}
 use Rattle.rules.specs.Queues.{sentBy, sent, sentTo, refilledBy, received, receivedFrom}
-use Rattle.rules.specs.Effects.{effect, created, deleted, suspended, resumed, yielded, delayed, queueMade, mutexMade, removed, takenFrom, taken, handedTo, handedOn, given}
+use Rattle.rules.specs.Effects.{effect, created, deleted, suspended, resumed, yielded, delayed, queueMade, mutexMade, removed, takenFrom, taken, handedTo, given}
 use Rattle.rules.proofs.TableSlots.{by-kind}
 use Rattle.rules.proofs.TableWithin.{by-outlet}
 use Rattle.rules.proofs.Keeps.{apart}
 use Rattle.rules.proofs.KeepSlot.{at-other}
-use Rattle.rules.proofs.KeepBlocks.{prioritized-tasks}
-use Rattle.rules.proofs.KeepTaken.{each-task}
 use Rattle.rules.proofs.KeepTicks.{tick-after}
 use Rattle.rules.proofs.TickJumps.{turned-only}
 use Rattle.rules.proofs.BegunCalls.{due-blocked, tick-fades, still-ready}
-use Rattle.rules.proofs.BegunPairs.{BothDue, Together, tick-together, ticks-together, turned-pair}
+use Rattle.rules.proofs.BegunPairs.{BothDue, Together, tick-together, ticks-together, turned-pair, due-low, ReadyThen}
+use Rattle.rules.specs.Sentences.{Sound}
+use Rattle.rules.proofs.KeepChosen.{sound-reckoned}
+use Rattle.rules.proofs.LoanWorks.{worked-place, worked-still}
+use Rattle.rules.specs.Steps.{after}
+use Rattle.rules.proofs.LoanStill.{released-reckoned, ticked-reckoned}
 
 -- ── at most one ends
 pub record OneEnds (ts us : List Task) : Type 0 where
@@ -53,11 +58,6 @@ none-ends t f = record { who = t; others = λ u n e. f u e }
 -- the task t changes, and nobody else
 changes : (ts : List Task) (t : TaskSlot) (x : Task) → OneEnds ts (set ts (t .0) x)
 changes ts t x = record { who = t; others = λ u n e. ap (λ (y : Task). isBlocked (y .place)) (at-other ts t x u n) ∙ e }
-
-prioritized-ends : (k : State) (t : TaskSlot) (own eff : ℕ) → NoneEnds (k .tasks) (prioritized k t own eff .tasks)
-prioritized-ends k t own eff =
-    rw (prioritized-tasks k t own eff)
-    (each-task (k .tasks) t (ranked (taskAt (k .tasks) t) own eff) (λ u y. hasBegun (k .tasks) u ≡ true → isBlocked (y .place) ≡ true) (λ e. e) (λ u e. e))
 
 module _ (k : State) where
   abbrev ts : List Task
@@ -111,35 +111,26 @@ module _ (k : State) where
       by-kind (kindAt (k .objects) o) (λ x. OneEnds ts (receivedFrom k o x w .tasks)) nothing-ends nothing-ends (λ q e. received-ends o q w) (λ e. nothing-ends) (λ h e. nothing-ends)
 
   taken-ends : (o : ObjSlot) (w : ℕ) → OneEnds ts (taken k o w .tasks)
-  unfolding taken lent waitFor arrives toTail
+  unfolding taken
   taken-ends o w =
-      by-kind (kindAt (k .objects) o) (λ x. OneEnds ts (takenFrom k o x w .tasks)) nothing-ends nothing-ends (λ q e. nothing-ends) (λ e. nothing-ends)
-      (λ h e.
-      let a = prioritized-ends k h (taskAt ts h .own) _ in
-      let b = changes (lent k h .tasks) (lent k h .running) (placed (taskAt (lent k h .tasks) (lent k h .running)) (Waiting o (wakeOf (lent k h .tick) w)) 0) in
-      record { who = b .who; others = λ t n f. b .others t n (a t f) })
+      by-kind (kindAt (k .objects) o) (λ x. OneEnds ts (takenFrom k o x w .tasks)) nothing-ends nothing-ends (λ q e. nothing-ends) (λ e. nothing-ends) (λ h e. wait-ends o w)
 
   given-ends : (o : ObjSlot) → OneEnds ts (given k o .tasks)
-  unfolding given ownAgain handedOn
+  unfolding given
   given-ends o = go (first k (WaitersOf o))
     where
-      own : State → ℕ
-      own j = taskAt (j .tasks) (k .running) .own
+      go : (l : List TaskSlot) → OneEnds ts (handedTo k o l .tasks)
+      go [] = nothing-ends
+      go (t ∷ l) = arrives-ends t Ready 1
 
-      back : (j : State) → OneEnds ts (j .tasks) → (b : Bool) → OneEnds ts ((if b then j else prioritized j (k .running) (own j) (own j)) .tasks)
-      back j a true = a
-      back j a false = record { who = a .who; others = λ t n f. prioritized-ends j (k .running) _ _ t (a .others t n f) }
-
-      go : (l : List TaskSlot) → OneEnds ts (ownAgain (handedTo k o l) (k .running) .tasks)
-      go [] = back (handedTo k o []) nothing-ends (holds (handedTo k o [] .objects) (k .running))
-      go (t ∷ l) = back (handedTo k o (t ∷ l)) (arrives-ends t Ready 1) (holds (handedTo k o (t ∷ l) .objects) (k .running))
-
--- ── two who are due on one tick
-module _ (t u : TaskSlot) (differ : t .0 ≡ u .0 → ⊥) (k : State) (w : ℕ) (D : BothDue t u differ w k) where
-  -- both ready after it
+-- ── two who are due on one tick, both of the effective priority p
+module _ (t u : TaskSlot) (differ : t .0 ≡ u .0 → ⊥) (k : State) (S : Sound k) (w : ℕ) (D : BothDue t u differ w k) (p : ℕ) (level-t : level (k .tasks) t ≡ p) (level-u : level (k .tasks) u ≡ p) where
+  -- both ready after it, with the effective priority that they had
   pub record NowReady (j : State) : Type 0 where
     pub first : taskAt (j .tasks) t .place ≡ Ready
     pub second : taskAt (j .tasks) u .place ≡ Ready
+    pub first-level : level (j .tasks) t ≡ p
+    pub second-level : level (j .tasks) u ≡ p
 
   t-begun : hasBegun (k .tasks) t ≡ true
   t-begun = due-blocked w (taskAt (k .tasks) t .place) (D .first)
@@ -147,73 +138,96 @@ module _ (t u : TaskSlot) (differ : t .0 ≡ u .0 → ⊥) (k : State) (w : ℕ)
   u-begun : hasBegun (k .tasks) u ≡ true
   u-begun = due-blocked w (taskAt (k .tasks) u .place) (D .second)
 
-  not-ready : (p : Place) → wakesAt w p ≡ true → p ≡ Ready → ⊥
-  not-ready p e f = false≢true (ap (wakesAt w) (sym f) ∙ e)
+  not-ready : (q : Place) → wakesAt w q ≡ true → q ≡ Ready → ⊥
+  not-ready q e f = false≢true (ap (wakesAt w) (sym f) ∙ e)
 
   -- at most one ends: not both of them
-  never-both : (j : State) → OneEnds (k .tasks) (j .tasks) → NowReady j → ⊥
-  never-both j E W = go (eqb (t .0) (E .who .0)) refl
+  never-both : (j : State) → OneEnds (k .tasks) (j .tasks) → taskAt (j .tasks) t .place ≡ Ready → taskAt (j .tasks) u .place ≡ Ready → ⊥
+  never-both j E a b = go (eqb (t .0) (E .who .0)) refl
     where
-      go : (b : Bool) → eqb (t .0) (E .who .0) ≡ b → ⊥
-      go true e = false≢true (sym (ap isBlocked (W .second)) ∙ E .others u (λ q. differ (eqb-true (t .0) (E .who .0) e ∙ sym q)) u-begun)
-      go false e = false≢true (sym (ap isBlocked (W .first)) ∙ E .others t (eqb-false (t .0) (E .who .0) e) t-begun)
+      go : (c : Bool) → eqb (t .0) (E .who .0) ≡ c → ⊥
+      go true e = false≢true (sym (ap isBlocked b) ∙ E .others u (λ q. differ (eqb-true (t .0) (E .who .0) e ∙ sym q)) u-begun)
+      go false e = false≢true (sym (ap isBlocked a) ∙ E .others t (eqb-false (t .0) (E .who .0) e) t-begun)
+
+  start : Together t u differ p w k
+  start = record { roomy = D .roomy; reckoned = sound-reckoned k S; first-most = omega (arith, level-t); second-most = omega (arith, level-u); so = inl D }
+
+  low : (t .0 < 16) × (u .0 < 16)
+  low = due-low t u differ D
 
   -- after some ticks
-  ahead-then : (j : State) → Together t u differ w j → NowReady j → Ahead t u (listed (j .order))
-  ahead-then j (inl X) W = absurd (not-ready (taskAt (j .tasks) t .place) (X .first) (W .first))
-  ahead-then j (inr B) W = B .ahead
+  ahead-then : (j : State) → Together t u differ p w j → NowReady j → Ahead t u (listed (j .order))
+  ahead-then j T W = go (T .so)
+    where
+      go : BothDue t u differ w j ⊎ ReadyThen t u differ p j → Ahead t u (listed (j .order))
+      go (inl X) = absurd (not-ready (taskAt (j .tasks) t .place) (X .first) (W .first))
+      go (inr B) = B .ahead (W .first-level) (W .second-level)
 
   released-ahead : NowReady (released k) → Ahead t u (listed (released k .order))
   unfolding released
   released-ahead = go (eqb (k .hold) 1)
     where
-      start : Together t u differ w (withHold k 0 0)
-      start = inl record { roomy = D .roomy; first = D .first; second = D .second; ahead = D .ahead }
+      held-start : Together t u differ p w (withHold k 0 0)
+      held-start =
+          record {
+            roomy = D .roomy;
+            reckoned = start .reckoned;
+            first-most = start .first-most;
+            second-most = start .second-most;
+            so = inl record { roomy = D .roomy; first = D .first; second = D .second; ahead = D .ahead };
+          }
 
       go : (b : Bool) → let j = if b then ticks false (k .pended) (withHold k 0 0) else withHold k (k .hold - 1) (k .pended) in NowReady j → Ahead t u (listed (j .order))
-      go true W = ahead-then (ticks false (k .pended) (withHold k 0 0)) (ticks-together t u differ w (k .pended) (withHold k 0 0) start) W
+      go true W = ahead-then (ticks false (k .pended) (withHold k 0 0)) (ticks-together t u differ p w (k .pended) (withHold k 0 0) held-start (low .0) (low .1)) W
       go false W = absurd (not-ready (taskAt (k .tasks) t .place) (D .first) (W .first))
 
-  module _ (ready : taskAt (k .tasks) (k .running) .place ≡ Ready) where
-    -- after the turn of the line, in which the caller alone moves
-    pub turned-ahead : NowReady (turned (oneTick k)) → Ahead t u (listed (turned (oneTick k) .order))
-    turned-ahead W =
-        let same = turned-only j .tasks in
-        turned-pair t u differ j (tick-fades k (D .roomy) .roomy) (still-ready k ready) (other t t-begun) (other u u-begun)
-        (ahead-then j (tick-together t u differ w k (inl D)) record { first = rw (sym same) (W .first); second = rw (sym same) (W .second) })
-      where
-        j : State
-        j = oneTick k
+  -- after the turn of the line, in which the caller alone moves
+  pub turned-ahead : NowReady (turned (oneTick k)) → Ahead t u (listed (turned (oneTick k) .order))
+  turned-ahead W =
+      let same = turned-only j .tasks in
+      turned-pair t u differ j (tick-fades k (D .roomy) .roomy) (still-ready k ready) (other t t-begun) (other u u-begun)
+      (ahead-then j (tick-together t u differ p w k start (low .0) (low .1))
+      record { first = rw (sym same) (W .first); second = rw (sym same) (W .second); first-level = rw (sym same) (W .first-level); second-level = rw (sym same) (W .second-level) })
+    where
+      j : State
+      j = oneTick k
 
-        other : (v : TaskSlot) → hasBegun (k .tasks) v ≡ true → j .running .0 ≡ v .0 → ⊥
-        other v e q = apart (k .tasks) v (k .running) isBlocked e (ap isBlocked ready) (sym q ∙ ap (λ (x : TaskSlot). x .0) (tick-after k .running))
+      ready : taskAt (k .tasks) (k .running) .place ≡ Ready
+      ready = S .running .runs .ready
 
-    ticked-ahead : NowReady (ticked k) → Ahead t u (listed (ticked k .order))
-    unfolding ticked
-    ticked-ahead = go (ltb 0 (k .hold))
-      where
-        go : (b : Bool) → let i = if b then withHold k (k .hold) (k .pended + 1) else turned (oneTick k) in NowReady i → Ahead t u (listed (i .order))
-        go true W = absurd (not-ready (taskAt (k .tasks) t .place) (D .first) (W .first))
-        go false W = turned-ahead W
+      other : (v : TaskSlot) → hasBegun (k .tasks) v ≡ true → j .running .0 ≡ v .0 → ⊥
+      other v e q = apart (k .tasks) v (k .running) isBlocked e (ap isBlocked ready) (sym q ∙ ap (λ (x : TaskSlot). x .0) (tick-after k .running))
 
-    -- whatever the call
-    pub effect-ahead : (c : Call) → eqb (called c .number) 18 ≡ false → NowReady (effect k (asked (k .uses) c)) → Ahead t u (listed (effect k (asked (k .uses) c) .order))
-    unfolding effect asked created deleted resumed newPriority yielded held queueMade mutexMade removed toTail leaves
-    effect-ahead (Create p) e W = absurd (never-both _ (changes (k .tasks) (task (freeSlot (k .tasks))) (readyAt p)) W)
-    effect-ahead (Delete v) e W = absurd (never-both _ (changes (k .tasks) (taskSlot (k .uses) v) _) W)
-    effect-ahead (Suspend v) e W = absurd (never-both _ (suspended-ends k (taskSlot (k .uses) v)) W)
-    effect-ahead (Resume v) e W = absurd (never-both _ (arrives-ends k (taskSlot (k .uses) v) Ready _) W)
-    effect-ahead (SetPriority v p) e W = absurd (never-both _ (none-ends (k .running) (prioritized-ends k (taskSlot (k .uses) v) p _)) W)
-    effect-ahead (Delay n) e W = absurd (never-both _ (delayed-ends k n) W)
-    effect-ahead Yield e W = absurd (never-both _ (nothing-ends k) W)
-    effect-ahead Hold e W = absurd (never-both _ (nothing-ends k) W)
-    effect-ahead Release e W = released-ahead W
-    effect-ahead (MakeQueue c z) e W = absurd (never-both _ (nothing-ends k) W)
-    effect-ahead MakeMutex e W = absurd (never-both _ (nothing-ends k) W)
-    effect-ahead (Remove o) e W = absurd (never-both _ (nothing-ends k) W)
-    effect-ahead (Send o n) e W = absurd (never-both _ (send-ends k (objSlot (k .uses) o) n) W)
-    effect-ahead (Receive o n) e W = absurd (never-both _ (receive-ends k (objSlot (k .uses) o) n) W)
-    effect-ahead (Take o n) e W = absurd (never-both _ (taken-ends k (objSlot (k .uses) o) n) W)
-    effect-ahead (Give o) e W = absurd (never-both _ (given-ends k (objSlot (k .uses) o)) W)
-    effect-ahead Tick e W = ticked-ahead W
-    effect-ahead (Advance n) e W = absurd (false≢true (sym e))
+  ticked-ahead : NowReady (ticked k) → Ahead t u (listed (ticked k .order))
+  unfolding ticked
+  ticked-ahead = go (ltb 0 (k .hold))
+    where
+      go : (b : Bool) → let i = if b then withHold k (k .hold) (k .pended + 1) else turned (oneTick k) in NowReady i → Ahead t u (listed (i .order))
+      go true W = absurd (not-ready (taskAt (k .tasks) t .place) (D .first) (W .first))
+      go false W = turned-ahead W
+
+  -- working out the effective priorities makes nobody ready
+  not-both : (j : State) → OneEnds (k .tasks) (j .tasks) → NowReady (workedOut j) → ⊥
+  not-both j E W = never-both j E (sym (worked-place j t) ∙ W .first) (sym (worked-place j u) ∙ W .second)
+
+  -- whatever the call; a tick and a release end with them worked out
+  pub after-ahead : (c : Call) → eqb (called c .number) 18 ≡ false → NowReady (after k (asked (k .uses) c)) → Ahead t u (listed (after k (asked (k .uses) c) .order))
+  unfolding after effect asked created deleted resumed newPriority yielded held queueMade mutexMade removed toTail leaves
+  after-ahead (Create q) e W = absurd (not-both _ (changes (k .tasks) (task (freeSlot (k .tasks))) (readyAt q)) W)
+  after-ahead (Delete v) e W = absurd (not-both _ (changes (k .tasks) (taskSlot (k .uses) v) _) W)
+  after-ahead (Suspend v) e W = absurd (not-both _ (suspended-ends k (taskSlot (k .uses) v)) W)
+  after-ahead (Resume v) e W = absurd (not-both _ (arrives-ends k (taskSlot (k .uses) v) Ready _) W)
+  after-ahead (SetPriority v q) e W = absurd (not-both _ (changes (k .tasks) (taskSlot (k .uses) v) _) W)
+  after-ahead (Delay n) e W = absurd (not-both _ (delayed-ends k n) W)
+  after-ahead Yield e W = absurd (not-both _ (nothing-ends k) W)
+  after-ahead Hold e W = absurd (not-both _ (nothing-ends k) W)
+  after-ahead Release e W = let s = worked-still (released k) (released-reckoned k S) in rw s (released-ahead (rw s at W))
+  after-ahead (MakeQueue c z) e W = absurd (not-both _ (nothing-ends k) W)
+  after-ahead MakeMutex e W = absurd (not-both _ (nothing-ends k) W)
+  after-ahead (Remove o) e W = absurd (not-both _ (nothing-ends k) W)
+  after-ahead (Send o n) e W = absurd (not-both _ (send-ends k (objSlot (k .uses) o) n) W)
+  after-ahead (Receive o n) e W = absurd (not-both _ (receive-ends k (objSlot (k .uses) o) n) W)
+  after-ahead (Take o n) e W = absurd (not-both _ (taken-ends k (objSlot (k .uses) o) n) W)
+  after-ahead (Give o) e W = absurd (not-both _ (given-ends k (objSlot (k .uses) o)) W)
+  after-ahead Tick e W = let s = worked-still (ticked k) (ticked-reckoned k S) in rw s (ticked-ahead (rw s at W))
+  after-ahead (Advance n) e W = absurd (false≢true (sym e))

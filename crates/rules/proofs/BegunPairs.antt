@@ -1,6 +1,8 @@
--- Two who are due on one tick: who stands ahead in the order of those who began is made ready first, and then stands ahead in the one order.
-use Prim.Native.Nat.{ℕ, zero, suc, _+_, _<_, _≤_}
-use mathlib.Core.Path.{_≡_, refl, sym, ap, _∙_}
+-- Two who are due on one tick: who stands ahead in the order of those who began is made ready first, and goes first to the tail of the one order, with the effective
+-- priority that it had. So it stands ahead where both have the same one, and keep it when the effective priorities are worked out, after the wakes.
+use lib.ListN.{getD}
+use Prim.Native.Nat.{ℕ, zero, suc, _+_, _<_, _≤_, max}
+use mathlib.Core.Path.{_≡_, refl, sym, ap, _∙_, subst}
 use mathlib.Core.Bool.{Bool, true, false, _||_, false≢true}
 use mathlib.Core.List.{List, [], _∷_, _++_, append-nil}
 use mathlib.Core.Logic.{_⊎_, inl, inr}
@@ -11,28 +13,32 @@ use Rattle.lists.specs.Choice.{if_then_else_}
 use Rattle.lists.specs.Lists.{foldl, upTo, kept}
 use Rattle.lists.proofs.Bools.{or-right}
 use Rattle.lists.proofs.Tests.{kept-within}
-use Rattle.numbers.specs.Numbers.{sameTask}
+use Rattle.numbers.specs.Numbers.{sameTask, task}
 use Rattle.order.specs.Order.{listed, without}
 use Rattle.order.specs.Tidy.{count}
 use Rattle.order.proofs.Counts.{count-one}
 use Rattle.order.proofs.CountPassing.{count-kept}
-use Rattle.order.proofs.Passing.{kept-tail, kept-not, one-number}
-use Rattle.order.proofs.Fits.{fits-listed, fits-tail}
-use Rattle.slots.specs.Places.{isBlocked, wakesAt}
-use Rattle.slots.specs.Values.{inLine, taskAt}
+use Rattle.order.proofs.Passing.{kept-tail, kept-not, one-number, kept-front}
+use Rattle.order.proofs.Fits.{fits-listed, fits-tail, fits-head}
+use Rattle.slots.specs.Places.{isBlocked, wakesAt, isReady}
+use Rattle.slots.specs.Values.{inLine, taskAt, levelled}
 use Rattle.rules.specs.Types.{TaskSlot, Never, At, Place, Free, Ready, Delayed, Waiting, Suspended, Spent, Task, State}
-use Rattle.rules.specs.Tables.{withTick}
-use Rattle.rules.specs.Lines.{line, hasBegun, begun, isOneOf, Ahead, level, toTail}
+use Rattle.rules.specs.Tables.{withTick, withUses, withTask}
+use Rattle.rules.specs.Lines.{line, hasBegun, begun, isOneOf, Ahead, level, toTail, toHead}
 use Rattle.rules.specs.Sound.{noHigher}
 use Rattle.rules.specs.Sentences.{Unheld}
 use Rattle.rules.specs.Waits.{later, arrives}
-use Rattle.rules.specs.Ticks.{wokenIfDue, wakes, ReadyFirst, oneTick, turned, turnedIf, ticks}
+use Rattle.rules.specs.Ticks.{wokenIfDue, wakes, ReadyFirst, oneTick, turned, turnedIf, ticks, countedOn}
 use Rattle.rules.proofs.KeepSlot.{at-same, at-other}
 use Rattle.rules.proofs.Keeps.{there-low, ready-low, apart}
 use Rattle.rules.proofs.TickJumps.{passed-over, chosen-only, chosen-order, turn-only}
-use Rattle.rules.proofs.KeepTicks.{due-there, ticks-unheld}
-use Rattle.rules.proofs.Begun.{RoomyIn}
-use Rattle.rules.proofs.BegunCalls.{due-blocked, woken-fades, tick-fades, turned-fades, still-ready, advanced-fades}
+use Rattle.rules.proofs.KeepTicks.{due-there, ticks-unheld, tick-lowers, count-woke}
+use Rattle.rules.proofs.Begun.{RoomyIn, worked-fades, slots-fade}
+use Rattle.rules.proofs.BegunCalls.{due-blocked, woken-fades, tick-fades, turned-fades, still-ready, advanced-fades, wakes-fade}
+use Rattle.rules.specs.Loans.{prioritized, workedOut, movedIf, relevelled, ruled, moved, Reckoned}
+use Rattle.rules.proofs.LoanWorks.{worked-place, upToSlot, worked-reckoned, worked-at, slots-later}
+use Rattle.rules.proofs.KeepChosen.{sound-reckoned}
+use Rattle.calls.specs.Door.{freshUses}
 
 -- who is due at w is due at n exactly if n is w
 pub due-at : (w n : ℕ) (p : Place) → wakesAt w p ≡ true → wakesAt n p ≡ eqb w n
@@ -89,6 +95,61 @@ module _ (t u : TaskSlot) (differ : t .0 ≡ u .0 → ⊥) where
   second-to-tail : (l : List TaskSlot) → pair l ≡ u ∷ t ∷ [] → pair (without u l ++ (u ∷ [])) ≡ t ∷ u ∷ []
   unfolding without
   second-to-tail l e = pair-tail u l ∙ rw (e, eq-eqb (u .0) (u .0) refl, ne-eqb (t .0) (u .0) differ, ne-eqb (u .0) (t .0) (λ q. differ (sym q)))
+
+  other-to-head : (x : TaskSlot) → (x .0 ≡ t .0 → ⊥) → (x .0 ≡ u .0 → ⊥) → (l : List TaskSlot) → pair (x ∷ without x l) ≡ pair l
+  other-to-head x a b l = kept-front x (isOneOf t u) (isOneOf t u) (λ v n. refl) l ∙ rw (not-one x a b) (kept-not x (isOneOf t u) (not-one x a b) l)
+
+  -- ── the effective priorities worked out: who is not ready, or keeps its effective priority, does not move
+  abbrev Unmoved : State → TaskSlot → ℕ → Type 0
+  Unmoved k x eff = (isReady (taskAt (k .tasks) x .place) ≡ false) ⊎ (level (k .tasks) x ≡ eff)
+
+  levelled-pair : (k : State) → RoomyIn k → (x : TaskSlot) → x .0 < 16 → (eff : ℕ) → (x .0 ≡ t .0 → Unmoved k x eff) → (x .0 ≡ u .0 → Unmoved k x eff)
+      → pair (listed (prioritized k x eff .order)) ≡ pair (listed (k .order))
+  unfolding prioritized movedIf moved toHead toTail
+  levelled-pair k R x low eff f g = go (isReady (taskAt (k .tasks) x .place)) refl (eqb (level (k .tasks) x) eff) refl (sameTask x (k .running))
+    where
+      l : List TaskSlot
+      l = listed (k .order)
+
+      new : State
+      new = withTask k x (levelled (taskAt (k .tasks) x) eff)
+
+      -- a ready task whose effective priority changes is neither of the two
+      neither-one : isReady (taskAt (k .tasks) x .place) ≡ true → eqb (level (k .tasks) x) eff ≡ false → Unmoved k x eff → ⊥
+      neither-one r c (inl n) = false≢true (sym n ∙ r)
+      neither-one r c (inr n) = eqb-false (level (k .tasks) x) eff c n
+
+      go : (a : Bool) → isReady (taskAt (k .tasks) x .place) ≡ a → (b : Bool) → eqb (level (k .tasks) x) eff ≡ b → (c : Bool)
+          → pair (listed ((if a then (if b then new else (if c then toHead new x else toTail new x)) else new) .order)) ≡ pair l
+      go true r true e c = refl
+      go true r false e true =
+          rw (fits-listed (x ∷ without x l) (fits-head x l (R .room) low)) (other-to-head x (λ q. neither-one r e (f q)) (λ q. neither-one r e (g q)) l)
+      go true r false e false =
+          rw (fits-listed (without x l ++ (x ∷ [])) (fits-tail x l (R .room) low)) (other-to-tail x (λ q. neither-one r e (f q)) (λ q. neither-one r e (g q)) l)
+      go false r b e c = refl
+
+  module _ (k : State) (R : RoomyIn k) (ls : List ℕ) (f : Unmoved k t (getD ls (t .0) 0)) (g : Unmoved k u (getD ls (u .0) 0)) where
+    unmoved-then : (n : ℕ) (v : TaskSlot) → Unmoved k v (getD ls (v .0) 0) → n ≡ v .0 → Unmoved (upToSlot ls k n) (task n) (getD ls n 0)
+    unmoved-then n v h e = go (subst (λ w. Unmoved k w (getD ls (w .0) 0)) (one-number v (task n) (sym e)) h)
+      where
+        same : taskAt (upToSlot ls k n .tasks) (task n) ≡ taskAt (k .tasks) (task n)
+        same = slots-later ls k n (task n) (omega arith)
+
+        go : Unmoved k (task n) (getD ls n 0) → Unmoved (upToSlot ls k n) (task n) (getD ls n 0)
+        go (inl a) = inl (ap (λ (x : Task). isReady (x .place)) same ∙ a)
+        go (inr a) = inr (ap (λ (x : Task). x .effective) same ∙ a)
+
+    slots-pair : (n : ℕ) → n ≤ 16 → pair (listed (upToSlot ls k n .order)) ≡ pair (listed (k .order))
+    unfolding upTo
+    slots-pair zero h = refl
+    slots-pair (suc n) h =
+        levelled-pair (upToSlot ls k n) (slots-fade ls k R n .roomy) (task n) (omega arith) (getD ls n 0) (λ e. unmoved-then n t f e) (λ e. unmoved-then n u g e)
+        ∙ slots-pair n (omega arith)
+
+  pub worked-pair : (k : State) → RoomyIn k → Unmoved k t (getD (ruled (k .tasks) (k .objects)) (t .0) 0) → Unmoved k u (getD (ruled (k .tasks) (k .objects)) (u .0) 0)
+      → pair (listed (workedOut k .order)) ≡ pair (listed (k .order))
+  unfolding workedOut relevelled
+  worked-pair k R f g = slots-pair k R (ruled (k .tasks) (k .objects)) f g 16 (omega arith)
 
   -- ── neither is due: both stay as they are, and stand to each other as they stood
   record Spared (k j : State) : Type 0 where
@@ -280,29 +341,122 @@ module _ (t u : TaskSlot) (differ : t .0 ≡ u .0 → ⊥) where
   pub tick-first : (w : ℕ) (k : State) → BothDue w k → later (k .tick) 1 ≡ w → ReadyFirst t u (next k) (begun (k .tasks) (listed (k .order)))
   tick-first w k D e = tick-wakes w k D e .order
 
-  -- from tick to tick: both are due at w, or both are ready
-  abbrev pub Together : ℕ → State → Type 0
-  Together w k = BothDue w k ⊎ BothReady k
+  -- from tick to tick: both are due at w, or both are ready; then t stands ahead if both have the effective priority p still
+  pub record ReadyThen (p : ℕ) (k : State) : Type 0 where
+    pub first : taskAt (k .tasks) t .place ≡ Ready
+    pub second : taskAt (k .tasks) u .place ≡ Ready
+    pub ahead : level (k .tasks) t ≡ p → level (k .tasks) u ≡ p → Ahead t u (listed (k .order))
 
-  tick-spares : (k : State) → RoomyIn k → dueNow (next k) t ≡ false → dueNow (next k) u ≡ false → Spared (next k) (oneTick k)
-  unfolding oneTick wakes
-  tick-spares k R f g = all-spared (begun (k .tasks) (listed (k .order))) (next k) R f g
+  pub record Together (p w : ℕ) (k : State) : Type 0 where
+    pub roomy : RoomyIn k
+    pub reckoned : Reckoned (k .tasks) (k .objects)
+    -- neither has more than p
+    pub first-most : level (k .tasks) t ≤ p
+    pub second-most : level (k .tasks) u ≤ p
+    pub so : BothDue w k ⊎ ReadyThen p k
 
-  pub tick-together : (w : ℕ) (k : State) → Together w k → Together w (oneTick k)
-  unfolding oneTick wakes
-  tick-together w k (inr B) = inr (ready-spared (begun (k .tasks) (listed (k .order))) (next k) record { roomy = B .roomy; first = B .first; second = B .second; ahead = B .ahead })
-  tick-together w k (inl D) = go (eqb w (later (k .tick) 1)) refl
-    where
-      go : (b : Bool) → eqb w (later (k .tick) 1) ≡ b → Together w (oneTick k)
-      go true e = inr (tick-wakes w k D (sym (eqb-true w (later (k .tick) 1) e)) .both)
-      go false e =
-          let a = tick-spares k (D .roomy) (due-at w (later (k .tick) 1) (taskAt (k .tasks) t .place) (D .first) ∙ e) (due-at w (later (k .tick) 1) (taskAt (k .tasks) u .place) (D .second) ∙ e) in
-          inl record { roomy = a .roomy; first = rw (a .first) (D .first); second = rw (a .second) (D .second); ahead = a .order ∙ D .ahead }
+  -- after the wakes the effective priorities are worked out
+  module _ (p w : ℕ) (k : State) (T : Together p w k) (low-t : t .0 < 16) (low-u : u .0 < 16) where
+    abbrev j : State
+    j = countedOn k
 
-  pub ticks-together : (w n : ℕ) (k : State) → Together w k → Together w (ticks false n k)
+    next-roomy : RoomyIn j
+    unfolding countedOn wakes
+    next-roomy = wakes-fade (begun (k .tasks) (listed (k .order))) (next k) (T .roomy) .roomy
+
+    -- one that had at most p and has p has had it throughout
+    unmoved : (v : TaskSlot) → v .0 < 16 → level (k .tasks) v ≤ p → level (oneTick k .tasks) v ≡ p → Unmoved j v (getD (ruled (j .tasks) (j .objects)) (v .0) 0)
+    unfolding oneTick
+    unmoved v low most e =
+        let a : level (workedOut j .tasks) v ≡ getD (ruled (j .tasks) (j .objects)) (v .0) 0 = ap (λ (x : Task). x .effective) (worked-at j (next-roomy .many) v low) in
+        inr (omega (arith, count-woke k .level v, a, tick-lowers k (T .roomy .many) (T .reckoned) v low))
+
+    ready-then : BothReady j → ReadyThen p (oneTick k)
+    unfolding oneTick
+    ready-then B =
+        record {
+          first = worked-place j t ∙ B .first;
+          second = worked-place j u ∙ B .second;
+          ahead = λ a b. worked-pair j next-roomy (unmoved t low-t (T .first-most) a) (unmoved u low-u (T .second-most) b) ∙ B .ahead;
+        }
+
+    still-both : Spared (next k) j → BothDue w k → BothDue w (oneTick k)
+    unfolding oneTick
+    still-both a D =
+        record {
+          roomy = worked-fades j next-roomy .roomy;
+          first = ap (wakesAt w) (worked-place j t) ∙ rw (a .first) (D .first);
+          second = ap (wakesAt w) (worked-place j u) ∙ rw (a .second) (D .second);
+          ahead = worked-pair j next-roomy (inl (blocked-unready t (a .first) (D .first))) (inl (blocked-unready u (a .second) (D .second))) ∙ a .order ∙ D .ahead;
+        }
+      where
+        due-unready : (q : Place) → wakesAt w q ≡ true → isReady q ≡ false
+        due-unready Free e = refl
+        due-unready Ready e = absurd (false≢true e)
+        due-unready (Delayed v) e = refl
+        due-unready (Waiting o v) e = refl
+        due-unready Suspended e = refl
+        due-unready Spent e = refl
+
+        blocked-unready : (v : TaskSlot) → taskAt (j .tasks) v ≡ taskAt (k .tasks) v → wakesAt w (taskAt (k .tasks) v .place) ≡ true → isReady (taskAt (j .tasks) v .place) ≡ false
+        blocked-unready v e d = due-unready (taskAt (j .tasks) v .place) (ap (λ (x : Task). wakesAt w (x .place)) e ∙ d)
+
+    spared : dueNow (next k) t ≡ false → dueNow (next k) u ≡ false → Spared (next k) j
+    unfolding countedOn wakes
+    spared f g = all-spared (begun (k .tasks) (listed (k .order))) (next k) (T .roomy) f g
+
+    woken-both : BothDue w k → later (k .tick) 1 ≡ w → BothReady j
+    unfolding countedOn wakes
+    woken-both D e = tick-wakes w k D e .both
+
+    -- who was ready already
+    ready-again : ReadyThen p k → ReadyThen p (oneTick k)
+    unfolding oneTick
+    ready-again B =
+        let a = spared (ap (wakesAt (next k .tick)) (B .first)) (ap (wakesAt (next k .tick)) (B .second)) in
+        record {
+          first = worked-place j t ∙ ap (λ (x : Task). x .place) (a .first) ∙ B .first;
+          second = worked-place j u ∙ ap (λ (x : Task). x .place) (a .second) ∙ B .second;
+          ahead = λ x y.
+              worked-pair j next-roomy (unmoved t low-t (T .first-most) x) (unmoved u low-u (T .second-most) y) ∙ a .order
+              ∙ B .ahead (omega (arith, T .first-most, tick-lowers k (T .roomy .many) (T .reckoned) t low-t, x)) (omega (arith, T .second-most, tick-lowers k (T .roomy .many) (T .reckoned) u low-u, y));
+        }
+
+    due-or-ready : BothDue w k ⊎ ReadyThen p k → BothDue w (oneTick k) ⊎ ReadyThen p (oneTick k)
+    due-or-ready (inr B) = inr (ready-again B)
+    due-or-ready (inl D) = go (eqb w (later (k .tick) 1)) refl
+      where
+        go : (b : Bool) → eqb w (later (k .tick) 1) ≡ b → BothDue w (oneTick k) ⊎ ReadyThen p (oneTick k)
+        go true e = inr (ready-then (woken-both D (sym (eqb-true w (later (k .tick) 1) e))))
+        go false e =
+            inl (still-both (spared (due-at w (later (k .tick) 1) (taskAt (k .tasks) t .place) (D .first) ∙ e) (due-at w (later (k .tick) 1) (taskAt (k .tasks) u .place) (D .second) ∙ e)) D)
+
+    pub tick-together : Together p w (oneTick k)
+    unfolding oneTick
+    tick-together =
+        record {
+          roomy = worked-fades j next-roomy .roomy;
+          reckoned = worked-reckoned j (next-roomy .many);
+          first-most = omega (arith, T .first-most, tick-lowers k (T .roomy .many) (T .reckoned) t low-t);
+          second-most = omega (arith, T .second-most, tick-lowers k (T .roomy .many) (T .reckoned) u low-u);
+          so = due-or-ready (T .so);
+        }
+
+  pub ticks-together : (p w n : ℕ) (k : State) → Together p w k → t .0 < 16 → u .0 < 16 → Together p w (ticks false n k)
   unfolding ticks upTo
-  ticks-together w zero k T = T
-  ticks-together w (suc n) k T = tick-together w (ticks false n k) (ticks-together w n k T)
+  ticks-together p w zero k T a b = T
+  ticks-together p w (suc n) k T a b = tick-together p w (ticks false n k) (ticks-together p w n k T a b) a b
+
+  -- who is due has a slot
+  pub due-low : {w : ℕ} {k : State} → BothDue w k → (t .0 < 16) × (u .0 < 16)
+  due-low {w} {k} D = (
+    there-low (k .tasks) t (D .roomy .many) (due-there w (taskAt (k .tasks) t .place) (D .first)),
+    there-low (k .tasks) u (D .roomy .many) (due-there w (taskAt (k .tasks) u .place) (D .second)),
+  )
+
+  -- both with at most the larger of their two
+  pub begins-together : (w : ℕ) (k : State) → BothDue w k → Reckoned (k .tasks) (k .objects) → Together (max (level (k .tasks) t) (level (k .tasks) u)) w k
+  begins-together w k D R = record { roomy = D .roomy; reckoned = R; first-most = omega arith; second-most = omega arith; so = inl D }
 
   -- ── the turn of the line, in which neither of them moves
   module _ (k : State) (R : RoomyIn k) (ready : taskAt (k .tasks) (k .running) .place ≡ Ready) (a : k .running .0 ≡ t .0 → ⊥) (b : k .running .0 ≡ u .0 → ⊥) where
@@ -335,7 +489,7 @@ module _ (t u : TaskSlot) (differ : t .0 ≡ u .0 → ⊥) where
   pub ticks-due : (w n : ℕ) (k : State) → Unheld k → BothDue w k → hasBegun (ticks true n k .tasks) u ≡ true → BothDue w (ticks true n k)
   unfolding ticks upTo
   ticks-due w zero k U D b = D
-  ticks-due w (suc n) k U D b = go (λ f. tick-together w j (inl (ticks-due w n k U D f)))
+  ticks-due w (suc n) k U D b = go (λ f. let X = ticks-due w n k U D f in tick-together _ w j (begins-together w j X (sound-reckoned (withUses j freshUses) (ticks-unheld n k U .sound))) (due-low D .0) (due-low D .1) .so)
     where
       j : State
       j = ticks true n k
@@ -346,9 +500,9 @@ module _ (t u : TaskSlot) (differ : t .0 ≡ u .0 → ⊥) where
       before : hasBegun (j .tasks) u ≡ true
       before = tick-fades j (advanced-fades n k (D .roomy) U .roomy) .fewer u now
 
-      either-way : Together w (oneTick j) → BothDue w (turnedIf true (oneTick j))
+      either-way : {p : ℕ} → BothDue w (oneTick j) ⊎ ReadyThen p (oneTick j) → BothDue w (turnedIf true (oneTick j))
       either-way (inl X) = due-turned w (oneTick j) X (still-ready j (ticks-unheld n k U .sound .running .runs .ready))
       either-way (inr B) = absurd (false≢true (sym (ap isBlocked (B .second)) ∙ now))
 
-      go : (hasBegun (j .tasks) u ≡ true → Together w (oneTick j)) → BothDue w (turnedIf true (oneTick j))
+      go : {p : ℕ} → (hasBegun (j .tasks) u ≡ true → BothDue w (oneTick j) ⊎ ReadyThen p (oneTick j)) → BothDue w (turnedIf true (oneTick j))
       go f = either-way (f before)

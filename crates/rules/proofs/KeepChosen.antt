@@ -1,6 +1,6 @@
--- Choose comes last: it makes a nearly sound kernel sound.
+-- The effective priorities are worked out, and choose comes last: they make a nearly sound kernel sound.
 use Prim.Native.Nat.{ℕ, _<_}
-use mathlib.Core.Path.{_≡_, refl, sym, _∙_}
+use mathlib.Core.Path.{_≡_, refl, sym, _∙_, subst}
 use mathlib.Core.Bool.{Bool, true, false, _&&_, false≢true}
 use mathlib.Core.List.{List, [], _∷_}
 use native.Mathlib.Omega.{arith}
@@ -19,20 +19,24 @@ use Rattle.slots.specs.Values.{inLine, taskAt}
 use Rattle.rules.specs.Types.{TaskSlot, Uses, Task, AllReady, State}
 use Rattle.rules.specs.Tables.{withRunning, withUses}
 use Rattle.rules.specs.Lines.{line, those, level, highest, first, runsIf, chosen}
+use Rattle.rules.specs.Loans.{workedOut, Reckoned}
 use Rattle.rules.specs.Sentences.{Running, Used, Sound}
 use Rattle.rules.proofs.SoundLists.{once-of}
 use Rattle.rules.proofs.LineLeads.{leader-none, first-heads-highest}
 use Rattle.rules.proofs.TableWithin.{first-meant, first-single}
 use Rattle.rules.proofs.TableSlots.{is-ready}
 use Rattle.rules.proofs.SoundClock.{wake-says, says-wake}
-use Rattle.rules.proofs.KeepNearly.{Owing, settled, level-as, Nearly, RunsIn}
+use Rattle.rules.proofs.LoanRule.{levels-reckoned, reckoned-levels}
+use Rattle.rules.proofs.LoanWorks.{worked-same, worked-reckoned, worked-nearly, worked-runs}
+use Rattle.rules.proofs.KeepNearly.{Open, settled, Nearly, RunsIn}
 
 -- ── from nearly sound to sound, and back
-pub nearly-sound : (k : State) → Nearly (settled (k .tick)) k → Running (k .tasks) (listed (k .order)) (k .running) (k .hold) → {us : Uses} → Used us → Sound (withUses k us)
-nearly-sound k N R U =
+pub nearly-sound : (k : State) → Nearly (settled (k .tick)) k → Reckoned (k .tasks) (k .objects) → Running (k .tasks) (listed (k .order)) (k .running) (k .hold)
+    → {us : Uses} → Used us → Sound (withUses k us)
+nearly-sound k N L R U =
     record {
       tables = N .tables;
-      levels = λ t. level-as (N .levels t) (λ n. N .levels t .equal (refl, n));
+      levels = reckoned-levels (k .tasks) (k .objects) (N .tables .task-slots) L (N .range);
       listing = N .listing;
       clock = record { wakes = λ t. wake-says (k .tick) (taskAt (k .tasks) t .place) (N .due t); counts = N .counts };
       running = R;
@@ -47,7 +51,7 @@ pub sound-nearly : (k : State) → Sound k → Nearly (settled (k .tick)) k
 sound-nearly k S =
     record {
       tables = S .tables;
-      levels = λ t. level-as (S .levels t) (λ c. S .levels t .equal (c .1));
+      range = S .levels .range;
       listing = S .listing;
       due = λ t. says-wake (k .tick) (taskAt (k .tasks) t .place) (S .clock .wakes t);
       counts = S .clock .counts;
@@ -82,7 +86,7 @@ unfolding count
 none-counts q = omega arith
 
 -- idle is ready, so someone is
-pub some-ready : {w : Owing} (k : State) → Nearly w k → isNone (first k AllReady) ≡ false
+pub some-ready : {w : Open} (k : State) → Nearly w k → isNone (first k AllReady) ≡ false
 unfolding first those
 some-ready k N = leader-none (k .tasks) (those (k .tasks) AllReady (listed (k .order))) ∙ go (those (k .tasks) AllReady (listed (k .order))) once
   where
@@ -94,14 +98,17 @@ some-ready k N = leader-none (k .tasks) (those (k .tasks) AllReady (listed (k .o
     go [] e = absurd (none-counts e)
     go (t ∷ l) e = refl
 
-module _ (k : State) (N : Nearly (settled (k .tick)) k) {us : Uses} (U : Used us) where
+pub sound-reckoned : (k : State) → Sound k → Reckoned (k .tasks) (k .objects)
+sound-reckoned k S = levels-reckoned (k .tasks) (k .objects) (S .tables .task-slots) (S .levels)
+
+module _ (k : State) (N : Nearly (settled (k .tick)) k) (L : Reckoned (k .tasks) (k .objects)) {us : Uses} (U : Used us) where
   abbrev high : ℕ
   high = highest (k .tasks) (those (k .tasks) AllReady (listed (k .order)))
 
   runs-first : (t : TaskSlot) → first k AllReady ≡ t ∷ [] → Sound (withUses (withRunning k t) us)
   unfolding line
   runs-first t e =
-      nearly-sound (withRunning k t) (record { tables = N .tables; levels = N .levels; listing = N .listing; due = N .due; counts = N .counts })
+      nearly-sound (withRunning k t) (record { tables = N .tables; range = N .range; listing = N .listing; due = N .due; counts = N .counts }) L
       (record {
         runs = record { ready = is-ready _ (first-meant k AllReady t e); heads = rw top heads };
         no-higher = λ h p m. above-highest (k .tasks) p (listed (k .order)) (rw top at m);
@@ -126,4 +133,11 @@ module _ (k : State) (N : Nearly (settled (k .tick)) k) {us : Uses} (U : Used us
       go true e = choose (first k AllReady) refl (some-ready k N)
       go false e =
           let busy : 0 < k .hold = omega (arith, eqb-false (k .hold) 0 e) in
-          nearly-sound k N (record { runs = R busy; no-higher = λ h. absurd (omega arith) }) U
+          nearly-sound k N L (record { runs = R busy; no-higher = λ h. absurd (omega arith) }) U
+
+-- both after a call's effect
+pub worked-sound : (k : State) → Nearly (settled (k .tick)) k → {us : Uses} → Used us → (0 < k .hold → RunsIn k) → Sound (withUses (chosen (workedOut k)) us)
+worked-sound k N U R =
+    let S = worked-same k in
+    chosen-sound (workedOut k) (subst (λ (n : ℕ). Nearly (settled n) (workedOut k)) (sym (S .tick)) (worked-nearly k N)) (worked-reckoned k (N .tables .task-slots)) U
+    (λ h. worked-runs k N (R (rw (S .hold) at h)))

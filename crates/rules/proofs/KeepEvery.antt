@@ -4,11 +4,13 @@ use mathlib.Core.Path.{_≡_, refl}
 use mathlib.Core.Bool.{true}
 use mathlib.Core.List.{List}
 use lib.ListN.{length}
-use Rattle.lists.specs.Lists.{every, allBelow, kept, any}
+use Rattle.lists.specs.Lists.{every, allBelow, kept, any, upTo, values}
 use Rattle.calls.specs.Door.{usesFine, taskSlot, objSlot, freshUses}
 use Rattle.calls.specs.Behind.{asked}
 use Rattle.order.specs.Order.{ordered}
 use Rattle.order.specs.Tidy.{count, tidy}
+use Rattle.chains.specs.Lent.{goesOn, levels}
+use Rattle.chains.specs.Columns.{raised}
 use Rattle.rules.specs.Types.{Call, Create, Delete, Suspend, Resume, SetPriority, Delay, Yield, Hold, Release, MakeQueue, MakeMutex, Remove, Send, Receive, Take, Give, Tick, Advance, State}
 use Rattle.slots.specs.Values.{taskAt}
 use Rattle.slots.specs.Kinds.{kindAt}
@@ -26,12 +28,13 @@ use Rattle.rules.proofs.KeepObjects.{queue-keeps, mutex-keeps, remove-k
 use Rattle.rules.proofs.KeepQueues.{send-keeps, receive-keeps}
 use Rattle.rules.proofs.KeepMutexes.{take-keeps, give-keeps}
 use Rattle.rules.proofs.KeepUses.{used-after}
+use Rattle.rules.specs.Loans.{ruled}
 
 pub fresh-sound : sound fresh ≡ true
-unfolding sound fresh freshUses every allBelow kept any ordered count tidy taskAt kindAt holds line noHigher runsFine tablesFine levelsFine listingFine clockFine usesFine
+unfolding sound fresh ruled levels goesOn raised upTo values freshUses every allBelow kept any ordered count tidy taskAt kindAt holds line noHigher runsFine tablesFine levelsFine listingFine clockFine usesFine
 fresh-sound = refl
 
-effect-keeps : (k : State) → Sound k → (n : ℕ) (c : Call) → Passed k (asked (k .uses) c) n → Keeps (effect k (asked (k .uses) c))
+pub effect-keeps : (k : State) → Sound k → (n : ℕ) (c : Call) → Passed k (asked (k .uses) c) n → Keeps (effect k (asked (k .uses) c))
 unfolding asked
 effect-keeps k S n (Create p) = create-keeps k S n p
 effect-keeps k S n (Delete t) = delete-keeps k S n (taskSlot (k .uses) t)

@@ -1,4 +1,5 @@
--- Soundness on the way: the parts of Sound but who runs, with what is still open named. A call's effect takes nearly sound kernels to nearly sound ones; choose comes last.
+-- Soundness on the way: the parts of Sound but the effective priorities and who runs, with what is still open named. A call's effect takes nearly sound kernels to nearly
+-- sound ones; then the effective priorities are worked out, and choose comes last.
 use Prim.Native.Nat.{ℕ, _≤_}
 use mathlib.Core.Path.{_≡_, sym, ap, _∙_}
 use mathlib.Core.Bool.{Bool, true, false, false≢true}
@@ -16,40 +17,31 @@ use Rattle.slots.specs.Places.{isFree, isBlocked, isListed}
 use Rattle.slots.specs.Values.{taskAt}
 use Rattle.slots.specs.SoundSlots.{notDue}
 use Rattle.rules.specs.Types.{TaskSlot, Place, Task, Object, State}
-use Rattle.rules.specs.Lines.{level}
-use Rattle.rules.specs.Sentences.{HoldsNothing, TaskFits, LevelFits, Tables, Listing, Counts, Runs}
+use Rattle.rules.specs.Sentences.{TaskFits, Tables, Listing, Counts, Runs}
 use Rattle.rules.proofs.TableSlots.{past-tasks}
 use Rattle.rules.proofs.SoundLists.{listing-of}
 
--- what is open: which wake ticks may stand, and who may have a priority that it has to pay back
-pub record Owing : Type 0 where
-  pub due : TaskSlot → Place → Bool
-  pub owes : TaskSlot → Bool
+-- what is open: which wake ticks may stand
+abbrev pub Open : Type 0
+Open = TaskSlot → Place → Bool
 
 -- nothing is open at this tick count
-abbrev pub settled : ℕ → Owing
-settled tick = record { due = λ t p. notDue tick p; owes = λ t. false }
+abbrev pub settled : ℕ → Open
+settled tick = λ t p. notDue tick p
 
--- the task t holds nothing, and has no priority to pay back
-abbrev pub Clear : Owing → List Object → TaskSlot → Type 0
-Clear w os t = (w .owes t ≡ false) × HoldsNothing os t
-
--- the same priorities, where something else says that it holds nothing
-pub level-as : {a b : Type 0} {own effective : ℕ} → LevelFits a own effective → (b → own ≡ effective) → LevelFits b own effective
-level-as F e = record { at-least = F .at-least; equal = e; range = F .range }
-
-pub record Nearly (w : Owing) (k : State) : Type 0 where
+-- the effective priorities are worked out later: of the priorities, that the own ones are in their range
+pub record Nearly (w : Open) (k : State) : Type 0 where
   pub tables : Tables (k .tasks) (k .objects)
-  pub levels : (t : TaskSlot) → LevelFits (Clear w (k .objects) t) (taskAt (k .tasks) t .own) (level (k .tasks) t)
+  pub range : (t : TaskSlot) → taskAt (k .tasks) t .own ≤ 31
   pub listing : Listing (k .tasks) (k .order)
-  pub due : (t : TaskSlot) → w .due t (taskAt (k .tasks) t .place) ≡ true
+  pub due : (t : TaskSlot) → w t (taskAt (k .tasks) t .place) ≡ true
   pub counts : Counts (k .tick) (k .hold) (k .pended)
 
 -- what is asked of one task alone: t, whose slot holds x
-pub record TaskFine (w : Owing) (os : List Object) (t : TaskSlot) (x : Task) : Type 0 where
+pub record TaskFine (w : Open) (os : List Object) (t : TaskSlot) (x : Task) : Type 0 where
   pub fits : TaskFits os t x
-  pub levels : LevelFits (Clear w os t) (x .own) (x .effective)
-  pub due : w .due t (x .place) ≡ true
+  pub range : x .own ≤ 31
+  pub due : w t (x .place) ≡ true
 
 -- one that is neither free nor delayed nor waiting
 pub unblocked-fits : (os : List Object) (t : TaskSlot) (x : Task) → isBlocked (x .place) ≡ false → isFree (x .place) ≡ false → x .outcome ≤ 3 → TaskFits os t x

@@ -1,20 +1,19 @@
--- An object changed: a nearly sound kernel stays so, if its waiters may wait on the new kind, its holder exists, and who gives it up has its own priority.
+-- An object changed: a nearly sound kernel stays so, if its waiters may wait on the new kind and its holder exists.
 use Prim.Native.Nat.{_<_}
-use mathlib.Core.Path.{_≡_, refl, sym, ap, _∙_}
-use mathlib.Core.Bool.{Bool, true, false, false≢true}
+use mathlib.Core.Path.{_≡_, refl, ap, _∙_}
+use mathlib.Core.Bool.{Bool, true, false}
 use mathlib.Core.List.{List}
 use native.Mathlib.Omega.{arith}
 use lib.ListN.{length, set, length-set}
 use lib.Seq.{getD-set-same, getD-set-other}
-use borrow.Author.Tests.{eqb-true, eqb-false, eq-eqb}
+use borrow.Author.Tests.{eqb-true, eqb-false}
 use Rattle.numbers.specs.Numbers.{idle, sameObject}
-use Rattle.slots.specs.Kinds.{unused, heldBy, kindAt}
+use Rattle.slots.specs.Kinds.{unused, kindAt}
 use Rattle.rules.specs.Types.{TaskSlot, ObjSlot, Wake, Waiting, Ring, Kind, Queue, Mutex, By, Object, State}
 use Rattle.slots.specs.Values.{taskAt}
 use Rattle.rules.specs.Tables.{withObject}
-use Rattle.rules.specs.Sentences.{Holds, HoldsNothing, Exists, MayWait, RingFits, Tables}
-use Rattle.rules.proofs.TableHolds.{held-one}
-use Rattle.rules.proofs.KeepNearly.{Owing, Clear, level-as, Nearly}
+use Rattle.rules.specs.Sentences.{Exists, MayWait, RingFits, Tables}
+use Rattle.rules.proofs.KeepNearly.{Open, Nearly}
 
 module _ (os : List Object) (o : ObjSlot) (y : Kind) where
   abbrev pub kinds : List Object
@@ -31,11 +30,10 @@ module _ (os : List Object) (o : ObjSlot) (y : Kind) where
 one-object : (x y : ObjSlot) → x .0 ≡ y .0 → x ≡ y
 one-object x y e = λ i. record { 0 = e i }
 
-module _ {w : Owing} (k : State) (N : Nearly w k) (o : ObjSlot) (y : Kind) (low : o .0 < 16)
+module _ {w : Open} (k : State) (N : Nearly w k) (o : ObjSlot) (y : Kind) (low : o .0 < 16)
     (W : (t : TaskSlot) (v : Wake) → taskAt (k .tasks) t .place ≡ Waiting o v → MayWait t y)
     (Q : (q : Ring) → y ≡ Queue q → RingFits q)
-    (H : (t : TaskSlot) → y ≡ Mutex (By t) → Exists (k .tasks) t × (t .0 ≡ 0 → ⊥))
-    (G : (t : TaskSlot) → Holds (k .objects) t o → Clear w (kinds (k .objects) o y) t → taskAt (k .tasks) t .own ≡ taskAt (k .tasks) t .effective) where
+    (H : (t : TaskSlot) → y ≡ Mutex (By t) → Exists (k .tasks) t × (t .0 ≡ 0 → ⊥)) where
   abbrev qs : List Object
   qs = kinds (k .objects) o y
 
@@ -46,24 +44,6 @@ module _ {w : Owing} (k : State) (N : Nearly w k) (o : ObjSlot) (y : Kind) (low 
       go : (b : Bool) → sameObject p o ≡ b → P p (kindAt qs p)
       go true e = rw (one-object p o (eqb-true (p .0) (o .0) e), kind-same (k .objects) o y (omega (arith, N .tables .object-slots))) h
       go false e = rw (kind-other (k .objects) o y p (eqb-false (p .0) (o .0) e)) (f p (eqb-false (p .0) (o .0) e))
-
-  -- who held it has its own priority; of everyone else nothing changed
-  equal-now : (t : TaskSlot) → Clear w qs t → taskAt (k .tasks) t .own ≡ taskAt (k .tasks) t .effective
-  equal-now t c = go (heldBy t (kindAt (k .objects) o)) refl
-    where
-      held-as : (p : ObjSlot) → Holds (k .objects) t p → heldBy t (kindAt (k .objects) p) ≡ true
-      held-as p h = rw h (eq-eqb (t .0) (t .0) refl)
-
-      none : heldBy t (kindAt (k .objects) o) ≡ false → HoldsNothing (k .objects) t
-      none f p h = cases (sameObject p o) refl
-        where
-          cases : (b : Bool) → sameObject p o ≡ b → ⊥
-          cases true q = false≢true (sym f ∙ (rw (one-object p o (eqb-true (p .0) (o .0) q)) at (held-as p h)))
-          cases false q = c .1 p (kind-other (k .objects) o y p (eqb-false (p .0) (o .0) q) ∙ h)
-
-      go : (b : Bool) → heldBy t (kindAt (k .objects) o) ≡ b → taskAt (k .tasks) t .own ≡ taskAt (k .tasks) t .effective
-      go true f = G t (held-one t (kindAt (k .objects) o) f) c
-      go false f = N .levels t .equal (c .0, none f)
 
   tables-now : Tables (k .tasks) qs
   tables-now =
@@ -88,7 +68,7 @@ module _ {w : Owing} (k : State) (N : Nearly w k) (o : ObjSlot) (y : Kind) (low 
   object-nearly =
       record {
         tables = tables-now;
-        levels = λ t. level-as (N .levels t) (equal-now t);
+        range = N .range;
         listing = N .listing;
         due = N .due;
         counts = N .counts;

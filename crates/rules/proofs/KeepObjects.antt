@@ -28,7 +28,7 @@ use Rattle.rules.specs.Effects.{queueMade, mutexMade, removed, effect}
 use Rattle.rules.proofs.TableSlots.{past-objects}
 use Rattle.rules.proofs.LineLeads.{leader-none}
 use Rattle.rules.proofs.RowPasses.{Passed}
-use Rattle.rules.proofs.KeepNearly.{Owing, settled, Nearly, RunsIn}
+use Rattle.rules.proofs.KeepNearly.{Open, settled, Nearly, RunsIn}
 use Rattle.rules.proofs.KeepObject.{object-nearly}
 use Rattle.rules.proofs.KeepChosen.{sound-nearly}
 use Rattle.rules.proofs.Keeps.{Keeps, index-most, index-passes}
@@ -67,19 +67,19 @@ unfolding count
 none-there [] n e c = omega arith
 none-there (t ∷ l) n e c = false≢true e
 
-pub nobody-waits : {w : Owing} (k : State) → Nearly w k → (o : ObjSlot) → isNone (those (k .tasks) (WaitersOf o) (listed (k .order))) ≡ true
+pub nobody-waits : {w : Open} (k : State) → Nearly w k → (o : ObjSlot) → isNone (those (k .tasks) (WaitersOf o) (listed (k .order))) ≡ true
     → (t : TaskSlot) (v : Wake) → taskAt (k .tasks) t .place ≡ Waiting o v → ⊥
 nobody-waits k N o e t v q = none-there (those (k .tasks) (WaitersOf o) (listed (k .order))) (t .0) e (N .listing .lists o t ∙ rw (q, eq-eqb (o .0) (o .0) refl))
 
-pub first-none : {w : Owing} (k : State) → Nearly w k → (o : ObjSlot) → first k (WaitersOf o) ≡ [] → (t : TaskSlot) (v : Wake) → taskAt (k .tasks) t .place ≡ Waiting o v → ⊥
+pub first-none : {w : Open} (k : State) → Nearly w k → (o : ObjSlot) → first k (WaitersOf o) ≡ [] → (t : TaskSlot) (v : Wake) → taskAt (k .tasks) t .place ≡ Waiting o v → ⊥
 unfolding first
 first-none k N o e t v q = nobody-waits k N o (sym (leader-none (k .tasks) (those (k .tasks) (WaitersOf o) (listed (k .order)))) ∙ ap isNone e) t v q
 
 -- ── the caller waits: its wake tick is ahead
-pub wake-ahead : (tick w : ℕ) (o : ObjSlot) → tick ≤ 4294967295 → 0 < w → settled tick .due idle (Waiting o (wakeOf tick w)) ≡ true
+pub wake-ahead : (tick w : ℕ) (o : ObjSlot) → tick ≤ 4294967295 → 0 < w → settled tick idle (Waiting o (wakeOf tick w)) ≡ true
 wake-ahead tick w o h s = go (leb 4294967295 w) refl
   where
-    go : (b : Bool) → leb 4294967295 w ≡ b → settled tick .due idle (Waiting o (if b then Never else At (later tick w))) ≡ true
+    go : (b : Bool) → leb 4294967295 w ≡ b → settled tick idle (Waiting o (if b then Never else At (later tick w))) ≡ true
     go true e = refl
     go false e = later-ahead tick w h s (omega (arith, leb-false 4294967295 w e))
 
@@ -94,15 +94,15 @@ module _ (k : State) (S : Sound k) (store : ℕ) where
   new-object : (o : ObjSlot) (y : Kind) → o .0 < 16 → kindAt (k .objects) o ≡ Unused → ((q : Ring) → y ≡ Queue q → RingFits q) → ((t : TaskSlot) → y ≡ Mutex (By t) → ⊥) → Keeps (withObject k o y)
   new-object o y low e Q H =
       record {
-        nearly = object-nearly k N o y low (λ t v p. absurd (no-wait (S .tables .tasks t .waits o v p) e)) Q (λ t q. absurd (H t q)) (λ t h c. absurd (let z : _≡_ {A = ℕ} 0 1 = cc in omega arith));
+        nearly = object-nearly k N o y low (λ t v p. absurd (no-wait (S .tables .tasks t .waits o v p) e)) Q (λ t q. absurd (H t q));
         runs = λ h. R;
       }
 
-  free-low : eqb (freeObject (k .objects)) 16 ≡ false → freeObject (k .objects) < 16
+  pub free-low : eqb (freeObject (k .objects)) 16 ≡ false → freeObject (k .objects) < 16
   unfolding freeObject
   free-low e = omega (arith, index-most (λ (x : Object). takesObject (x .kind)) unused (k .objects), eqb-false (freeObject (k .objects)) 16 e, S .tables .object-slots)
 
-  free-kind : freeObject (k .objects) < 16 → kindAt (k .objects) (object (freeObject (k .objects))) ≡ Unused
+  pub free-kind : freeObject (k .objects) < 16 → kindAt (k .objects) (object (freeObject (k .objects))) ≡ Unused
   unfolding freeObject kindAt
   free-kind h = is-unused _ (index-passes (λ (x : Object). takesObject (x .kind)) unused (k .objects) (omega (arith, S .tables .object-slots)))
 
@@ -171,7 +171,7 @@ module _ (k : State) (S : Sound k) (store : ℕ) where
               nearly =
                   object-nearly k N o y (object-low (k .objects) o (S .tables .object-slots) named) (λ t v p. absurd (nobody-waits k N o unwaited t v p))
                   (λ q e. absurd (false≢true (sym (ap isUnused e) ∙ u)))
-                  (λ t e. absurd (false≢true (sym (ap isUnused e) ∙ u))) (λ t h c. absurd (false≢true (sym unheld ∙ ap isHeld h)));
+                  (λ t e. absurd (false≢true (sym (ap isUnused e) ∙ u)));
               runs = λ h. R;
             }
 

@@ -10,7 +10,7 @@ use Rattle.lists.specs.Choice.{if_then_else_}
 use Rattle.lists.proofs.Bools.{on, not-off}
 use Rattle.calls.specs.Behind.{onObject}
 use Rattle.slots.specs.Places.{waitsOn}
-use Rattle.slots.specs.Kinds.{isUnused, isQueue, isMutex, kindAt}
+use Rattle.slots.specs.Kinds.{isUnused, isQueue, kindAt}
 use Rattle.rules.specs.Types.{TaskSlot, ObjSlot, Wake, Place, Free, Ready, Delayed, Waiting, Suspended, Spent, Ring, Kind, Queue, WaitersOf, toWaiter, toQueue, toCaller, State, AQueue}
 use Rattle.slots.specs.Values.{taskAt}
 use Rattle.rules.specs.Tables.{withObject}
@@ -29,7 +29,7 @@ use Rattle.rules.proofs.KeepObject.{object-nearly}
 use Rattle.rules.proofs.KeepChosen.{sound-nearly}
 use Rattle.rules.proofs.KeepBlocks.{to-ready, to-wait, arrives-nearly, arrives-runs}
 use Rattle.rules.proofs.Keeps.{Keeps, wait-busy, wait-free, must-wait, some-wait, ready-low, apart}
-use Rattle.rules.proofs.KeepObjects.{not-by, object-low, first-none, wake-ahead}
+use Rattle.rules.proofs.KeepObjects.{object-low, first-none, wake-ahead}
 
 -- who waits on a queue finds it empty or full
 empty-or-full : {t : TaskSlot} {x : Kind} → MayWait t x → (q : Ring) → x ≡ Queue q → (0 < q .count) → q .count ≡ q .capacity
@@ -65,7 +65,6 @@ module _ (k : State) (S : Sound k) (o : ObjSlot) (q : Ring) (kind : kindAt (k .o
   ring-keeps : (r : Ring) → RingFits r → ((t : TaskSlot) (v : Wake) → taskAt (k .tasks) t .place ≡ Waiting o v → MayWait t (Queue r)) → Nearly (settled (k .tick)) (withObject k o (Queue r))
   ring-keeps r f W =
       object-nearly k N o (Queue r) low W (λ p e. let z : r ≡ p = cc in subst RingFits z f) (λ t e. absurd (let z : _≡_ {A = ℕ} 0 1 = cc in omega arith))
-      (λ t h c. absurd (not-by (ap isMutex kind) h))
 
   -- the caller waits
   caller-waits : (w : ℕ) → 0 < w → (k .running .0 ≡ 0 → ⊥) → (0 < k .hold → ⊥) → MayWait (k .running) (Queue q) → Keeps (waitFor k o w)

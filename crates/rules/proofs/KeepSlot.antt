@@ -1,13 +1,13 @@
 -- A task's slot changed, and its place in the order with it: a nearly sound kernel stays so, if what is asked of the task holds of its new value.
-use Prim.Native.Nat.{ℕ, _<_}
+use Prim.Native.Nat.{ℕ, _<_, _≤_}
 use mathlib.Core.Path.{_≡_, refl, sym, ap, _∙_}
 use mathlib.Core.Bool.{Bool, true, false}
 use mathlib.Core.List.{List, [], _∷_, _++_}
 use native.Mathlib.Omega.{arith}
-use lib.Dec.{eqb}
+use lib.Dec.{eqb, ltb}
 use lib.ListN.{length, set, length-set}
-use lib.Seq.{getD-set-same, getD-set-other, set-getD}
-use borrow.Author.Tests.{eqb-true, eqb-false}
+use lib.Seq.{getD-set-same, getD-set-other, set-getD, set-out}
+use borrow.Author.Tests.{eqb-true, eqb-false, ltb-true, ltb-false}
 use Rattle.lists.specs.Choice.{if_then_else_}
 use Rattle.numbers.specs.Numbers.{task, idle, sameTask}
 use Rattle.order.specs.Order.{listed, ordered, without}
@@ -19,9 +19,9 @@ use Rattle.slots.specs.Values.{freeTask, taskAt}
 use Rattle.rules.specs.Types.{TaskSlot, ObjSlot, Order, Task, State}
 use Rattle.rules.specs.Tables.{withTask, withOrder}
 use Rattle.rules.specs.Lines.{toTail, toHead, leaves}
-use Rattle.rules.specs.Sentences.{Holds, AsIdle, TaskFits, LevelFits, Tables, Listing}
+use Rattle.rules.specs.Sentences.{Holds, AsIdle, TaskFits, Tables, Listing}
 use Rattle.rules.proofs.SoundLists.{listing-of, once-of}
-use Rattle.rules.proofs.KeepNearly.{Owing, Clear, TaskFine, Nearly, ones, relisted}
+use Rattle.rules.proofs.KeepNearly.{Open, TaskFine, Nearly, ones, relisted}
 
 -- what a slot holds after one is set
 module _ (ts : List Task) (t : TaskSlot) (x : Task) where
@@ -33,12 +33,21 @@ module _ (ts : List Task) (t : TaskSlot) (x : Task) where
   unfolding taskAt
   at-other u n = getD-set-other ts (t .0) (u .0) x freeTask n
 
+-- what is asked alike of the new task and of the one that it replaces is asked alike of every task
+pub like-before : (ts : List Task) (t : TaskSlot) (x : Task) {A : Type 0} (f : Task → A) → f x ≡ f (taskAt ts t) → (u : TaskSlot) → f (taskAt (set ts (t .0) x) u) ≡ f (taskAt ts u)
+like-before ts t x f e u = go (sameTask u t) refl (ltb (t .0) (length ts)) refl
+  where
+    go : (b : Bool) → sameTask u t ≡ b → (c : Bool) → ltb (t .0) (length ts) ≡ c → f (taskAt (set ts (t .0) x) u) ≡ f (taskAt ts u)
+    go true q true l = rw (one-number u t (eqb-true (u .0) (t .0) q)) (ap f (at-same ts t x (ltb-true (t .0) (length ts) l)) ∙ e)
+    go true q false l = ap (λ us. f (taskAt us u)) (set-out ts (t .0) x (ltb-false (t .0) (length ts) l))
+    go false q c l = ap f (at-other ts t x u (eqb-false (u .0) (t .0) q))
+
 -- a slot set to what it holds
 pub set-same : (k : State) (t : TaskSlot) → withTask k t (taskAt (k .tasks) t) ≡ k
 unfolding taskAt
 set-same k t = rw (set-getD (k .tasks) (t .0) freeTask)
 
-module _ {w : Owing} (k : State) (N : Nearly w k) (t : TaskSlot) (x : Task) (low : t .0 < 16)
+module _ {w : Open} (k : State) (N : Nearly w k) (t : TaskSlot) (x : Task) (low : t .0 < 16)
     (F : TaskFine w (k .objects) t x)
     (E : (o : ObjSlot) → Holds (k .objects) t o → isFree (x .place) ≡ false)
     (I : t .0 ≡ 0 → AsIdle x) where
@@ -80,9 +89,9 @@ module _ {w : Owing} (k : State) (N : Nearly w k) (t : TaskSlot) (x : Task) (low
   listed-so o l =
       record {
         tables = tables-now;
-        levels = each (λ u y. LevelFits (Clear w (k .objects) u) (y .own) (y .effective)) (F .levels) (λ u n. N .levels u);
+        range = each (λ u y. y .own ≤ 31) (F .range) (λ u n. N .range u);
         listing = l;
-        due = each (λ u y. w .due u (y .place) ≡ true) (F .due) (λ u n. N .due u);
+        due = each (λ u y. w u (y .place) ≡ true) (F .due) (λ u n. N .due u);
         counts = N .counts;
       }
 
@@ -156,8 +165,8 @@ module _ {w : Owing} (k : State) (N : Nearly w k) (t : TaskSlot) (x : Task) (low
       once = once-of (k .tasks) (k .order) (N .listing)
 
 -- an existing task moved to the tail of its line or list, unchanged
-pub moved-nearly : {w : Owing} (k : State) → Nearly w k → (t : TaskSlot) → t .0 < 16 → isListed (taskAt (k .tasks) t .place) ≡ true → Nearly w (toTail k t)
+pub moved-nearly : {w : Open} (k : State) → Nearly w k → (t : TaskSlot) → t .0 < 16 → isListed (taskAt (k .tasks) t .place) ≡ true → Nearly w (toTail k t)
 moved-nearly {w} k N t low e =
     rw (set-same k t) at
-    (tail-nearly k N t (taskAt (k .tasks) t) low (record { fits = N .tables .tasks t; levels = N .levels t; due = N .due t })
+    (tail-nearly k N t (taskAt (k .tasks) t) low (record { fits = N .tables .tasks t; range = N .range t; due = N .due t })
     (λ o h q. N .tables .holders t o h q) (λ z. rw (one-number t idle z) (N .tables .as-idle)) e)

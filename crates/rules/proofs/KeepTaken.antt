@@ -9,35 +9,36 @@ use lib.ListN.{length, set}
 use lib.Seq.{set-out}
 use borrow.Author.Tests.{eqb-true, eqb-false, ltb-true, ltb-false}
 use Rattle.lists.specs.Choice.{if_then_else_}
-use Rattle.lists.specs.Lists.{larger, foldl, upTo}
+use Rattle.lists.specs.Lists.{foldl, upTo}
 use Rattle.numbers.specs.Numbers.{sameTask, sameObject}
 use Rattle.calls.specs.Door.{taskSlot, objSlot}
 use Rattle.calls.specs.Behind.{asked}
 use Rattle.order.proofs.Passing.{one-number}
 use Rattle.order.specs.Order.{listed}
 use Rattle.slots.specs.Places.{isFree, isListed, waitsOn, wakesAt, outcomeDue}
-use Rattle.slots.specs.Values.{placed, brokenOff, ranked, taskAt}
+use Rattle.slots.specs.Values.{placed, brokenOff, taskAt}
 use Rattle.slots.specs.Kinds.{isUnused, isMutex, kindAt}
 use Rattle.rules.specs.Types.{TaskSlot, ObjSlot, Place, Free, Ready, Delayed, Waiting, Suspended, Spent, Task, Ring, Kind, Unused, SpentObject, Queue, Mutex, By, Object, WaitersOf}
 use Rattle.rules.specs.Types.{Call, Create, Delete, Suspend, Resume, SetPriority, Delay, Yield, Hold, Release, MakeQueue, MakeMutex, Remove, Send, Receive, Take, Give, Tick, Advance, State}
-use Rattle.rules.specs.Tables.{holds, withTask, withObject, withTick, withHold}
-use Rattle.rules.specs.Lines.{begun, level, first, toTail, leaves}
+use Rattle.rules.specs.Tables.{withTask, withObject, withTick, withHold}
+use Rattle.rules.specs.Lines.{begun, first, toTail, leaves}
 use Rattle.rules.specs.Sentences.{Sound}
 use Rattle.rules.specs.Waits.{later, wakeOf, arrives, waitFor}
-use Rattle.rules.specs.Loans.{prioritized, newPriority, lent, ownAgain}
-use Rattle.rules.specs.Ticks.{held, wokenIfDue, wakes, oneTick, turned, ticked, ticks, released, advanced}
+use Rattle.rules.specs.Loans.{newPriority, workedOut}
+use Rattle.rules.specs.Ticks.{held, wokenIfDue, wakes, oneTick, turned, ticked, ticks, released, advanced, countedOn}
 use Rattle.rules.specs.Rings.{oneLess}
 use Rattle.rules.specs.Queues.{sentBy, sent, sentTo, refilledBy, received, receivedFrom}
-use Rattle.rules.specs.Effects.{effect, suspended, resumed, yielded, delayed, takenFrom, taken, handedTo, handedOn, given}
+use Rattle.rules.specs.Effects.{effect, suspended, resumed, yielded, delayed, takenFrom, taken, handedTo, given}
 use Rattle.rules.proofs.TableSlots.{passes-there, by-kind}
 use Rattle.rules.proofs.TableWithin.{first-meant, first-single, by-outlet}
 use Rattle.rules.proofs.KeepSlot.{at-same, at-other}
 use Rattle.rules.proofs.KeepObject.{kinds, kind-same, kind-other}
-use Rattle.rules.proofs.KeepBlocks.{prioritized-same, prioritized-tasks}
 use Rattle.rules.proofs.TickJumps.{OnlyTurned, turned-only, turn-only}
 use Rattle.rules.proofs.KeepTicks.{due-there}
 use Rattle.rules.proofs.RowPasses.{Passed}
 use Rattle.rows.specs.Applies.{namesNone}
+use Rattle.rules.proofs.LoanWorks.{worked-place, worked-same}
+use Rattle.rules.specs.Steps.{after}
 
 -- what stands in a slot: 0 nothing, 1 a task, and 2 nothing ever after
 abbrev pub stands : Place → ℕ
@@ -139,13 +140,9 @@ wait-stays : (k : State) (o : ObjSlot) (w : ℕ) → isFree (taskAt (k .tasks) (
 unfolding waitFor
 wait-stays k o w e = arrives-stays k (k .running) (Waiting o (wakeOf (k .tick) w)) 0 refl e
 
-pub prioritized-stays : (k : State) (t : TaskSlot) (own eff : ℕ) → Stays k (prioritized k t own eff)
-prioritized-stays k t own eff =
-    let s = prioritized-same k t own eff in
-    record {
-      tasks = λ v. ap (λ ts. stands (taskAt ts v .place)) (prioritized-tasks k t own eff) ∙ task-stays k t (ranked (taskAt (k .tasks) t) own eff) refl .tasks v;
-      objects = λ o. ap (λ os. standsAs (kindAt os o)) (s .objects);
-    }
+pub worked-stays : (k : State) → Stays k (workedOut k)
+worked-stays k =
+    record { tasks = λ t. ap stands (worked-place k t); objects = λ o. ap (λ os. standsAs (kindAt os o)) (worked-same k .objects) }
 
 -- ── ticks
 woken-stays : (k : State) (t : TaskSlot) → Stays k (wokenIfDue k t)
@@ -162,8 +159,10 @@ wakes-stay [] k = stays
 wakes-stay (t ∷ l) k = onward (woken-stays k t) (wakes-stay l (wokenIfDue k t))
 
 tick-stays : (k : State) → Stays k (oneTick k)
-unfolding oneTick wakes
-tick-stays k = let s = wakes-stay (begun (k .tasks) (listed (k .order))) (withTick k (later (k .tick) 1)) in record { tasks = s .tasks; objects = s .objects }
+unfolding oneTick countedOn wakes
+tick-stays k =
+    let s = wakes-stay (begun (k .tasks) (listed (k .order))) (withTick k (later (k .tick) 1)) in
+    onward (record { tasks = s .tasks; objects = s .objects }) (worked-stays (countedOn k))
 
 turned-stays : {k j : State} → OnlyTurned k j → Stays k j
 turned-stays o = record { tasks = λ t. ap (λ (ts : List Task). stands (taskAt ts t .place)) (o .tasks); objects = λ b. ap (λ (os : List Object). standsAs (kindAt os b)) (o .objects) }
@@ -253,39 +252,21 @@ module _ (k : State) (S : Sound k) where
   receive-stays o w = by-kind (kindAt (k .objects) o) (λ x. Stays k (receivedFrom k o x w)) stays stays (λ q e. received-stays o q w e) (λ e. stays) (λ h e. stays)
 
   pub take-stays : (o : ObjSlot) (w : ℕ) → Stays k (taken k o w)
-  unfolding taken lent
+  unfolding taken
   take-stays o w =
       by-kind (kindAt (k .objects) o) (λ x. Stays k (takenFrom k o x w)) stays stays (λ q e. stays) (λ e. object-stays k o (Mutex (By (k .running))) (sym (ap standsAs e)))
-      (λ h e. waits h)
-    where
-      eff : TaskSlot → ℕ
-      eff h = larger (level (k .tasks) h) (level (k .tasks) (k .running))
-
-      waits : (h : TaskSlot) → Stays k (waitFor (lent k h) o w)
-      waits h =
-          let s = prioritized-stays k h (taskAt (k .tasks) h .own) (eff h) in
-          onward s (wait-stays (lent k h) o w
-          (stands-there (taskAt (lent k h .tasks) (lent k h .running) .place) (s .tasks (lent k h .running)
-          ∙ ap (λ v. stands (taskAt (k .tasks) v .place)) (prioritized-same k h (taskAt (k .tasks) h .own) (eff h) .running) ∙ there-stands (taskAt (k .tasks) (k .running) .place) caller-there)))
+      (λ h e. wait-stays k o w caller-there)
 
   pub give-stays : (o : ObjSlot) → isUnused (kindAt (k .objects) o) ≡ false → Stays k (given k o)
-  unfolding given ownAgain handedOn
-  give-stays o e = onward handed (back (holds (handedOn k o .objects) (k .running)))
+  unfolding given
+  give-stays o e = go (first k (WaitersOf o)) refl
     where
       mutex-stays : (j : State) (x : Kind) → Stays k j → standsAs x ≡ 1 → Stays k (withObject j o x)
       mutex-stays j x s u = onward s (object-stays j o x (u ∙ sym (s .objects o ∙ used-stands (kindAt (k .objects) o) e)))
 
-      handed : Stays k (handedTo k o (first k (WaitersOf o)))
-      handed = go (first k (WaitersOf o)) refl
-        where
-          go : (l : List TaskSlot) → first k (WaitersOf o) ≡ l → Stays k (handedTo k o l)
-          go [] q = mutex-stays k _ stays refl
-          go (t ∷ l) q = mutex-stays (arrives k t Ready 1) _ (arrives-stays k t Ready 1 refl (first-there o t l q)) refl
-
-      back : (b : Bool) → Stays (handedOn k o)
-          (if b then handedOn k o else prioritized (handedOn k o) (k .running) (taskAt (handedOn k o .tasks) (k .running) .own) (taskAt (handedOn k o .tasks) (k .running) .own))
-      back true = stays
-      back false = prioritized-stays (handedOn k o) (k .running) _ _
+      go : (l : List TaskSlot) → first k (WaitersOf o) ≡ l → Stays k (handedTo k o l)
+      go [] q = mutex-stays k _ stays refl
+      go (t ∷ l) q = mutex-stays (arrives k t Ready 1) _ (arrives-stays k t Ready 1 refl (first-there o t l q)) refl
 
 -- ── every call
 -- the calls that take a slot or give one up
@@ -315,7 +296,7 @@ effect-stays k S n (Create p) x P = absurd (false≢true (sym x))
 effect-stays k S n (Delete t) x P = absurd (false≢true (sym x))
 effect-stays k S n (Suspend t) x P = suspended-stays k S (taskSlot (k .uses) t) (P .named)
 effect-stays k S n (Resume t) x P = arrives-stays k (taskSlot (k .uses) t) Ready _ refl (P .named)
-effect-stays k S n (SetPriority t p) x P = prioritized-stays k (taskSlot (k .uses) t) p _
+effect-stays k S n (SetPriority t p) x P = task-stays k (taskSlot (k .uses) t) _ refl
 effect-stays k S n (Delay d) x P = delayed-stays k S d
 effect-stays k S n Yield x P = yielded-stays k S
 effect-stays k S n Hold x P = record { tasks = λ t. refl; objects = λ o. refl }
@@ -329,3 +310,8 @@ effect-stays k S n (Take o w) x P = take-stays k S (objSlot (k .uses) o) w
 effect-stays k S n (Give o) x P = give-stays k S (objSlot (k .uses) o) (mutex-used (kindAt (k .objects) (objSlot (k .uses) o)) (P .named))
 effect-stays k S n Tick x P = ticked-stays k
 effect-stays k S n (Advance d) x P = advanced-stays k d
+
+-- the effective priorities worked out, too
+pub after-stays : (k : State) → Sound k → (n : ℕ) (c : Call) → changesSlots c ≡ false → Passed k (asked (k .uses) c) n → Stays k (after k (asked (k .uses) c))
+unfolding after
+after-stays k S n c x P = onward (effect-stays k S n c x P) (worked-stays (effect k (asked (k .uses) c)))

@@ -7,31 +7,29 @@ use lib.ListN.{length}
 use lib.Dec.{eqb, leb}
 use borrow.Author.Tests.{ne-eqb, leb-false, eqb-true, eqb-false, eq-eqb, lt-ltb, le-leb}
 use Rattle.lists.specs.Choice.{if_then_else_}
-use Rattle.lists.specs.Lists.{larger}
 use Rattle.lists.proofs.Bools.{and-intro, on, not-off, or-off}
-use Rattle.lists.proofs.Tests.{larger-max}
 use Rattle.numbers.specs.Numbers.{task, idle, isIdle}
 use Rattle.calls.specs.Behind.{nothing, onTask}
 use Rattle.order.proofs.Passing.{one-number}
 use Rattle.slots.specs.Places.{isFree, takesTask, isSuspended, isBlocked, isListed}
-use Rattle.slots.specs.Values.{freeTask, spentTask, readyAt, brokenOff, taskAt}
+use Rattle.slots.specs.Values.{freeTask, spentTask, readyAt, owned, brokenOff, inLine, taskAt}
 use Rattle.rules.specs.Types.{TaskSlot, ObjSlot, Wake, Free, Ready, Delayed, Waiting, Spent, Task, State}
 use Rattle.rules.specs.Tables.{holds, freeSlot, withTask}
-use Rattle.rules.specs.Lines.{level, toTail, leaves}
+use Rattle.rules.specs.Lines.{toTail, leaves}
 use Rattle.rules.specs.Sentences.{Holds, HoldsNothing, AsIdle, TaskFits, Sound}
 use Rattle.rows.specs.Applies.{outOfRange, namesNone, notForIdle, notWithHold, noneFree, notSuspended}
 use Rattle.rules.specs.Refusals.{inUse}
 use Rattle.rules.specs.Waits.{later, arrives}
-use Rattle.rules.specs.Loans.{prioritized, movedIf, newPriority}
+use Rattle.rules.specs.Loans.{newPriority}
 use Rattle.rules.specs.Effects.{created, deleted, suspended, resumed, yielded, delayed, effect}
 use Rattle.rules.proofs.TableSlots.{takes-free}
-use Rattle.rules.proofs.TableHolds.{none-holds, not-held}
+use Rattle.rules.proofs.TableHolds.{not-held}
 use Rattle.rules.proofs.RowPasses.{Passed, in-range-of}
 use Rattle.rules.proofs.KeepNearly.{settled, TaskFine, Nearly, unblocked-fits, RunsIn}
-use Rattle.rules.proofs.KeepSlot.{tail-nearly, tail-listed, leave-nearly, leave-listed, moved-nearly}
+use Rattle.rules.proofs.KeepSlot.{like-before, tail-nearly, tail-listed, leave-nearly, leave-listed, stay-nearly, moved-nearly}
 use Rattle.rules.proofs.KeepChosen.{sound-nearly}
-use Rattle.rules.proofs.KeepHeads.{runs-tail, runs-leave}
-use Rattle.rules.proofs.KeepBlocks.{to-ready, to-wait, arrives-nearly, arrives-runs, prioritized-same, prioritized-nearly, prioritized-runs}
+use Rattle.rules.proofs.KeepHeads.{runs-tail, runs-leave, runs-stay}
+use Rattle.rules.proofs.KeepBlocks.{to-ready, to-wait, arrives-nearly, arrives-runs}
 use Rattle.rules.proofs.Keeps.{Keeps, there-low, ready-low, apart, index-most, index-passes}
 
 -- a wake tick that many ticks ahead is none of now
@@ -75,7 +73,7 @@ module _ (k : State) (S : Sound k) (store : ℕ) where
     fine =
         record {
           fits = unblocked-fits (k .objects) t (readyAt p) refl refl (omega arith);
-          levels = record { at-least = omega arith; equal = λ c. refl; range = small };
+          range = small;
           due = refl;
         }
 
@@ -129,12 +127,12 @@ module _ (k : State) (S : Sound k) (store : ℕ) where
         left (TaskFine (settled (k .tick)) (k .objects) t)
         (record {
           fits = nobody-fits spentTask refl (λ o v e. let z : _≡_ {A = ℕ} 0 1 = cc in omega arith) (λ e. absurd (let z : _≡_ {A = ℕ} 0 1 = cc in omega arith)) (λ e. refl);
-          levels = record { at-least = omega arith; equal = λ c. refl; range = omega arith };
+          range = omega arith;
           due = refl;
         })
         (record {
           fits = nobody-fits freeTask refl (λ o v e. let z : _≡_ {A = ℕ} 0 1 = cc in omega arith) (λ e. refl) (λ e. absurd (let z : _≡_ {A = ℕ} 0 1 = cc in omega arith));
-          levels = record { at-least = omega arith; equal = λ c. refl; range = omega arith };
+          range = omega arith;
           due = refl;
         })
 
@@ -173,7 +171,7 @@ module _ (k : State) (S : Sound k) (store : ℕ) where
     stopped-fine =
         record {
           fits = unblocked-fits (k .objects) t stopped refl refl (outcome-few (isBlocked (taskAt (k .tasks) t .place)));
-          levels = N .levels t;
+          range = N .range t;
           due = refl;
         }
 
@@ -224,27 +222,39 @@ module _ (k : State) (S : Sound k) (store : ℕ) where
     unfolding notForIdle
     idle-to-0 e = eqb-true p 0 (on (eqb p 0) (rw (eq-eqb (t .0) 0 e) at (or-off (isIdle t && not (eqb p 0)) _ (P .idle) .0)))
 
-    abbrev eff : Bool → ℕ
-    eff h = if h then larger (level (k .tasks) t) p else p
+    abbrev set-to : Task
+    set-to = owned (taskAt (k .tasks) t) p
 
-    given : (b : Bool) → holds (k .objects) t ≡ b → (p ≤ eff b) × (eff b ≤ 31) × (HoldsNothing (k .objects) t → p ≡ eff b) × (t .0 ≡ 0 → eff b ≡ 0)
-    given true e = (
-      omega (arith, larger-max (level (k .tasks) t) p),
-      omega (arith, larger-max (level (k .tasks) t) p, S .levels t .range, in-range),
-      (λ n. absurd (false≢true (sym (none-holds (k .objects) t n) ∙ e))),
-      (λ z. absurd (false≢true (sym (none-holds (k .objects) t (λ o. rw (one-number t idle z) (S .tables .idle-holds o))) ∙ e))),
-    )
-    given false e = (omega arith, in-range, (λ n. refl), idle-to-0)
+    set-fine : TaskFine (settled (k .tick)) (k .objects) t set-to
+    set-fine =
+        let F = N .tables .tasks t in
+        record {
+          fits = record {
+            waits = F .waits;
+            outcome-range = F .outcome-range;
+            delay-outcome = F .delay-outcome;
+            wait-outcome = F .wait-outcome;
+            free = λ e. absurd (false≢true (sym exists ∙ ap isFree e));
+            spent = λ e. absurd (false≢true (sym exists ∙ ap isFree e));
+          };
+          range = in-range;
+          due = N .due t;
+        }
 
+    idle-stays : t .0 ≡ 0 → AsIdle set-to
+    idle-stays z =
+        let q : t ≡ idle = one-number t idle z in
+        record { ready = rw q (N .tables .as-idle .ready); own = idle-to-0 z; effective = rw q (N .tables .as-idle .effective) }
+
+    -- every line stays, and so does who heads it
     pub priority-keeps : Keeps (effect k (onTask 5 t l p))
-    unfolding effect newPriority prioritized movedIf
+    unfolding effect newPriority
     priority-keeps =
-        let g = given (holds (k .objects) t) refl in
         let low = there-low (k .tasks) t (S .tables .task-slots) exists in
         record {
-          nearly = rw (prioritized-same k t p (eff (holds (k .objects) t)) .tick)
-              (prioritized-nearly k N t low p (eff (holds (k .objects) t)) (g .0) (g .1) (λ c. g .2 (c .1)) exists (λ z. (idle-to-0 z, g .3 z)));
-          runs = λ h. prioritized-runs k N t low p (eff (holds (k .objects) t)) (g .0) (g .1) (λ c. g .2 (c .1)) exists (λ z. (idle-to-0 z, g .3 z)) R;
+          nearly = stay-nearly k N t set-to low set-fine (λ o h. exists) idle-stays refl;
+          runs = λ h. runs-stay k R t set-to (withTask k t set-to) refl refl refl (λ q. like-before (k .tasks) t set-to (inLine q) refl)
+              (like-before (k .tasks) t set-to (λ (x : Task). x .place) refl (k .running) ∙ R .ready) (like-before (k .tasks) t set-to (λ (x : Task). x .effective) refl (k .running));
         }
 
   -- 7: yield

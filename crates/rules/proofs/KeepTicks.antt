@@ -1,8 +1,11 @@
 -- Hold, release, tick and advance keep soundness.
+use lib.Seq.{set-out}
+use lib.ListN.{length, set, getD, length-set}
 use Prim.Native.Nat.{ℕ, zero, suc, _+_, _-_, _<_, _≤_}
 use mathlib.Core.Path.{_≡_, refl, sym, ap, _∙_, subst}
 use mathlib.Core.Bool.{Bool, true, false, not, _||_, false≢true}
 use mathlib.Core.List.{List, [], _∷_}
+use mathlib.Core.Logic.{_⊎_, inl, inr}
 use native.Mathlib.Omega.{arith}
 use lib.Dec.{eqb, ltb}
 use borrow.Author.Tests.{eqb-true, eqb-false, eq-eqb, ltb-true, ltb-false, lt-ltb}
@@ -16,48 +19,44 @@ use Rattle.order.specs.Order.{listed}
 use Rattle.order.specs.Tidy.{count}
 use Rattle.order.proofs.Passing.{one-number}
 use Rattle.slots.specs.Places.{isFree, isBlocked, wakesAt, outcomeDue}
-use Rattle.slots.specs.Values.{taskAt}
+use Rattle.slots.specs.Values.{taskAt, placed}
 use Rattle.slots.specs.SoundSlots.{wakesInRange, notDue}
-use Rattle.rules.specs.Types.{TaskSlot, Place, Free, Ready, Delayed, Waiting, Suspended, Spent, Task, State}
+use Rattle.rules.specs.Types.{TaskSlot, Place, Free, Ready, Delayed, Waiting, Suspended, Spent, Task, State, ObjSlot, Wake}
 use Rattle.rules.specs.Tables.{withTick, withHold, withUses}
 use Rattle.rules.specs.Lines.{begun, level, toTail}
 use Rattle.rules.specs.Sound.{noHigher}
 use Rattle.rules.specs.Sentences.{Counts, Used, Sound, Unheld}
 use Rattle.rows.specs.Applies.{noDepth, noTick}
 use Rattle.rules.specs.Waits.{later, arrives}
-use Rattle.rules.specs.Ticks.{wokenIfDue, wakes, oneTick, turned, turnedIf, ticked, ticks, released, held, advanced}
+use Rattle.rules.specs.Loans.{workedOut, ruled, Reckoned}
+use Rattle.rules.specs.Ticks.{wokenIfDue, wakes, countedOn, oneTick, turned, turnedIf, ticked, ticks, released, held, advanced}
 use Rattle.rules.specs.Effects.{effect}
 use Rattle.rules.proofs.TableSlots.{passes-there}
 use Rattle.rules.proofs.RowPasses.{Passed, advance-free}
 use Rattle.rules.proofs.SoundUses.{uses-say, fresh-fine}
-use Rattle.rules.proofs.TickJumps.{turn-only}
-use Rattle.rules.proofs.KeepNearly.{Owing, settled, level-as, Nearly, RunsIn}
-use Rattle.rules.proofs.KeepSlot.{at-other, moved-nearly}
-use Rattle.rules.proofs.KeepChosen.{sound-with, sound-nearly, chosen-sound}
+use Rattle.rules.proofs.TickJumps.{turned-only, turn-only, only-reckoned}
+use Rattle.rules.proofs.KeepNearly.{Open, settled, Nearly, RunsIn}
+use Rattle.rules.proofs.LoanRule.{ruled-less}
+use Rattle.rules.proofs.LoanWorks.{worked-same, worked-place, worked-reckoned, worked-nearly, worked-at, worked-many}
+use Rattle.rules.proofs.KeepSlot.{at-other, moved-nearly, at-same, like-before}
+use Rattle.rules.proofs.KeepChosen.{sound-with, sound-nearly, sound-reckoned, chosen-sound}
 use Rattle.rules.proofs.KeepBlocks.{to-ready, arrives-nearly, arrives-same, arrives-at}
 use Rattle.rules.proofs.Keeps.{Keeps, there-low, ready-low}
 
 -- ── the counts changed, and what is open told anew
-recount : {w : Owing} (k : State) (h p : ℕ) → Nearly w k → Counts (k .tick) h p → Nearly w (withHold k h p)
-recount k h p N C = record { tables = N .tables; levels = N .levels; listing = N .listing; due = N .due; counts = C }
+recount : {w : Open} (k : State) (h p : ℕ) → Nearly w k → Counts (k .tick) h p → Nearly w (withHold k h p)
+recount k h p N C = record { tables = N .tables; range = N .range; listing = N .listing; due = N .due; counts = C }
 
-pub reopen : {w : Owing} (v : Owing) (k : State) → Nearly w k → ((t : TaskSlot) → v .due t (taskAt (k .tasks) t .place) ≡ true) → ((t : TaskSlot) → v .owes t ≡ false → w .owes t ≡ false) → Nearly v k
-reopen v k N D O =
-    record {
-      tables = N .tables;
-      levels = λ t. level-as (N .levels t) (λ c. N .levels t .equal (O t (c .0), c .1));
-      listing = N .listing;
-      due = D;
-      counts = N .counts;
-    }
+reopen : {w : Open} (v : Open) (k : State) → Nearly w k → ((t : TaskSlot) → v t (taskAt (k .tasks) t .place) ≡ true) → Nearly v k
+reopen v k N D = record { tables = N .tables; range = N .range; listing = N .listing; due = D; counts = N .counts }
 
 -- the tick count told otherwise
 pub at-tick : (j : State) {n : ℕ} → j .tick ≡ n → Nearly (settled n) j → Nearly (settled (j .tick)) j
 at-tick j e N = subst (λ (m : ℕ). Nearly (settled m) j) (sym e) N
 
 -- ── the wakes: of those that were asked nobody is due any more
-abbrev waking : ℕ → (TaskSlot → Bool) → Owing
-waking tick asked = record { due = λ t p. if asked t then notDue tick p else wakesInRange p; owes = λ t. false }
+abbrev waking : ℕ → (TaskSlot → Bool) → Open
+waking tick asked = λ t p. if asked t then notDue tick p else wakesInRange p
 
 record Woken (tick : ℕ) (asked : TaskSlot → Bool) (j : State) : Type 0 where
   nearly : Nearly (waking tick asked) j
@@ -111,11 +110,11 @@ module _ (tick : ℕ) (asked : TaskSlot → Bool) (x : TaskSlot) (j : State) (W 
       go true e =
           let m = outcomeDue (taskAt (j .tasks) x .place) in
           let M = arrives-nearly j (W .nearly) x (low e) (to-ready (due-outcome (taskAt (j .tasks) x .place)) (ready-due (asked x))) in
-          record { nearly = reopen (waking tick askedToo) (arrives j x Ready m) M (next-due _ (M .due) (ready-now m (low e))) (λ t q. refl); ticks = arrives-same j x Ready m .tick ∙ W .ticks }
+          record { nearly = reopen (waking tick askedToo) (arrives j x Ready m) M (next-due _ (M .due) (ready-now m (low e))); ticks = arrives-same j x Ready m .tick ∙ W .ticks }
       go false e =
           let p = taskAt (j .tasks) x .place in
           let h = and-intro (wakesInRange p) _ (in-range (asked x) p (W .nearly .due x)) (not-off _ (rw (W .ticks) at e)) in
-          record { nearly = reopen (waking tick askedToo) j (W .nearly) (next-due (j .tasks) (W .nearly .due) h) (λ t q. refl); ticks = W .ticks }
+          record { nearly = reopen (waking tick askedToo) j (W .nearly) (next-due (j .tasks) (W .nearly .due) h); ticks = W .ticks }
 
 -- those asked after the wakes of l
 askedAll : (TaskSlot → Bool) → List TaskSlot → TaskSlot → Bool
@@ -143,7 +142,98 @@ asked-listed asked (x ∷ l) t h = go (eqb (x .0) (t .0)) refl h (asked-listed (
     go true e g ih = asked-already (λ u. sameTask u x || asked u) l t (or-left (sameTask t x) (asked t) (eq-eqb (t .0) (x .0) (sym (eqb-true (x .0) (t .0) e))))
     go false e g ih = ih (omega arith)
 
--- ── what the wakes leave: the hold, who runs, and who was ready
+-- ── what the wakes leave: a task is as it was, or ready, with its priorities; the objects, the count and the uses
+pub record Woke (k j : State) : Type 0 where
+  pub tick : j .tick ≡ k .tick
+  pub uses : j .uses ≡ k .uses
+  pub objects : j .objects ≡ k .objects
+  pub many : length (j .tasks) ≡ length (k .tasks)
+  pub own : (t : TaskSlot) → taskAt (j .tasks) t .own ≡ taskAt (k .tasks) t .own
+  pub level : (t : TaskSlot) → level (j .tasks) t ≡ level (k .tasks) t
+  pub either : (t : TaskSlot) → (taskAt (j .tasks) t .place ≡ taskAt (k .tasks) t .place) ⊎ (taskAt (j .tasks) t .place ≡ Ready)
+
+nobody-woke : (k : State) → Woke k k
+nobody-woke k = record { tick = refl; uses = refl; objects = refl; many = refl; own = λ t. refl; level = λ t. refl; either = λ t. inl refl }
+
+one-woke : (k : State) (t : TaskSlot) → Woke k (wokenIfDue k t)
+unfolding wokenIfDue arrives toTail
+one-woke k t = go (wakesAt (k .tick) (taskAt (k .tasks) t .place))
+  where
+    x : Task
+    x = placed (taskAt (k .tasks) t) Ready (outcomeDue (taskAt (k .tasks) t .place))
+
+    moved : (u : TaskSlot) (b : Bool) → sameTask u t ≡ b → (c : Bool) → ltb (t .0) (length (k .tasks)) ≡ c
+        → (taskAt (set (k .tasks) (t .0) x) u .place ≡ taskAt (k .tasks) u .place) ⊎ (taskAt (set (k .tasks) (t .0) x) u .place ≡ Ready)
+    moved u true e true l = inr (ap (λ v. taskAt (set (k .tasks) (t .0) x) v .place) (one-number u t (eqb-true (u .0) (t .0) e)) ∙ ap (λ (y : Task). y .place) (at-same (k .tasks) t x (ltb-true _ _ l)))
+    moved u true e false l = inl (ap (λ ts. taskAt ts u .place) (set-out (k .tasks) (t .0) x (ltb-false _ _ l)))
+    moved u false e c l = inl (ap (λ (y : Task). y .place) (at-other (k .tasks) t x u (eqb-false (u .0) (t .0) e)))
+
+    go : (b : Bool) → Woke k (if b then arrives k t Ready (outcomeDue (taskAt (k .tasks) t .place)) else k)
+    go true =
+        record {
+          tick = refl;
+          uses = refl;
+          objects = refl;
+          many = length-set (k .tasks) (t .0) x;
+          own = like-before (k .tasks) t x (λ (y : Task). y .own) refl;
+          level = like-before (k .tasks) t x (λ (y : Task). y .effective) refl;
+          either = λ u. moved u (sameTask u t) refl (ltb (t .0) (length (k .tasks))) refl;
+        }
+    go false = nobody-woke k
+
+pub all-woke : (l : List TaskSlot) (k : State) → Woke k (foldl wokenIfDue k l)
+unfolding foldl
+all-woke [] k = nobody-woke k
+all-woke (u ∷ l) k =
+    let a = one-woke k u in
+    let b = all-woke l (wokenIfDue k u) in
+    record {
+      tick = b .tick ∙ a .tick;
+      uses = b .uses ∙ a .uses;
+      objects = b .objects ∙ a .objects;
+      many = b .many ∙ a .many;
+      own = λ t. b .own t ∙ a .own t;
+      level = λ t. b .level t ∙ a .level t;
+      either = λ t. then-either (b .either t) (a .either t);
+    }
+  where
+    then-either : {p q r : Place} → (r ≡ q) ⊎ (r ≡ Ready) → (q ≡ p) ⊎ (q ≡ Ready) → (r ≡ p) ⊎ (r ≡ Ready)
+    then-either (inl e) (inl f) = inl (e ∙ f)
+    then-either (inl e) (inr f) = inr (e ∙ f)
+    then-either (inr e) f = inr e
+
+pub count-woke : (k : State) → Woke (withTick k (later (k .tick) 1)) (countedOn k)
+unfolding countedOn wakes
+count-woke k = all-woke (begun (k .tasks) (listed (k .order))) (withTick k (later (k .tick) 1))
+
+-- ticks only end waits: no effective priority gets larger
+pub tick-lowers : (k : State) → length (k .tasks) ≡ 16 → Reckoned (k .tasks) (k .objects) → (t : TaskSlot) → t .0 < 16 → level (oneTick k .tasks) t ≤ level (k .tasks) t
+unfolding oneTick
+tick-lowers k l R t h =
+    let j = countedOn k in
+    let W = count-woke k in
+    let m : length (j .tasks) ≡ 16 = W .many ∙ l in
+    let a : level (workedOut j .tasks) t ≡ getD (ruled (j .tasks) (j .objects)) (t .0) 0 = ap (λ (x : Task). x .effective) (worked-at j m t h) in
+    let b = ruled-less (k .tasks) (j .tasks) (k .objects) (λ v o w e. old v o w (W .either v) e) l m (W .own) t h in
+    let c : getD (ruled (j .tasks) (j .objects)) (t .0) 0 ≡ getD (ruled (j .tasks) (k .objects)) (t .0) 0 = ap (λ os. getD (ruled (j .tasks) os) (t .0) 0) (W .objects) in
+    omega (arith, a, b, c, R t h)
+  where
+    old : (v : TaskSlot) (o : ObjSlot) (w : Wake) → (taskAt (countedOn k .tasks) v .place ≡ taskAt (k .tasks) v .place) ⊎ (taskAt (countedOn k .tasks) v .place ≡ Ready)
+        → taskAt (countedOn k .tasks) v .place ≡ Waiting o w → taskAt (k .tasks) v .place ≡ Waiting o w
+    old v o w (inl f) e = sym f ∙ e
+    old v o w (inr f) e = absurd (let q : Ready ≡ Waiting o w = sym f ∙ e in let z : _≡_ {A = ℕ} 0 1 = cc in omega arith)
+
+-- after some ticks each effective priority is the rule's still
+pub ticks-reckoned : (b : Bool) (n : ℕ) (k : State) → length (k .tasks) ≡ 16 → Reckoned (k .tasks) (k .objects) → (length (ticks b n k .tasks) ≡ 16) × Reckoned (ticks b n k .tasks) (ticks b n k .objects)
+unfolding ticks upTo oneTick
+ticks-reckoned b zero k l R = (l, R)
+ticks-reckoned b (suc n) k l R =
+    let j = ticks b n k in
+    let m : length (countedOn j .tasks) ≡ 16 = count-woke j .many ∙ ticks-reckoned b n k l R .0 in
+    let o = turn-only b (workedOut (countedOn j)) in
+    (ap length (o .tasks) ∙ worked-many (countedOn j) ∙ m, only-reckoned o (worked-reckoned (countedOn j) m))
+
+-- ── what they leave, too: the hold, who runs, and who was ready
 pub record After (k j : State) : Type 0 where
   pub hold : j .hold ≡ k .hold
   pub running : j .running ≡ k .running
@@ -168,13 +258,22 @@ unfolding foldl
 all-after [] k = record { hold = refl; running = refl; ready = λ t e. e }
 all-after (u ∷ l) k = after-trans (woken-after k u) (all-after l (wokenIfDue k u))
 
-pub tick-after : (k : State) → After k (oneTick k)
-unfolding oneTick wakes
-tick-after k = let A = all-after (begun (k .tasks) (listed (k .order))) (withTick k (later (k .tick) 1)) in record { hold = A .hold; running = A .running; ready = A .ready }
+count-after : (k : State) → After k (countedOn k)
+unfolding countedOn wakes
+count-after k = let A = all-after (begun (k .tasks) (listed (k .order))) (withTick k (later (k .tick) 1)) in record { hold = A .hold; running = A .running; ready = A .ready }
 
--- ── one tick's count and wakes
+-- and so does working out the effective priorities
+worked-after : (k : State) → After k (workedOut k)
+worked-after k = record { hold = worked-same k .hold; running = worked-same k .running; ready = λ t e. worked-place k t ∙ e }
+
+pub tick-after : (k : State) → After k (oneTick k)
+unfolding oneTick
+tick-after k = after-trans (count-after k) (worked-after (countedOn k))
+
+-- ── one tick's count and wakes, and the effective priorities worked out
 pub record Ticked (k j : State) : Type 0 where
   pub nearly : Nearly (settled (j .tick)) j
+  pub reckoned : Reckoned (j .tasks) (j .objects)
   pub after : After k j
 
 -- who is neither delayed nor waiting is not due
@@ -205,7 +304,7 @@ module _ (k : State) (N : Nearly (settled (k .tick)) k) where
       record {
         nearly = record {
           tables = N .tables;
-          levels = N .levels;
+          range = N .range;
           listing = N .listing;
           due = λ t. not-due (taskAt (k .tasks) t .place) (isBlocked (taskAt (k .tasks) t .place)) refl (and-left (wakesInRange (taskAt (k .tasks) t .place)) _ (N .due t));
           counts = record { tick-range = omega arith; hold-range = N .counts .hold-range; pended-range = N .counts .pended-range; pends = N .counts .pends };
@@ -227,13 +326,20 @@ module _ (k : State) (N : Nearly (settled (k .tick)) k) where
           asked-listed settledAlready those-begun t (omega arith)
       go false e = asked-already settledAlready those-begun t (not-off _ e)
 
-  pub one-tick : Ticked k (oneTick k)
-  unfolding oneTick wakes
-  one-tick =
+  pub counted : Nearly (settled (countedOn k .tick)) (countedOn k)
+  unfolding countedOn wakes
+  counted =
       let j = foldl wokenIfDue next those-begun in
       let W = woken-all now settledAlready those-begun next start in
+      at-tick j (W .ticks) (reopen (settled now) j (W .nearly) (λ t. rw (everyone t) at (W .nearly .due t)))
+
+  pub one-tick : Ticked k (oneTick k)
+  unfolding oneTick
+  one-tick =
+      let j = countedOn k in
       record {
-        nearly = at-tick j (W .ticks) (reopen (settled now) j (W .nearly) (λ t. rw (everyone t) at (W .nearly .due t)) (λ t q. refl));
+        nearly = at-tick (workedOut j) (worked-same j .tick) (worked-nearly j counted);
+        reckoned = worked-reckoned j (counted .tables .task-slots);
         after = tick-after k;
       }
 
@@ -260,7 +366,7 @@ pub sound-unheld : (k : State) → Sound k → k .hold ≡ 0 → Unheld k
 sound-unheld k S z = record { sound = sound-with k S fresh-used; free = z }
 
 pub unheld-nearly : (k : State) → Unheld k → Nearly (settled (k .tick)) k
-unheld-nearly k U = let N = sound-nearly (withUses k freshUses) (U .sound) in record { tables = N .tables; levels = N .levels; listing = N .listing; due = N .due; counts = N .counts }
+unheld-nearly k U = let N = sound-nearly (withUses k freshUses) (U .sound) in record { tables = N .tables; range = N .range; listing = N .listing; due = N .due; counts = N .counts }
 
 pub unheld-keeps : (k : State) → Unheld k → Keeps k
 unheld-keeps k U = record { nearly = unheld-nearly k U; runs = λ h. absurd (omega (arith, U .free)) }
@@ -270,13 +376,13 @@ module _ (k j : State) (U : Unheld k) (T : Ticked k j) where
   pub turned-unheld : Unheld (turnedIf true j)
   turned-unheld =
       let K = turn-keeps k j (U .sound .running .runs) T (U .free) in
-      record { sound = chosen-sound (turned j) (K .nearly) fresh-used (K .runs); free = turn-only true j .hold ∙ T .after .hold ∙ U .free }
+      record { sound = chosen-sound (turned j) (K .nearly) (only-reckoned (turned-only j) (T .reckoned)) fresh-used (K .runs); free = turn-only true j .hold ∙ T .after .hold ∙ U .free }
 
 pub tick-unheld : (k : State) → Unheld k → Unheld (turnedIf true (oneTick k))
 tick-unheld k U = turned-unheld k (oneTick k) U (one-tick k (unheld-nearly k U))
 
 pub turn-unheld : (k : State) → Unheld k → Unheld (turnedIf true k)
-turn-unheld k U = turned-unheld k k U (record { nearly = unheld-nearly k U; after = record { hold = refl; running = refl; ready = λ t e. e } })
+turn-unheld k U = turned-unheld k k U (record { nearly = unheld-nearly k U; reckoned = sound-reckoned (withUses k freshUses) (U .sound); after = record { hold = refl; running = refl; ready = λ t e. e } })
 
 pub ticks-unheld : (n : ℕ) (k : State) → Unheld k → Unheld (ticks true n k)
 unfolding ticks upTo

@@ -24,12 +24,12 @@ use Rattle.rows.specs.Asking.{is, stops, waits}
 use Rattle.rows.specs.Applies.{notForIdle, notWithHold, stopsAt, mustWait}
 use Rattle.rules.specs.Refusals.{seen, laterRow, refusal}
 use Rattle.rules.specs.Effects.{effect}
-use Rattle.rules.specs.Steps.{usesAfter, accepted, turnedAway, step}
+use Rattle.rules.specs.Steps.{usesAfter, after, accepted, turnedAway, step}
 use Rattle.rules.proofs.TableSlots.{past-tasks}
 use Rattle.rules.proofs.SoundSays.{sound-says, says-sound}
 use Rattle.rules.proofs.RowPasses.{Passed, passed}
 use Rattle.rules.proofs.KeepNearly.{settled, Nearly, RunsIn}
-use Rattle.rules.proofs.KeepChosen.{chosen-sound}
+use Rattle.rules.proofs.KeepChosen.{worked-sound}
 
 -- after its effect the kernel is nearly sound, and with a hold the running task still heads its line
 pub record Keeps (j : State) : Type 0 where
@@ -40,7 +40,7 @@ pub record Keeps (j : State) : Type 0 where
 pub effect-kept : (k : State) (c : Call) (item s : List ℕ) → sound k ≡ true
     → (Sound k → Passed k (asked (k .uses) c) (length s) → Keeps (effect k (asked (k .uses) c)))
     → (Sound k → Passed k (asked (k .uses) c) (length s) → Used (usesAfter (k .uses) (asked (k .uses) c))) → sound (step k c item s .kernel) ≡ true
-unfolding step refusal accepted
+unfolding step refusal accepted after
 effect-kept k c item s e f g = rw e (go (eqb (laterRow k a (length item) (length s)) 0) refl)
   where
     a : Asked
@@ -50,7 +50,7 @@ effect-kept k c item s e f g = rw e (go (eqb (laterRow k a (length item) (length
     go true q =
         let P = passed k a (length item) (length s) (eqb-true _ 0 q) in
         let h = f (sound-says k e) P in
-        says-sound (withUses (chosen (effect k a)) (usesAfter (k .uses) a)) (chosen-sound (effect k a) (h .nearly) (g (sound-says k e) P) (h .runs))
+        says-sound (withUses (chosen (after k a)) (usesAfter (k .uses) a)) (worked-sound (effect k a) (h .nearly) (g (sound-says k e) P) (h .runs))
     go false q = e
 
 -- ── small laws that the calls share

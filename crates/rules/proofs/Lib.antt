@@ -6,6 +6,7 @@ pub mod LineTurns
 pub mod LineMoves
 pub mod SoundLists
 pub mod SoundTables
+pub mod LoanRule
 pub mod SoundLevels
 pub mod SoundListing
 pub mod SoundClock
@@ -20,6 +21,7 @@ pub mod KeepObject
 pub mod KeepChosen
 pub mod KeepHeads
 pub mod KeepBlocks
+pub mod LoanWorks
 pub mod Keeps
 pub mod KeepTasks
 pub mod TickJumps
@@ -29,6 +31,7 @@ pub mod KeepMutexes
 pub mod KeepQueues
 pub mod KeepUses
 pub mod KeepTaken
+pub mod LoanStill
 pub mod Begun
 pub mod BegunCalls
 pub mod BegunPairs

@@ -16,6 +16,7 @@ use Rattle.rules.specs.Types.{TaskSlot, Task, AllReady, State}
 use Rattle.rules.specs.Lines.{line, those, level, highest}
 use Rattle.rules.specs.Occupied.{linesOf}
 use Rattle.rules.specs.Sound.{sound}
+use Rattle.rules.proofs.LoanRule.{level-range}
 use Rattle.rules.proofs.SoundSays.{sound-says}
 
 -- the highest is the largest level
@@ -44,4 +45,4 @@ module _ (k : State) where
   pub count-highest : sound k ≡ true → top (linesOf k .word) ≡ highestLine
   unfolding linesOf those
   count-highest e =
-      top-largest ready (level (k .tasks)) (listed (k .order)) (λ t r. omega (arith, sound-says k e .levels t .range)) ∙ largest-highest (k .tasks) _
+      top-largest ready (level (k .tasks)) (listed (k .order)) (λ t r. let S = sound-says k e in omega (arith, level-range (k .tasks) (k .objects) (S .tables .task-slots) (S .levels) t)) ∙ largest-highest (k .tasks) _

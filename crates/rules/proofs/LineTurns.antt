@@ -27,7 +27,7 @@ use Rattle.rules.specs.Lines.{line, those, begun, level, highest, first,
 use Rattle.rules.specs.Sound.{noHigher}
 use Rattle.rules.specs.Waits.{later, arrives}
 use Rattle.rules.specs.Sentences.{Running, Unheld}
-use Rattle.rules.specs.Ticks.{wokenIfDue, wakes, oneTick, turned, turnedIf, turnings}
+use Rattle.rules.specs.Ticks.{wokenIfDue, wakes, oneTick, turned, turnedIf, turnings, countedOn}
 use Rattle.rules.proofs.TableSlots.{is-ready}
 use Rattle.rules.proofs.LineLeads.{first-heads-highest, no-higher-by}
 use Rattle.rules.proofs.LineMoves.{other-tail}
@@ -37,11 +37,12 @@ use Rattle.rules.proofs.Keeps.{ready-low, apart}
 use Rattle.rules.proofs.KeepNearly.{RunsIn}
 use Rattle.rules.proofs.KeepHeads.{runs-tail}
 use Rattle.rules.proofs.KeepChosen.{nearly-sound, above-highest}
-use Rattle.rules.proofs.KeepTicks.{fresh-used, one-tick, unheld-nearly, turn-unheld}
+use Rattle.rules.proofs.KeepTicks.{fresh-used, one-tick, unheld-nearly, turn-unheld, counted}
 use Rattle.rules.proofs.TickJumps.{passed-over}
 use Rattle.rules.proofs.Begun.{RoomyIn}
 use Rattle.rules.proofs.BegunCalls.{woken-fades}
 use Rattle.rules.proofs.BegunPairs.{woken-last}
+use Rattle.rules.proofs.LoanWorks.{worked-runs}
 
 -- ── choose finds whoever stands where the running task is to stand
 module _ (k : State) (t : TaskSlot) (R : Running (k .tasks) (listed (k .order)) t 0) where
@@ -260,11 +261,11 @@ wakes-run (t ∷ l) k R S = wakes-run l (wokenIfDue k t) (woken-fades k R t .roo
 
 -- so where nobody outranks it the line may be turned
 pub tick-still : (k : State) → Unheld k → noHigher (oneTick k .tasks) (level (oneTick k .tasks) (oneTick k .running)) (listed (oneTick k .order)) ≡ true → Unheld (oneTick k)
-unfolding oneTick wakes
+unfolding oneTick countedOn wakes
 tick-still k U e =
     let j = oneTick k in
     let T = one-tick k (unheld-nearly k U) in
     let R : RoomyIn k = record { many = U .sound .tables .task-slots; room = room k U } in
-    let S : RunsIn j = wakes-run (begun (k .tasks) (listed (k .order))) (withTick k (later (k .tick) 1)) R (U .sound .running .runs) in
+    let S : RunsIn (countedOn k) = wakes-run (begun (k .tasks) (listed (k .order))) (withTick k (later (k .tick) 1)) R (U .sound .running .runs) in
     let z = T .after .hold ∙ U .free in
-    record { sound = nearly-sound j (T .nearly) (rw z (highest-runs (j .tasks) (listed (j .order)) (j .running) S e)) fresh-used; free = z }
+    record { sound = nearly-sound j (T .nearly) (T .reckoned) (rw z (highest-runs (j .tasks) (listed (j .order)) (j .running) (worked-runs (countedOn k) (counted k (unheld-nearly k U)) S) e)) fresh-used; free = z }

@@ -52,7 +52,7 @@ pub says-sound : (k : State) → Sound k → sound k ≡ true
 says-sound k S =
     tested-sound k record {
       tables = says-tables (k .tasks) (k .objects) (S .tables);
-      levels = says-levels (k .tasks) (k .objects) (S .levels);
+      levels = says-levels (k .tasks) (k .objects) (S .tables .task-slots) (S .levels);
       listing = says-listing (k .tasks) (k .order) (S .tables .task-slots) (S .listing);
       clock = says-clock (k .tasks) (k .tick) (k .hold) (k .pended) (S .clock);
       runs = says-runs (k .tasks) (listed (k .order)) (k .running) (k .hold) (S .running);

@@ -19,7 +19,9 @@ use Rattle.rules.specs.Tables.{withTick}
 use Rattle.rules.specs.Lines.{begun, level, first, runsIf, chosen, toTail}
 use Rattle.rules.specs.Sound.{noHigher}
 use Rattle.rules.specs.Waits.{later}
-use Rattle.rules.specs.Ticks.{wokenIfDue, wakes, oneTick, untilDue, turned, turnedIf, turnings, ticks}
+use Rattle.rules.specs.Loans.{workedOut, Reckoned}
+use Rattle.rules.specs.Ticks.{wokenIfDue, wakes, countedOn, oneTick, untilDue, turned, turnedIf, turnings, ticks}
+use Rattle.rules.proofs.LoanWorks.{worked-still}
 
 -- ── one task: it is not due before its wake tick
 before-wake : (now w d i : ℕ) → now ≤ 4294967295 → d ≤ ahead now w → i < d → eqb w (later now (suc i)) ≡ false
@@ -44,9 +46,10 @@ unfolding wakes foldl
 none-woken k f [] = refl
 none-woken k f (t ∷ l) = ap (λ (j : State). foldl wokenIfDue j l) (passed-over k t (f t)) ∙ none-woken k f l
 
--- within the next d ticks nobody is due
+-- within the next d ticks nobody is due, and each effective priority is the rule's
 pub record NobodyDue (d : ℕ) (k : State) : Type 0 where
   pub counts : k .tick ≤ 4294967295
+  pub reckoned : Reckoned (k .tasks) (k .objects)
   pub away : (t : TaskSlot) → d ≤ away (k .tick) (taskAt (k .tasks) t .place)
 
 pub later-more : (now a b : ℕ) → later (later now a) b ≡ later now (a + b)
@@ -86,6 +89,10 @@ module _ (k : State) where
       go : (b : Bool) → OnlyTurned k (if b then toTail k (k .running) else k)
       go true = record { tasks = refl; objects = refl; tick = refl; hold = refl; uses = refl }
       go false = record { tasks = refl; objects = refl; tick = refl; hold = refl; uses = refl }
+
+-- so each effective priority is what it was, and the rule's if it was
+pub only-reckoned : {k j : State} → OnlyTurned k j → Reckoned (k .tasks) (k .objects) → Reckoned (j .tasks) (j .objects)
+only-reckoned o R = rw (o .tasks, o .objects) R
 
 pub turn-only : (b : Bool) (k : State) → OnlyTurned k (turnedIf b k)
 turn-only true k =
@@ -132,21 +139,24 @@ no-turnings zero k = refl
 no-turnings (suc n) k = no-turnings n k
 
 -- ── "nobody is due: only the count and the turn change"
+pub quiet-tick : (k : State) → ((t : TaskSlot) → wakesAt (later (k .tick) 1) (taskAt (k .tasks) t .place) ≡ false) → Reckoned (k .tasks) (k .objects) → oneTick k ≡ withTick k (later (k .tick) 1)
+unfolding oneTick countedOn
+quiet-tick k f R =
+    ap workedOut (none-woken (withTick k (later (k .tick) 1)) f (begun (k .tasks) (listed (k .order)))) ∙ worked-still (withTick k (later (k .tick) 1)) R
+
 pub jump : (b : Bool) (d n : ℕ) (k : State) → NobodyDue d k → n ≤ d → ticks b n k ≡ withTick (turnings b n k) (later (k .tick) n)
-unfolding ticks upTo oneTick
+unfolding ticks upTo
 jump b d zero k Q h = let e : k .tick ≡ later (k .tick) 0 = omega (arith, Q .counts) in ap (withTick k) e
 jump b d (suc n) k Q h =
     ap (λ (j : State). turnedIf b (oneTick j)) (jump b d n k Q (omega arith))
-    ∙ ap (turnedIf b)
-    (ap (λ (m : ℕ). wakes (withTick j m) (begun (j .tasks) (listed (j .order)))) (later-more (k .tick) n 1 ∙ ap (later (k .tick)) one)
-    ∙ none-woken (withTick j (later (k .tick) (suc n))) not-due (begun (j .tasks) (listed (j .order))))
+    ∙ ap (turnedIf b) (quiet-tick (withTick j (later (k .tick) n)) (λ t. rw counts-on (not-due t)) (only-reckoned (turnings-only b n k) (Q .reckoned)) ∙ ap (withTick j) counts-on)
     ∙ turn-at b j (later (k .tick) (suc n))
   where
     j : State
     j = turnings b n k
 
-    one : n + 1 ≡ suc n
-    one = omega arith
+    counts-on : later (later (k .tick) n) 1 ≡ later (k .tick) (suc n)
+    counts-on = later-more (k .tick) n 1 ∙ ap (later (k .tick)) (omega arith)
 
     not-due : (t : TaskSlot) → wakesAt (later (k .tick) (suc n)) (taskAt (j .tasks) t .place) ≡ false
     not-due t = rw (turnings-only b n k .tasks) (not-yet (k .tick) d n (taskAt (k .tasks) t .place) (Q .counts) (Q .away t) (omega arith))
@@ -168,19 +178,19 @@ least-each now [] b h i = omega arith
 least-each now (x ∷ ts) b h zero = omega (arith, least-kept now ts (min b (away now (x .place))))
 least-each now (x ∷ ts) b h (suc i) = least-each now ts (min b (away now (x .place))) (omega arith) i
 
-pub until-quiet : (k : State) → k .tick ≤ 4294967295 → NobodyDue (untilDue (k .tick) (k .tasks)) k
+pub until-quiet : (k : State) → k .tick ≤ 4294967295 → Reckoned (k .tasks) (k .objects) → NobodyDue (untilDue (k .tick) (k .tasks)) k
 unfolding untilDue taskAt
-until-quiet k h = record { counts = h; away = λ t. least-each (k .tick) (k .tasks) 4294967295 (omega arith) (t .0) }
+until-quiet k h R = record { counts = h; reckoned = R; away = λ t. least-each (k .tick) (k .tasks) 4294967295 (omega arith) (t .0) }
 
 -- ── the code's rounds
 -- nobody is due within those left
-pub jump-all : (b : Bool) (k : State) (d n : ℕ) → k .tick ≤ 4294967295 → d ≡ untilDue (k .tick) (k .tasks) → n ≤ d → withTick (turnings b n k) (later (k .tick) n) ≡ ticks b n k
-jump-all b k d n h e l = sym (jump b (untilDue (k .tick) (k .tasks)) n k (until-quiet k h) (omega arith))
+pub jump-all : (b : Bool) (k : State) (d n : ℕ) → k .tick ≤ 4294967295 → Reckoned (k .tasks) (k .objects) → d ≡ untilDue (k .tick) (k .tasks) → n ≤ d → withTick (turnings b n k) (later (k .tick) n) ≡ ticks b n k
+jump-all b k d n h R e l = sym (jump b (untilDue (k .tick) (k .tasks)) n k (until-quiet k h R) (omega arith))
 
 -- a jump, and then a tick on which somebody may be due
-pub jump-tick : (b : Bool) (k next : State) (d n m : ℕ) → k .tick ≤ 4294967295 → d ≡ untilDue (k .tick) (k .tasks) → n ≡ d + 1 + m
+pub jump-tick : (b : Bool) (k next : State) (d n m : ℕ) → k .tick ≤ 4294967295 → Reckoned (k .tasks) (k .objects) → d ≡ untilDue (k .tick) (k .tasks) → n ≡ d + 1 + m
     → next ≡ turnedIf b (oneTick (withTick (turnings b d k) (later (k .tick) d))) → ticks b m next ≡ ticks b n k
 unfolding ticks upTo
-jump-tick b k next d n m h e q r =
-    let j : ticks b d k ≡ withTick (turnings b d k) (later (k .tick) d) = jump b (untilDue (k .tick) (k .tasks)) d k (until-quiet k h) (omega arith) in
+jump-tick b k next d n m h R e q r =
+    let j : ticks b d k ≡ withTick (turnings b d k) (later (k .tick) d) = jump b (untilDue (k .tick) (k .tasks)) d k (until-quiet k h R) (omega arith) in
     ap (ticks b m) (r ∙ ap (λ (i : State). turnedIf b (oneTick i)) (sym j)) ∙ sym (ticks-more b (suc d) m n k (omega arith))

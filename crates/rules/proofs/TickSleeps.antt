@@ -12,54 +12,34 @@ use Rattle.lists.specs.Choice.{if_then_else_}
 use Rattle.lists.specs.Lists.{foldl, upTo}
 use Rattle.lists.proofs.Bools.{off, and-right}
 use Rattle.numbers.specs.Numbers.{task}
-use Rattle.order.specs.Order.{listed}
-use Rattle.slots.specs.Places.{wakesAt, outcomeDue, away}
-use Rattle.slots.specs.Values.{freeTask, placed, taskAt}
+use Rattle.slots.specs.Places.{wakesAt, away}
+use Rattle.slots.specs.Values.{freeTask, taskAt}
 use Rattle.slots.specs.SoundSlots.{wakesInRange, notDue}
 use Rattle.rules.specs.Types.{TaskSlot, Never, At, Place, Free, Ready, Delayed, Waiting, Suspended, Spent, Task, State}
-use Rattle.rules.specs.Tables.{withTick}
-use Rattle.rules.specs.Lines.{begun, toTail}
+use Rattle.rules.specs.Tables.{withUses}
 use Rattle.rules.specs.Sentences.{WakeFits, Unheld}
-use Rattle.rules.specs.Waits.{later, arrives}
-use Rattle.rules.specs.Ticks.{wokenIfDue, wakes, SomeoneWakes, oneTick, untilDue, turnedIf, ticks}
-use Rattle.rules.proofs.KeepTaken.{each-task}
-use Rattle.rules.proofs.TickJumps.{turn-only, turnings-only, none-woken, later-more, least-kept, until-quiet, jump}
-use Rattle.rules.proofs.KeepTicks.{one-tick, unheld-nearly, ticks-unheld}
+use Rattle.rules.specs.Waits.{later}
+use Rattle.rules.specs.Ticks.{wakes, SomeoneWakes, oneTick, untilDue, turnedIf, ticks, countedOn}
+use Rattle.rules.specs.Loans.{Reckoned}
+use Rattle.rules.proofs.TickJumps.{turn-only, turnings-only, later-more, least-kept, until-quiet, jump, quiet-tick}
+use Rattle.rules.proofs.KeepTicks.{one-tick, unheld-nearly, ticks-unheld, count-woke}
 use Rattle.rules.proofs.BegunCalls.{due-blocked}
+use Rattle.rules.proofs.LoanWorks.{worked-same, worked-place}
+use Rattle.rules.proofs.KeepChosen.{sound-reckoned}
+use Rattle.calls.specs.Door.{freshUses}
 
--- ── what a tick's wakes leave: the count and the uses; and a task is as it was, or ready
+-- ── what a tick leaves: the count that comes next and the uses; and a task is as it was, or ready
 pub record Woken (k j : State) : Type 0 where
-  pub tick : j .tick ≡ k .tick
+  pub tick : j .tick ≡ later (k .tick) 1
   pub uses : j .uses ≡ k .uses
   pub either : (t : TaskSlot) → (taskAt (j .tasks) t .place ≡ taskAt (k .tasks) t .place) ⊎ (taskAt (j .tasks) t .place ≡ Ready)
 
-one-woken : (k : State) (t : TaskSlot) → Woken k (wokenIfDue k t)
-unfolding wokenIfDue arrives toTail
-one-woken k t = go (wakesAt (k .tick) (taskAt (k .tasks) t .place))
-  where
-    x : Task
-    x = placed (taskAt (k .tasks) t) Ready (outcomeDue (taskAt (k .tasks) t .place))
-
-    go : (b : Bool) → Woken k (if b then arrives k t Ready (outcomeDue (taskAt (k .tasks) t .place)) else k)
-    go true = record { tick = refl; uses = refl; either = each-task (k .tasks) t x (λ u y. (y .place ≡ taskAt (k .tasks) u .place) ⊎ (y .place ≡ Ready)) (inr refl) (λ u. inl refl) }
-    go false = record { tick = refl; uses = refl; either = λ u. inl refl }
-
-all-woken : (l : List TaskSlot) (k : State) → Woken k (foldl wokenIfDue k l)
-unfolding foldl
-all-woken [] k = record { tick = refl; uses = refl; either = λ t. inl refl }
-all-woken (u ∷ l) k =
-    let a = one-woken k u in
-    let b = all-woken l (wokenIfDue k u) in
-    record { tick = b .tick ∙ a .tick; uses = b .uses ∙ a .uses; either = λ t. then-either (b .either t) (a .either t) }
-  where
-    then-either : {p q r : Place} → (r ≡ q) ⊎ (r ≡ Ready) → (q ≡ p) ⊎ (q ≡ Ready) → (r ≡ p) ⊎ (r ≡ Ready)
-    then-either (inl e) (inl f) = inl (e ∙ f)
-    then-either (inl e) (inr f) = inr (e ∙ f)
-    then-either (inr e) f = inr e
-
-pub tick-woken : (k : State) → Woken (withTick k (later (k .tick) 1)) (oneTick k)
-unfolding oneTick wakes
-tick-woken k = all-woken (begun (k .tasks) (listed (k .order))) (withTick k (later (k .tick) 1))
+pub tick-woken : (k : State) → Woken k (oneTick k)
+unfolding oneTick
+tick-woken k =
+    let a = count-woke k in
+    let s = worked-same (countedOn k) in
+    record { tick = s .tick ∙ a .tick; uses = s .uses ∙ a .uses; either = λ t. rw (worked-place (countedOn k) t) (a .either t) }
 
 -- n ticks leave the uses, and who was ready
 pub ticks-uses : (b : Bool) (n : ℕ) (k : State) → ticks b n k .uses ≡ k .uses
@@ -79,21 +59,24 @@ ticks-ready b (suc n) k t e =
     go (inr f) g = f
 
 -- ── nobody is due
-module _ (b : Bool) (k : State) where
+module _ (b : Bool) (k : State) (R : Reckoned (k .tasks) (k .objects)) where
   -- within so many ticks
   pub none-sooner : (n : ℕ) → k .tick ≤ 4294967295 → n ≤ untilDue (k .tick) (k .tasks) → ticks b n k .tasks ≡ k .tasks
-  none-sooner n h l = ap (λ (j : State). j .tasks) (jump b (untilDue (k .tick) (k .tasks)) n k (until-quiet k h) l) ∙ turnings-only b n k .tasks
+  none-sooner n h l = ap (λ (j : State). j .tasks) (jump b (untilDue (k .tick) (k .tasks)) n k (until-quiet k h R) l) ∙ turnings-only b n k .tasks
 
   -- ever
-  pub none-ever : ((m : ℕ) (t : TaskSlot) → wakesAt m (taskAt (k .tasks) t .place) ≡ false) → (n : ℕ) → ticks b n k .tasks ≡ k .tasks
-  unfolding ticks upTo oneTick
-  none-ever f zero = refl
-  none-ever f (suc n) =
+  ever : ((m : ℕ) (t : TaskSlot) → wakesAt m (taskAt (k .tasks) t .place) ≡ false) → (n : ℕ) → (ticks b n k .tasks ≡ k .tasks) × (ticks b n k .objects ≡ k .objects)
+  unfolding ticks upTo
+  ever f zero = (refl, refl)
+  ever f (suc n) =
       let j = ticks b n k in
-      let same = none-ever f n in
+      let same = ever f n in
       let m = later (j .tick) 1 in
-      turn-only b (oneTick j) .tasks
-      ∙ ap (λ (i : State). i .tasks) (none-woken (withTick j m) (λ t. ap (λ (ts : List Task). wakesAt m (taskAt ts t .place)) same ∙ f m t) (begun (j .tasks) (listed (j .order)))) ∙ same
+      let q = quiet-tick j (λ t. ap (λ (ts : List Task). wakesAt m (taskAt ts t .place)) (same .0) ∙ f m t) (rw (same .0, same .1) R) in
+      (turn-only b (oneTick j) .tasks ∙ ap (λ (i : State). i .tasks) q ∙ same .0, turn-only b (oneTick j) .objects ∙ ap (λ (i : State). i .objects) q ∙ same .1)
+
+  pub none-ever : ((m : ℕ) (t : TaskSlot) → wakesAt m (taskAt (k .tasks) t .place) ≡ false) → (n : ℕ) → ticks b n k .tasks ≡ k .tasks
+  none-ever f n = ever f n .0
 
 -- who is not due within 4,294,967,295 ticks has no wake tick, since that is not the count
 pub never-due : (now m : ℕ) (p : Place) → now ≤ 4294967295 → WakeFits now p → 4294967295 ≤ away now p → wakesAt m p ≡ false
@@ -139,6 +122,9 @@ module _ (k : State) (U : Unheld k) where
   small : k .tick ≤ 4294967295
   small = U .sound .clock .counts .tick-range
 
+  reckoned : Reckoned (k .tasks) (k .objects)
+  reckoned = sound-reckoned (withUses k freshUses) (U .sound)
+
   pub someone-then : until < 4294967295 → SomeoneWakes k (ticks true (suc until) k)
   unfolding ticks upTo untilDue taskAt
   someone-then h =
@@ -151,11 +137,11 @@ module _ (k : State) (U : Unheld k) where
       j = ticks true until k
 
       same : j .tasks ≡ k .tasks
-      same = none-sooner true k until small (omega arith)
+      same = none-sooner true k reckoned until small (omega arith)
 
       counts-to : oneTick j .tick ≡ later (k .tick) (until + 1)
       counts-to =
-          tick-woken j .tick ∙ ap (λ (i : State). later (i .tick) 1) (jump true until until k (until-quiet k small) (omega arith)) ∙ later-more (k .tick) until 1
+          tick-woken j .tick ∙ ap (λ (i : State). later (i .tick) 1) (jump true until until k (until-quiet k small reckoned) (omega arith)) ∙ later-more (k .tick) until 1
 
       now-ready : (t : TaskSlot) → wakesAt (later (k .tick) (until + 1)) (taskAt (k .tasks) t .place) ≡ true → taskAt (turnedIf true (oneTick j) .tasks) t .place ≡ Ready
       now-ready t d = ap (λ (ts : List Task). taskAt ts t .place) (turn-only true (oneTick j) .tasks) ∙ go (tick-woken j .either t)

@@ -1,4 +1,4 @@
--- "No. | Call | Effect": what each accepted call does to the kernel, before choose.
+-- "No. | Call | Effect": what each accepted call does to the kernel, before the effective priorities are worked out and before choose.
 use Prim.Native.Nat.{ℕ}
 use mathlib.Core.Bool.{Bool}
 use mathlib.Core.List.{List, [], _∷_}
@@ -13,7 +13,7 @@ use Rattle.rules.specs.Tables.{freeSlot, freeObject, withTask, withObjec
 use Rattle.rows.specs.Asking.{is}
 use Rattle.rules.specs.Lines.{first, toTail, leaves}
 use Rattle.rules.specs.Waits.{later, arrives, waitFor}
-use Rattle.rules.specs.Loans.{newPriority, lent, ownAgain}
+use Rattle.rules.specs.Loans.{newPriority}
 use Rattle.rules.specs.Ticks.{ticked, held, released, advanced}
 use Rattle.rules.specs.Queues.{sentTo, receivedFrom}
 
@@ -54,27 +54,24 @@ mutexMade k = withObject k (object (freeObject (k .objects))) (Mutex Nobody)
 unfoldable pub removed : State → ObjSlot → Bool → State
 removed k o last = withObject k o (if last then SpentObject else Unused)
 
--- 15: "A free mutex becomes the caller's. Held by another: the caller waits, and the holder's effective priority becomes the larger of the two effective ones."
+-- 15: "A free mutex becomes the caller's. Held by another: the caller waits"
 abbrev pub takenFrom : State → ObjSlot → Kind → ℕ → State
 takenFrom k o Unused w = k
 takenFrom k o SpentObject w = k
 takenFrom k o (Queue q) w = k
 takenFrom k o (Mutex Nobody) w = withObject k o (Mutex (By (k .running)))
-takenFrom k o (Mutex (By h)) w = waitFor (lent k h) o w
+takenFrom k o (Mutex (By h)) w = waitFor k o w
 
 unfoldable pub taken : State → ObjSlot → ℕ → State
 taken k o w = takenFrom k o (kindAt (k .objects) o) w
 
--- 16: "The first waiter becomes holder and is made ready, outcome 1; with none, the mutex is free. A giver now holding none gets its own priority back."
+-- 16: "The first waiter becomes holder and is made ready, outcome 1; with none, the mutex is free."
 abbrev pub handedTo : State → ObjSlot → List TaskSlot → State
 handedTo k o [] = withObject k o (Mutex Nobody)
 handedTo k o (t ∷ l) = withObject (arrives k t Ready 1) o (Mutex (By t))
 
-unfoldable pub handedOn : State → ObjSlot → State
-handedOn k o = handedTo k o (first k (WaitersOf o))
-
 unfoldable pub given : State → ObjSlot → State
-given k o = ownAgain (handedOn k o) (k .running)
+given k o = handedTo k o (first k (WaitersOf o))
 
 -- the whole table, by the call's number; no other number is a call's
 unfoldable pub effect : State → Asked → State

@@ -77,16 +77,24 @@ pub record Tables (ts : List Task) (os : List Object) : Type 0 where
   pub queue-range : (o : ObjSlot) (q : Ring) → kindAt os o ≡ Queue q → RingFits q
 
 -- ── the priorities
--- of a task, where `nothing` says that it holds nothing
-pub record LevelFits (nothing : Type 0) (own effective : ℕ) : Type 0 where
-  -- "effective is at least own, and equal to it for a task that holds nothing"
-  pub at-least : own ≤ effective
-  pub equal : nothing → own ≡ effective
-  -- "Priorities 0 to 31"
-  pub range : effective ≤ 31
+-- s is t, or waits "directly or along a chain of holders, on a mutex" that t holds: over any number of links
+pub data Reaches (ts : List Task) (os : List Object) : TaskSlot → TaskSlot → Type 0 where
+  itself : {t : TaskSlot} → Reaches ts os t t
+  along : {s h t : TaskSlot} (o : ObjSlot) (w : Wake) → taskAt ts s .place ≡ Waiting o w → Holds os h o → Reaches ts os h t → Reaches ts os s t
 
-abbrev pub Levels : List Task → List Object → Type 0
-Levels ts os = (t : TaskSlot) → LevelFits (HoldsNothing os t) (taskAt ts t .own) (level ts t)
+-- p is "the largest own priority among itself and all tasks that wait, directly or along a chain of holders, on a mutex it holds"
+pub record LargestOwn (ts : List Task) (os : List Object) (t : TaskSlot) (p : ℕ) : Type 0 where
+  pub at-least : (s : TaskSlot) → Reaches ts os s t → taskAt ts s .own ≤ p
+  pub whose : TaskSlot
+  pub reaches : Reaches ts os whose t
+  pub own : taskAt ts whose .own ≡ p
+
+-- of each slot
+pub record Levels (ts : List Task) (os : List Object) : Type 0 where
+  -- "a task's effective priority is the largest own priority .."
+  pub rule : (t : TaskSlot) → t .0 < 16 → LargestOwn ts os t (level ts t)
+  -- "Priorities 0 to 31": the own ones, and so the effective ones
+  pub range : (t : TaskSlot) → taskAt ts t .own ≤ 31
 
 -- ── the listing: the order and the tasks
 -- no sentence of the documents, but our kernel value's own: one order carries the lines, the lists and the order of those who wait; nobody else stands in it, and it

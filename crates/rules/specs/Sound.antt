@@ -4,7 +4,7 @@ use Prim.Native.Nat.{ℕ}
 use mathlib.Core.Bool.{Bool, false, not, _&&_, _||_}
 use mathlib.Core.List.{List, [], _∷_}
 use lib.Dec.{eqb, ltb, leb}
-use lib.ListN.{length}
+use lib.ListN.{length, getD}
 use Rattle.lists.specs.Lists.{every, allBelow, kept, isNone}
 use Rattle.numbers.specs.Numbers.{task, object, idle, sameTask}
 use Rattle.calls.specs.Door.{usesFine}
@@ -17,6 +17,7 @@ use Rattle.slots.specs.SoundSlots.{idleFine, standsFine, remembersFine, ordersF
 use Rattle.rules.specs.Types.{TaskSlot, Order, Task, Object, Kind, State}
 use Rattle.rules.specs.Tables.{holds}
 use Rattle.rules.specs.Lines.{line, level}
+use Rattle.rules.specs.Loans.{ruled}
 
 -- the task and the object of a slot
 abbrev pub slotTask : List Task → ℕ → Task
@@ -57,9 +58,9 @@ tablesFine ts os =
     sixteen ts os ∷ idleFine (slotTask ts 0) ∷ waitersFine ts os ∷ not (holds os idle) ∷ holdersThere ts os ∷ ringsInRange os
     ∷ outcomesFine ts ∷ freshSlots ts ∷ [])
 
--- ── the priorities: "effective is at least own, and equal to it for a task that holds nothing"; "Priorities 0 to 31"
+-- ── the priorities: "Priorities 0 to 31"; effective is what the rule says
 unfoldable pub levelsFine : List Task → List Object → Bool
-levelsFine ts os = allBelow 16 (λ n. prioritiesFine (holds os (task n)) (slotTask ts n))
+levelsFine ts os = let ls = ruled ts os in allBelow 16 (λ n. prioritiesFine (slotTask ts n) && eqb (slotTask ts n .effective) (getD ls n 0))
 
 -- ── the listing: the order and the tasks
 -- "each ready task stands once in the line of its effective priority and nobody else stands in a line"; "each object lists its waiters once, in order of arrival, and no one else"

@@ -1,5 +1,6 @@
 -- A step: a state, a call, the item lent with it and the lent store give the next state, the answer and the store afterwards.
 use Prim.Native.Nat.{ℕ}
+use mathlib.Core.Bool.{Bool, _||_}
 use mathlib.Core.List.{List}
 use lib.Dec.{eqb}
 use lib.ListN.{length}
@@ -14,6 +15,7 @@ use Rattle.slots.specs.Values.{taskAt}
 use Rattle.slots.specs.Kinds.{kindAt}
 use Rattle.rules.specs.Tables.{withUses}
 use Rattle.rules.specs.Lines.{chosen}
+use Rattle.rules.specs.Loans.{workedOut}
 use Rattle.rules.specs.Queues.{storeSentTo, storeReceivedFrom}
 use Rattle.rows.specs.Asking.{is, makes}
 use Rattle.rules.specs.Refusals.{newSlot}
@@ -47,12 +49,21 @@ pub record Stepped : Type 0 where
 unfoldable pub usesAfter : Uses → Asked → Uses
 usesAfter us a = if is 2 a then withoutTask us (a .task) else if is 12 a then withoutObject us (a .object) else us
 
+-- the calls that may change an own priority, a holder or a wait on a mutex: delete, suspend, set priority, take and give. After any other call's effect the effective
+-- priorities are the rule's already (each tick has worked them out after its wakes)
+unfoldable pub mayLend : Asked → Bool
+mayLend a = is 2 a || (is 3 a || (is 5 a || (is 15 a || is 16 a)))
+
+-- what a call does, with the effective priorities "worked out afresh before choose"
+unfoldable pub after : State → Asked → State
+after k a = workedOut (effect k a)
+
 -- "Every accepted call ends with choose."
 unfoldable pub accepted : State → Asked → List ℕ → List ℕ → Stepped
 accepted k a item s =
     record {
-      kernel = withUses (chosen (effect k a)) (usesAfter (k .uses) a);
-      answer = answered k a (chosen (effect k a));
+      kernel = withUses (chosen (after k a)) (usesAfter (k .uses) a);
+      answer = answered k a (chosen (after k a));
       store = stored k a item s;
     }
 

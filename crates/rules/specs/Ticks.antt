@@ -14,6 +14,7 @@ use Rattle.rules.specs.Tables.{withTick, withHold}
 use Rattle.rules.specs.Lines.{hasBegun, begun, level, chosen, toTail}
 use Rattle.rules.specs.Sound.{noHigher, sound}
 use Rattle.rules.specs.Waits.{later, arrives}
+use Rattle.rules.specs.Loans.{workedOut}
 
 -- the task t, made ready if it is due
 unfoldable pub wokenIfDue : State → TaskSlot → State
@@ -41,8 +42,12 @@ pub record SomeoneWakes (k j : State) : Type 0 where
   pub ready : taskAt (j .tasks) who .place ≡ Ready
 
 -- "the count goes up, then the due tasks are made ready"; "make ready first whoever began its delay or wait earlier"
+unfoldable pub countedOn : State → State
+countedOn k = wakes (withTick k (later (k .tick) 1)) (begun (k .tasks) (listed (k .order)))
+
+-- "It is worked out afresh .. after each tick's wakes": whoever is woken joins the line of the effective priority that it had, and moves with the others
 unfoldable pub oneTick : State → State
-oneTick k = wakes (withTick k (later (k .tick) 1)) (begun (k .tasks) (listed (k .order)))
+oneTick k = workedOut (countedOn k)
 
 -- how many ticks pass before the one on which a task is next due; 4,294,967,295 where none has a wake tick
 unfoldable pub untilDue : ℕ → List Task → ℕ

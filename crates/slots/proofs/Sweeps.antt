@@ -5,11 +5,12 @@ use mathlib.Core.Bool.{Bool, true, false, _||_}
 use mathlib.Core.List.{List, [], _∷_, map}
 use native.Mathlib.Omega.{arith}
 use lib.Dec.{eqb}
-use lib.ListN.{length, getD, set, drop, drop-of-length-le}
-use lib.Seq.{drop-cons}
+use lib.ListN.{length, getD, set, drop, length-set, drop-of-length-le}
+use lib.Seq.{drop-cons, getD-set-same, getD-set-other, ext-getD}
 use borrow.Author.Tests.{eqb-true, eqb-false}
 use Rattle.lists.specs.Choice.{if_then_else_}
 use Rattle.lists.specs.Lists.{foldl, index, any, upTo, values}
+use Rattle.lists.proofs.Loops.{values-many, value-at}
 
 -- a store to a list, seen through a function of its elements
 pub map-set : {A B : Type 0} (f : A → B) (xs : List A) (n : ℕ) (x : A) → set (map f xs) n (f x) ≡ map f (set xs n x)
@@ -17,18 +18,7 @@ map-set f [] n x = refl
 map-set f (y ∷ ys) zero x = refl
 map-set {B = B} f (y ∷ ys) (suc n) x = ap (λ (zs : List B). f y ∷ zs) (map-set f ys n x)
 
--- the rows that are read at 0, 1, ..: how many, each of them, and those of a list
-pub values-many : {A : Type 0} (f : ℕ → A) (n : ℕ) → length (values f n) ≡ n
-unfolding values
-values-many f zero = refl
-values-many f (suc n) = ap suc (values-many (λ i. f (suc i)) n)
-
-pub value-at : {A : Type 0} (f : ℕ → A) (n i : ℕ) (d : A) → i < n → getD (values f n) i d ≡ f i
-unfolding values
-value-at f zero i d h = absurd (omega arith)
-value-at f (suc n) zero d h = refl
-value-at f (suc n) (suc i) d h = value-at (λ j. f (suc j)) n i d (omega arith)
-
+-- the rows that are read at 0, 1, .. of a list
 pub values-of : {A : Type 0} (f : ℕ → A) (xs : List A) (d : A) → ((i : ℕ) → f i ≡ getD xs i d) → values f (length xs) ≡ xs
 unfolding values
 values-of f [] d e = refl
@@ -93,3 +83,27 @@ none-counted p (suc n) e i l = go (eqb i n) refl (p n) refl (none-counted p n (o
     go true q true r ih = absurd (omega (arith, rw r at e))
     go true q false r ih = rw (eqb-true i n q) r
     go false q d r ih = ih (omega (arith, eqb-false i n q))
+
+-- a loop that fills a column of sixteen has filled those below i
+pub record Filled {A : Type 0} (f : ℕ → A) (d : A) (out : List A) (i : ℕ) : Type 0 where
+  pub wide : length out ≡ 16
+  pub filled : (n : ℕ) → n < i → getD out n d ≡ f n
+
+module _ {A : Type 0} {f : ℕ → A} {d : A} where
+  pub fill-begin : {out : List A} → length out ≡ 16 → Filled f d out 0
+  fill-begin l = record { wide = l; filled = λ n h. absurd (omega arith) }
+
+  pub fill-turn : {out : List A} {i : ℕ} → Filled f d out i → i < 16 → (v : A) → v ≡ f i → Filled f d (set out i v) (i + 1)
+  fill-turn {out} {i} inv l v e = record { wide = rw length-set (inv .wide); filled = λ n h. go n h (eqb n i) refl }
+    where
+      go : (n : ℕ) → n < i + 1 → (b : Bool) → eqb n i ≡ b → getD (set out i v) n d ≡ f n
+      go n h true q = rw (eqb-true n i q, getD-set-same out i v d (omega (arith, inv .wide))) e
+      go n h false q = getD-set-other out i n v d (eqb-false n i q) ∙ inv .filled n (omega (arith, eqb-false n i q))
+
+  pub fill-each : {out : List A} {i : ℕ} → Filled f d out i → 16 ≤ i → (n : ℕ) → n < 16 → getD out n d ≡ f n
+  fill-each inv h n l = inv .filled n (omega arith)
+
+  -- and has all of them at the end
+  pub fill-values : {out : List A} {i : ℕ} → Filled f d out i → 16 ≤ i → out ≡ values f 16
+  fill-values {out} inv h =
+      ext-getD d out (values f 16) (inv .wide ∙ sym (values-many f 16)) (λ n l. inv .filled n (omega (arith, inv .wide)) ∙ sym (value-at f 16 n d (omega (arith, inv .wide))))

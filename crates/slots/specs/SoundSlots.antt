@@ -42,9 +42,9 @@ waitsFine t os (Waiting o w) = mayWait t (kindAt os o)
 waitsFine t os Suspended = true
 waitsFine t os Spent = true
 
--- "effective is at least own, and equal to it for a task that holds nothing"; "Priorities 0 to 31"
-abbrev pub prioritiesFine : Bool → Task → Bool
-prioritiesFine holds x = leb (x .own) (x .effective) && (leb (x .effective) 31 && (holds || eqb (x .own) (x .effective)))
+-- "Priorities 0 to 31"
+abbrev pub prioritiesFine : Task → Bool
+prioritiesFine x = leb (x .own) 31
 
 -- "holders exist"
 abbrev pub holderThere : List Task → Kind → Bool

@@ -134,9 +134,76 @@ fn nights(start: Kernel, m: u32, times: u32, store: &mut [u8]) -> u32 {
     sum
 }
 
+// By task `i` + 1: it makes and takes the mutex of its own number, and waits for that of task `i`.
+fn link(k: Kernel, i: u32, store: &mut [u8]) -> Kernel {
+    let own = ObjNo::of(std::num::wrapping_add_u32(i, 1));
+    both(k, Call::MakeMutex, Call::Take(own, 0), store).step(
+            Call::Take(ObjNo::of(i), 4294967295),
+            b"",
+            store,
+        )
+        .kernel
+}
+
+fn linked(start: Kernel, n: u32, store: &mut [u8]) -> Kernel {
+    let mut k = start;
+    let mut i = 1u32;
+    while i < n {
+        k = link(k, i, store);
+        i += 1;
+    }
+    k
+}
+
+// One task more, if there is a slot; task 1 takes mutex 1, and task 2 runs.
+fn rooted(start: Kernel, store: &mut [u8]) -> Kernel {
+    both(start, Call::Create(3), Call::Take(ObjNo::of(1), 0), store).step(Call::Yield, b"", store)
+        .kernel
+}
+
+// Task 1 holds mutex 1, each one up to task `n` waits for the one before it, and the task after them, more urgent than they, runs.
+fn chained(start: Kernel, n: u32, store: &mut [u8]) -> Kernel {
+    let last = TaskNo::of(std::num::wrapping_add_u32(n, 1));
+    let k = rooted(start, store);
+    linked(k, n, store)
+        .step(Call::SetPriority(last, 4), b"", store)
+        .kernel
+}
+
+// From there: task 1 waits for the last one.
+fn bent(k: Kernel, n: u32, store: &mut [u8]) -> Kernel {
+    let own = ObjNo::of(std::num::wrapping_add_u32(n, 1));
+    let held = both(k, Call::MakeMutex, Call::Take(own, 0), store);
+    both(held, Call::Delay(1), Call::Take(own, 4294967295), store).step(Call::Tick, b"", store)
+        .kernel
+}
+
+// Links to the last of at most fifteen tasks.
+fn links(m: u32) -> u32 {
+    if m < 14 { m } else { 14 }
+}
+
+// The last task waits for task `n` until the next tick: its loan goes along `n` links.
+fn loans(start: Kernel, m: u32, times: u32, store: &mut [u8]) -> u32 {
+    let n = links(m);
+    let k = chained(start, n, store);
+    same(k, Call::Take(ObjNo::of(n), 1), Call::Tick, times, store)
+}
+
+// The same where task 1 waits for the last one: the loan goes round the circle.
+fn circles(start: Kernel, m: u32, times: u32, store: &mut [u8]) -> u32 {
+    let n = links(m);
+    let k = bent(chained(start, n, store), n, store);
+    same(k, Call::Take(ObjNo::of(n), 1), Call::Tick, times, store)
+}
+
 fn pairs(start: Kernel, pair: u8, m: u32, times: u32, store: &mut [u8]) -> u32 {
     if pair == 110 {
         nights(start, m, times, store)
+    } else if pair == 111 {
+        loans(start, m, times, store)
+    } else if pair == 112 {
+        circles(start, m, times, store)
     } else if lists::both(104 <= pair, pair <= 106) {
         renewed(start, pair, m, times, store)
     } else {
@@ -168,7 +235,7 @@ fn tests(start: Kernel, times: u32) -> u32 {
 fn each(start: Kernel, m: u32, times: u32, store: &mut [u8]) -> u32 {
     let mut sum = tests(start, times);
     let mut pair = 97u8;
-    while pair < 111 {
+    while pair < 113 {
         let one = pairs(start, pair, m, times, store);
         sum = std::num::wrapping_add_u32(sum, one);
         pair += 1;

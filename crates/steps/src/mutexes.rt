@@ -31,7 +31,7 @@ fn kept(p: Parlour) -> Parlour {
     p.creates(4)
 }
 
-// The loan lasts until the giver holds none.
+// The loan ends as soon as its waiter no longer waits, and not before.
 fn given(p: Parlour) {
     let p = p.gives(1);
     let p = p.gives(0);

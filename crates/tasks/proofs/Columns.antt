@@ -6,16 +6,17 @@ use mathlib.Core.List.{List}
 use native.Mathlib.Omega.{arith}
 use lib.ListN.{length, getD, set, length-map, List·getD-map, List·getD-eq-default}
 use lib.Seq.{set-out, map-set-same}
-use Rattle.slots.proofs.Sweeps.{map-set, values-many, value-at, values-of}
+use Rattle.slots.proofs.Sweeps.{map-set, values-of}
+use Rattle.lists.proofs.Loops.{values-many, value-at}
 use Rattle.slots.specs.declared.Wake.the-variants.{Never, At}
 use Rattle.slots.specs.declared.Place.{Place}
 use Rattle.slots.specs.declared.Place.the-variants.{Free, Ready, Delayed, Waiting, Suspended, Spent}
 use Rattle.slots.specs.declared.Task.{Task}
-use Rattle.slots.specs.Values.{freeTask, placed, ranked}
+use Rattle.slots.specs.Values.{freeTask, placed, owned, levelled}
 use Rattle.tasks.specs.declared.Tasks.{Tasks}
 use Rattle.tasks.specs.Numbering.{cellsOf, placeOf}
 use Rattle.tasks.specs.Known.{known, wakeKnown}
-use Rattle.tasks.specs.Columns.{stateOf, objectCell, wakeCell, tasksOf, put, placedAt, rankedAt, rowAt, rowsOf}
+use Rattle.tasks.specs.Columns.{stateOf, objectCell, wakeCell, tasksOf, put, placedAt, ownedAt, levelledAt, rowAt, rowsOf}
 
 -- the numbers of a place say it, and one that it does not use is 0
 pub place-back : (p : Place) → (placeOf (cellsOf p) ≡ p) × ((known (cellsOf p .state) (cellsOf p .object) && wakeKnown (cellsOf p .state) (cellsOf p .wake)) ≡ true)
@@ -43,7 +44,7 @@ put-of xs n x =
     rw (map-set stateOf xs n x, map-set objectCell xs n x, map-set wakeCell xs n x, map-set (λ (y : Task). y .own) xs n x, map-set (λ (y : Task). y .effective) xs n x)
     (rw (map-set (λ (y : Task). y .outcome) xs n x))
 
--- and so is a store of a place and an outcome alone, or of the priorities
+-- and so is a store of a place and an outcome alone, or of a priority
 pub placed-of : (xs : List Task) (n : ℕ) (p : Place) (o : ℕ) → placedAt (tasksOf xs) n p o ≡ tasksOf (set xs n (placed (getD xs n freeTask) p o))
 unfolding placedAt tasksOf
 placed-of xs n p o =
@@ -51,12 +52,19 @@ placed-of xs n p o =
     rw (← map-set stateOf xs n x, ← map-set objectCell xs n x, ← map-set wakeCell xs n x, map-set-same (λ (y : Task). y .own) xs n x freeTask refl)
     (rw (map-set-same (λ (y : Task). y .effective) xs n x freeTask refl, ← map-set (λ (y : Task). y .outcome) xs n x))
 
-pub ranked-of : (xs : List Task) (n own effective : ℕ) → rankedAt (tasksOf xs) n own effective ≡ tasksOf (set xs n (ranked (getD xs n freeTask) own effective))
-unfolding rankedAt tasksOf
-ranked-of xs n own effective =
-    let x : Task = ranked (getD xs n freeTask) own effective in
+pub owned-of : (xs : List Task) (n own : ℕ) → ownedAt (tasksOf xs) n own ≡ tasksOf (set xs n (owned (getD xs n freeTask) own))
+unfolding ownedAt tasksOf
+owned-of xs n own =
+    let x : Task = owned (getD xs n freeTask) own in
     rw (map-set-same stateOf xs n x freeTask refl, map-set-same objectCell xs n x freeTask refl, map-set-same wakeCell xs n x freeTask refl)
-    (rw (← map-set (λ (y : Task). y .own) xs n x, ← map-set (λ (y : Task). y .effective) xs n x, map-set-same (λ (y : Task). y .outcome) xs n x freeTask refl))
+    (rw (← map-set (λ (y : Task). y .own) xs n x, map-set-same (λ (y : Task). y .effective) xs n x freeTask refl, map-set-same (λ (y : Task). y .outcome) xs n x freeTask refl))
+
+pub levelled-of : (xs : List Task) (n effective : ℕ) → levelledAt (tasksOf xs) n effective ≡ tasksOf (set xs n (levelled (getD xs n freeTask) effective))
+unfolding levelledAt tasksOf
+levelled-of xs n effective =
+    let x : Task = levelled (getD xs n freeTask) effective in
+    rw (map-set-same stateOf xs n x freeTask refl, map-set-same objectCell xs n x freeTask refl, map-set-same wakeCell xs n x freeTask refl)
+    (rw (map-set-same (λ (y : Task). y .own) xs n x freeTask refl, ← map-set (λ (y : Task). y .effective) xs n x, map-set-same (λ (y : Task). y .outcome) xs n x freeTask refl))
 
 -- each column has its sixteen numbers
 pub record Full (ts : Tasks) : Type 0 where
@@ -87,9 +95,9 @@ module _ (ts : Tasks) (f : Full ts) (n : ℕ) (h : 16 ≤ n) where
       rw (set-out (ts .state) n (cellsOf p .state) (omega arith), set-out (ts .object) n (cellsOf p .object) (omega arith))
       (rw (set-out (ts .wake) n (cellsOf p .wake) (omega arith), set-out (ts .outcome) n o (omega arith)))
 
-  pub lost-rank : (own effective : ℕ) → rankedAt ts n own effective ≡ ts
-  unfolding rankedAt
-  lost-rank own effective = rw (set-out (ts .own) n own (omega arith), set-out (ts .effective) n effective (omega arith))
+  pub lost-own : (own : ℕ) → ownedAt ts n own ≡ ts
+  unfolding ownedAt
+  lost-own own = rw (set-out (ts .own) n own (omega arith))
 
 -- the list has sixteen tasks, and each is its row
 pub row-at : (ts : Tasks) (n : ℕ) → n < length (ts .state) → getD (rowsOf ts) n freeTask ≡ rowAt ts n

@@ -1,25 +1,25 @@
 -- What soundness asks, in numbers and in words.
-use Prim.Native.Nat.{ℕ, _*_, _<_, _≤_, min}
+use Prim.Native.Nat.{ℕ, zero, suc, _*_, _<_, _≤_, min}
 use mathlib.Core.Path.{_≡_, refl, sym, ap, _∙_}
-use mathlib.Core.Bool.{Bool, true, false, _&&_, and-true}
+use mathlib.Core.Bool.{Bool, true, false, not, _&&_, and-true}
 use mathlib.Core.List.{List}
 use native.Mathlib.Omega.{arith}
 use lib.Dec.{eqb, ltb}
 use lib.ListN.{getD}
 use borrow.Author.Tests.{ne-eqb, eqb-true, eqb-false, lt-ltb, le-ltb}
 use Rattle.lists.specs.Choice.{if_then_else_}
-use Rattle.lists.specs.Lists.{allBelow}
+use Rattle.lists.specs.Lists.{allBelow, upTo}
 use Rattle.lists.proofs.Bools.{and-left, and-right, and-intro, and-on, and-off, all-below, below-all, all-same}
 use Rattle.lists.proofs.Loops.{Held}
 use Rattle.numbers.specs.Numbers.{task}
 use Rattle.slots.specs.Who.{AllReady}
-use Rattle.slots.specs.SoundSlots.{idleFine, notDue, mayWaitOn}
+use Rattle.slots.specs.SoundSlots.{notDue, mayWaitOn}
 use Rattle.slots.proofs.Sweeps.{none-counted}
 use Rattle.tasks.specs.declared.Tasks.{Tasks}
 use Rattle.tasks.specs.Numbering.{cells, placeOf}
 use Rattle.tasks.specs.Columns.{tasksOf, rowAt, rowsOf}
 use Rattle.tasks.specs.Known.{waitsState, known, wakeKnown, canonical}
-use Rattle.tasks.specs.Fine.{rowFine, wakeFine, aloneFine, rowsFine, wakesFine, waitsBy, waitsAt, waitingIn}
+use Rattle.tasks.specs.Fine.{rowFine, idleIf, idleAlone, wakeFine, aloneFine, rowsFine, wakesFine, waitsBy, waitsAt, waitingIn}
 use Rattle.tasks.proofs.Columns.{Full}
 use Rattle.tasks.proofs.WayBack.{tasks-back}
 use Rattle.tasks.proofs.StateTests.{by-state, is-suspended, row-meant}
@@ -70,7 +70,7 @@ module _ (ts : Tasks) where
   rows-is stands holds i =
       row-is (getD (ts .object) i 0) (getD (ts .wake) i 0) (getD (ts .own) i 0) (getD (ts .effective) i 0) (getD (ts .outcome) i 0) (getD stands i 0) (getD holds i false) (getD (ts .state) i 0)
 
-  pub rows-are : (stands : List ℕ) (holds : List Bool) → allBelow 16 (rowNumber stands holds) ≡ allBelow 16 (rowsFine ts stands holds)
+  rows-are : (stands : List ℕ) (holds : List Bool) → allBelow 16 (rowNumber stands holds) ≡ allBelow 16 (rowsFine ts stands holds)
   rows-are stands holds = all-same 16 (rowNumber stands holds) (rowsFine ts stands holds) (λ i l. rows-is stands holds i)
 
   wakes-is : (tick i : ℕ) → wakeFine (getD (ts .state) i 0) (getD (ts .wake) i 0) tick ≡ wakesFine ts tick i
@@ -80,9 +80,34 @@ module _ (ts : Tasks) where
   pub wakes-are : (tick : ℕ) → allBelow 16 (λ i. wakeFine (getD (ts .state) i 0) (getD (ts .wake) i 0) tick) ≡ allBelow 16 (wakesFine ts tick)
   wakes-are tick = all-same 16 (λ i. wakeFine (getD (ts .state) i 0) (getD (ts .wake) i 0) tick) (wakesFine ts tick) (λ i l. wakes-is tick i)
 
-  pub idle-is : (eqb (getD (ts .state) 0 0) 1 && (eqb (getD (ts .own) 0 0) 0 && eqb (getD (ts .effective) 0 0) 0)) ≡ idleFine (rowAt ts 0)
+  -- idle's test is asked of the first row alone
+  abbrev idleNumber : List Bool → ℕ → Bool
+  idleNumber holds i = idleIf (eqb i 0) (getD (ts .state) i 0) (getD (ts .own) i 0) (getD (ts .effective) i 0) (getD holds i false)
+
+  idle-is : (holds : List Bool) → idleNumber holds 0 ≡ idleAlone (getD holds 0 false) (rowAt ts 0)
   unfolding rowAt
-  idle-is = sym (ap (λ (b : Bool). b && (eqb (getD (ts .own) 0 0) 0 && eqb (getD (ts .effective) 0 0) 0)) (row-meant ts 0 AllReady))
+  idle-is holds = sym (ap (λ (b : Bool). (b && (eqb (getD (ts .own) 0 0) 0 && eqb (getD (ts .effective) 0 0) 0)) && not (getD holds 0 false)) (row-meant ts 0 AllReady))
+
+  only-first : (f : ℕ → Bool) → ((i : ℕ) → f (suc i) ≡ true) → (n : ℕ) → allBelow (suc n) f ≡ f 0
+  unfolding allBelow upTo
+  only-first f g zero = refl
+  only-first f g (suc n) = rw (only-first f g n, g n) (and-true _)
+
+  both-below : (n : ℕ) (f g : ℕ → Bool) → allBelow n (λ i. f i && g i) ≡ (allBelow n f && allBelow n g)
+  unfolding allBelow upTo
+  both-below zero f g = refl
+  both-below (suc n) f g = rw (both-below n f g) (pairs (allBelow n f) (allBelow n g) (f n) (g n))
+    where
+      pairs : (a b c d : Bool) → ((a && b) && (c && d)) ≡ ((a && c) && (b && d))
+      pairs false b c d = refl
+      pairs true false false d = refl
+      pairs true false true d = refl
+      pairs true true c d = refl
+
+  pub rows-idle : (stands : List ℕ) (holds : List Bool)
+      → allBelow 16 (λ i. idleNumber holds i && rowNumber stands holds i) ≡ (idleAlone (getD holds 0 false) (rowAt ts 0) && allBelow 16 (rowsFine ts stands holds))
+  rows-idle stands holds =
+      both-below 16 (idleNumber holds) (rowNumber stands holds) ∙ rw (only-first (idleNumber holds) (λ i. rw (ne-eqb (suc i) 0 (λ e. omega arith))) 15, idle-is holds, rows-are stands holds)
 
 -- what passes the tests is canonical
 fine-canonical : (ts : Tasks) (tick : ℕ) (stands : List ℕ) (holds : List Bool) → allBelow 16 (rowsFine ts stands holds) ≡ true → allBelow 16 (wakesFine ts tick) ≡ true → canonical ts ≡ true

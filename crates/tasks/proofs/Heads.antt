@@ -1,4 +1,4 @@
--- What need not be walked: nobody is due, nobody waits. And who heads a line.
+-- What need not be walked: nobody waits. And who heads a line.
 use Prim.Native.Nat.{ℕ, zero, suc, _<_, _≤_}
 use mathlib.Core.Path.{_≡_, refl, sym, ap, _∙_}
 use mathlib.Core.Bool.{Bool, true, false, _&&_, false≢true}
@@ -7,29 +7,24 @@ use native.Mathlib.Omega.{arith}
 use lib.Dec.{eqb, ltb}
 use lib.ListN.{length, getD}
 use borrow.Author.Tests.{eqb-true, ne-eqb, ltb-true, ltb-false, lt-ltb}
-use Rattle.lists.specs.Choice.{if_then_else_}
 use Rattle.lists.specs.Lists.{foldl, any, head}
 use Rattle.lists.proofs.Bools.{or-off, and-left}
 use Rattle.lists.proofs.Tests.{kept-head}
 use Rattle.numbers.specs.declared.TaskSlot.{TaskSlot}
 use Rattle.numbers.specs.declared.ObjSlot.{ObjSlot}
 use Rattle.numbers.specs.Numbers.{sameTask, task}
-use Rattle.order.specs.declared.Order.{Order}
 use Rattle.slots.specs.declared.Task.{Task}
 use Rattle.slots.specs.Who.{WaitersOf}
 use Rattle.slots.specs.declared.Lead.{Lead}
 use Rattle.slots.specs.declared.Lead.the-variants.{Open}
-use Rattle.slots.specs.Places.{isReady, waitsOn, wakesAt}
+use Rattle.slots.specs.Places.{isReady, waitsOn}
 use Rattle.slots.specs.Leads.{better}
 use Rattle.slots.specs.Values.{freeTask, inLine}
 use Rattle.tasks.specs.declared.Tasks.{Tasks}
-use Rattle.tasks.specs.declared.Woken.{Woken}
 use Rattle.tasks.specs.Columns.{rowAt, rowsOf}
 use Rattle.tasks.specs.Walks.{leadIn, lineIn, headOr, readyAt, waitedIn}
-use Rattle.tasks.specs.Dues.{timed, wakeNow, woken, wakeIn, wakesIn}
 use Rattle.tasks.specs.Fine.{headed, headsIn}
 use Rattle.tasks.proofs.Columns.{Full, past-row, row-at, rows-many}
-use Rattle.tasks.proofs.StateTests.{row-due}
 
 -- where none passes, none does
 pub none-passes : {A : Type 0} (p : A → Bool) (xs : List A) (d : A) → any p xs ≡ false → (i : ℕ) → i < length xs → p (getD xs i d) ≡ false
@@ -51,19 +46,6 @@ every-slot ts full P free n at = go (ltb n 16) refl
     go false q = rw (past-row ts full n (ltb-false n 16 q)) free
 
 module _ (ts : Tasks) (full : Full ts) where
-  -- nobody's wake tick is now
-  module _ (now : ℕ) (none : wakeNow ts now ≡ false) where
-    not-due : (n : ℕ) → wakesAt now (rowAt ts n .place) ≡ false
-    unfolding wakeNow
-    not-due n =
-        every-slot ts full (λ x. wakesAt now (x .place) ≡ false) refl n
-        (λ l. row-due ts n now ∙ and-never (timed (getD (ts .state) n 0)) _ (none-passes (λ w. eqb w now) (ts .wake) 0 none n (omega arith)))
-
-    pub none-woken : (o : Order) (l : List TaskSlot) → woken ts o ≡ wakesIn now (woken ts o) l
-    unfolding wakesIn foldl wakeIn
-    none-woken o [] = refl
-    none-woken o (t ∷ l) = none-woken o l ∙ ap (λ (w : Woken). foldl (wakeIn now) w l) (sym (rw (not-due (t .0))))
-
   -- no row waits on the object
   module _ (o : ObjSlot) (none : waitedIn ts o ≡ false) where
     not-waits : (n : ℕ) → waitsOn o (rowAt ts n .place) ≡ false

@@ -3,6 +3,7 @@ pub mod StateTests
 pub mod WalkTurns
 pub mod Heads
 pub mod Fines
+pub mod Worked
 pub mod ByList
 pub mod WayBack
 pub mod Plain

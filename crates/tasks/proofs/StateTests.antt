@@ -9,14 +9,15 @@ use borrow.Author.Tests.{ne-eqb}
 use Rattle.lists.specs.Choice.{if_then_else_}
 use Rattle.slots.specs.declared.Place.the-variants.{Suspended}
 use Rattle.slots.specs.Who.{Who, AllReady, WaitersOf}
-use Rattle.slots.specs.Places.{takesTask, isReady, waitsOn, wakesAt, outcomeDue, ahead, away}
+use Rattle.slots.specs.Places.{takesTask, isReady, waitsOn, waitedOn, wakesAt, outcomeDue, ahead, away}
 use Rattle.slots.specs.Leads.{isWho}
 use Rattle.slots.specs.Values.{inLine}
 use Rattle.tasks.specs.declared.Tasks.{Tasks}
 use Rattle.tasks.specs.Numbering.{cells, placeOf}
 use Rattle.tasks.specs.Columns.{rowAt}
 use Rattle.tasks.specs.Walks.{isMeant}
-use Rattle.tasks.specs.Dues.{timed}
+use Rattle.tasks.specs.Dues.{timed, waitEnds}
+use Rattle.tasks.specs.Known.{waitsState}
 
 -- a number is one of the six first states, or more
 pub by-state : (P : ℕ → Type 0) → P 0 → P 1 → P 2 → P 3 → P 4 → P 5 → ((s : ℕ) → 6 ≤ s → P s) → (s : ℕ) → P s
@@ -45,6 +46,13 @@ takes-is : (s o x : ℕ) → takesTask (placeOf (cells s o x)) ≡ eqb s 0
 unfolding placeOf
 takes-is s o x = by-state (λ n. takesTask (placeOf (cells n o x)) ≡ eqb n 0) refl refl refl refl refl refl (λ n h. rw (is-suspended n o x h, ne-eqb n 0 (λ e. omega arith))) s
 
+-- the object that it waits on
+onto-is : (s o x : ℕ) → waitedOn (placeOf (cells s o x)) ≡ (if waitsState s then o else 16)
+unfolding placeOf
+onto-is s o x =
+    by-state (λ n. waitedOn (placeOf (cells n o x)) ≡ (if waitsState n then o else 16)) refl refl refl refl refl refl
+    (λ n h. rw (is-suspended n o x h, ne-eqb n 3 (λ e. omega arith), ne-eqb n 4 (λ e. omega arith))) s
+
 -- the wake tick: how far away, whether it is now, and the outcome
 away-is : (now s o w : ℕ) → away now (placeOf (cells s o w)) ≡ (if timed s then ahead now w else 4294967295)
 unfolding placeOf
@@ -57,6 +65,12 @@ unfolding placeOf
 due-is now s o w =
     by-state (λ n. wakesAt now (placeOf (cells n o w)) ≡ (timed n && eqb w now)) refl refl refl refl refl refl
     (λ n h. rw (is-suspended n o w h, ne-eqb n 2 (λ e. omega arith), ne-eqb n 3 (λ e. omega arith))) s
+
+ends-is : (now s o w : ℕ) → waitEnds now (placeOf (cells s o w)) ≡ (eqb s 3 && eqb w now)
+unfolding placeOf
+ends-is now s o w =
+    by-state (λ n. waitEnds now (placeOf (cells n o w)) ≡ (eqb n 3 && eqb w now)) refl refl refl refl refl refl
+    (λ n h. rw (is-suspended n o w h, ne-eqb n 3 (λ e. omega arith))) s
 
 ended-is : (s o w : ℕ) → timed s ≡ true → outcomeDue (placeOf (cells s o w)) ≡ (if eqb s 2 then 1 else 2)
 unfolding placeOf
@@ -91,6 +105,10 @@ module _ (ts : Tasks) (i : ℕ) where
   unfolding rowAt
   row-line p = ap (λ (b : Bool). b && eqb level p) (meant-is AllReady s o w)
 
+  pub row-onto : waitedOn (rowAt ts i .place) ≡ (if waitsState s then o else 16)
+  unfolding rowAt
+  row-onto = onto-is s o w
+
   pub row-away : (now : ℕ) → away now (rowAt ts i .place) ≡ (if timed s then ahead now w else 4294967295)
   unfolding rowAt
   row-away now = away-is now s o w
@@ -98,6 +116,10 @@ module _ (ts : Tasks) (i : ℕ) where
   pub row-due : (now : ℕ) → wakesAt now (rowAt ts i .place) ≡ (timed s && eqb w now)
   unfolding rowAt
   row-due now = due-is now s o w
+
+  pub row-ends : (now : ℕ) → waitEnds now (rowAt ts i .place) ≡ (eqb s 3 && eqb w now)
+  unfolding rowAt
+  row-ends now = ends-is now s o w
 
   pub row-ended : timed s ≡ true → outcomeDue (rowAt ts i .place) ≡ (if eqb s 2 then 1 else 2)
   unfolding rowAt

@@ -55,14 +55,25 @@ placedAt ts n p o =
       outcome = set (ts .outcome) n o;
     }
 
--- the columns with other priorities in the row `n`
-unfoldable pub rankedAt : Tasks → ℕ → ℕ → ℕ → Tasks
-rankedAt ts n own effective =
+-- the columns with another own priority in the row `n`, and with another effective one
+unfoldable pub ownedAt : Tasks → ℕ → ℕ → Tasks
+ownedAt ts n own =
     record {
       state = ts .state;
       object = ts .object;
       wake = ts .wake;
       own = set (ts .own) n own;
+      effective = ts .effective;
+      outcome = ts .outcome;
+    }
+
+unfoldable pub levelledAt : Tasks → ℕ → ℕ → Tasks
+levelledAt ts n effective =
+    record {
+      state = ts .state;
+      object = ts .object;
+      wake = ts .wake;
+      own = ts .own;
       effective = set (ts .effective) n effective;
       outcome = ts .outcome;
     }

@@ -1,6 +1,6 @@
 -- The wake ticks: how long until the next, and the wakes of one tick.
 use Prim.Native.Nat.{ℕ, min}
-use mathlib.Core.Bool.{Bool, _||_}
+use mathlib.Core.Bool.{Bool, _&&_, _||_}
 use mathlib.Core.List.{List, [], _∷_, _++_}
 use lib.Dec.{eqb}
 use Rattle.lists.specs.Choice.{if_then_else_}
@@ -8,9 +8,10 @@ use Rattle.lists.specs.Lists.{foldl, any}
 use Rattle.numbers.specs.declared.TaskSlot.{TaskSlot}
 use Rattle.order.specs.declared.Order.{Order}
 use Rattle.order.specs.Order.{listed, ordered, without}
+use Rattle.slots.specs.declared.Place.{Place}
 use Rattle.slots.specs.declared.Place.the-variants.{Ready}
 use Rattle.slots.specs.declared.Task.{Task}
-use Rattle.slots.specs.Places.{wakesAt, outcomeDue, away}
+use Rattle.slots.specs.Places.{isWaiting, wakesAt, outcomeDue, away}
 use Rattle.slots.specs.Values.{placed}
 use Rattle.tasks.specs.declared.Tasks.{Tasks}
 use Rattle.tasks.specs.declared.Woken.{Woken}
@@ -27,6 +28,10 @@ untilIn now ts = foldl (λ n x. min n (away now (x .place))) 4294967295 (rowsOf 
 -- some row's wake tick, used or not, is the count
 unfoldable pub wakeNow : Tasks → ℕ → Bool
 wakeNow ts now = any (λ w. eqb w now) (ts .wake)
+
+-- a wait, and no mere delay, ends
+abbrev pub waitEnds : ℕ → Place → Bool
+waitEnds now p = isWaiting p && wakesAt now p
 
 abbrev pub woken : Tasks → Order → Woken
 woken ts o = record { tasks = ts; order = o }

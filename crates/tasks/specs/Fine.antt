@@ -28,7 +28,7 @@ aloneFine n held x =
     standsFine n (x .place)
     && (remembersFine n (x .place)
     && (ordersFine n (x .place)
-    && (prioritiesFine held x
+    && (prioritiesFine x
     && (outcomeFine x
     && (freshIfFree x
     && freeHolds held (x .place))))))
@@ -37,9 +37,17 @@ unfoldable pub rowFine : ℕ → ℕ → ℕ → ℕ → ℕ → ℕ → Bool �
 rowFine s o own level outcome n held =
     known s o
     && (eqb n (if eqb s 1 || blocked s then 1 else 0)
-    && ((leb own level && (leb level 31 && (held || eqb own level)))
+    && (leb own 31
     && ((leb outcome 3 && (not (blocked s) || eqb outcome 0))
     && (not (eqb s 0 || eqb s 5) || ((eqb own 0 && (eqb level 0 && eqb outcome 0)) && not held)))))
+
+-- "idle is as above"; "idle never waits or holds"
+abbrev pub idleAlone : Bool → Task → Bool
+idleAlone held x = idleFine x && not held
+
+-- the same in numbers, asked of idle's row
+abbrev pub idleIf : Bool → ℕ → ℕ → ℕ → Bool → Bool
+idleIf idle s own level held = not idle || ((eqb s 1 && (eqb own 0 && eqb level 0)) && not held)
 
 abbrev pub rowsFine : Tasks → List ℕ → List Bool → ℕ → Bool
 rowsFine ts stands holds i = known (getD (ts .state) i 0) (getD (ts .object) i 0) && aloneFine (getD stands i 0) (getD holds i false) (rowAt ts i)
@@ -50,10 +58,6 @@ wakeFine s w tick = if timed s then leb w 4294967295 && not (eqb w tick) else eq
 
 abbrev pub wakesFine : Tasks → ℕ → ℕ → Bool
 wakesFine ts tick i = wakeKnown (getD (ts .state) i 0) (getD (ts .wake) i 0) && notDue tick (rowAt ts i .place)
-
--- "idle is as above"; "idle never waits or holds"
-abbrev pub idleAlone : Bool → Task → Bool
-idleAlone held x = idleFine x && not held
 
 -- all that is answered: what is fine stands for the list that it reads as
 pub record Fine (ts : Tasks) (tick : ℕ) (stands : List ℕ) (holds : List Bool) (r : Bool) : Type 0 where

@@ -1,10 +1,13 @@
 // The wake ticks: how long until the next, and who is due.
 ghost use mathlib.Core.Path.{_≡_};
+ghost use mathlib.Core.Bool.{not};
 ghost use lib.Dec.{eqb};
+ghost use Rattle.lists.specs.Lists.{allBelow};
+ghost use Rattle.tasks.specs.Columns.{rowAt};
 ghost use Rattle.lists.specs.Choice.{if_then_else_};
 ghost use Rattle.order.specs.Order.{listed};
 ghost use Rattle.slots.specs.Places.{ahead};
-ghost use Rattle.tasks.specs.Dues.{timed, untilIn, wakeNow, wakesIn, woken};
+ghost use Rattle.tasks.specs.Dues.{timed, untilIn, wakeNow, waitEnds, wakesIn, woken};
 use crate::Tasks;
 use crate::Woken;
 use order::Order;
@@ -50,7 +53,7 @@ impl Tasks {
     }
 
     // Some row's wake tick is `now`, whether its state uses it or not.
-    fn someone_due(self, now: u32) -> bool
+    pub fn someone_due(self, now: u32) -> bool
         ensures { λ r. ⌜ r ≡ wakeNow self now ⌝ }
     {
         let wake = self.wake;
@@ -63,8 +66,24 @@ impl Tasks {
         found
     }
 
-    // Whoever stands earlier in the order is made ready first: it lists the delayed and the waiting as they began.
-    fn woken(self, o: Order, now: u32) -> Woken
+    // No wait ends at the tick `now`: of those that are due each was delayed.
+    pub fn waits_last(self, now: u32) -> bool
+        ensures { λ r. ⌜ r ≡ allBelow 16 (λ i. not (waitEnds now (rowAt self i .place))) ⌝ }
+    {
+        let state = self.state;
+        let wake = self.wake;
+        let mut ok = true;
+        let mut i = 0usize;
+        while i < 16 {
+            let ends = lists::both(state[i] == 3, wake[i] == now);
+            ok = lists::both(ok, !ends);
+            i += 1;
+        }
+        ok
+    }
+
+    // The due are made ready. Whoever stands earlier in the order is made ready first: it lists the delayed and the waiting as they began.
+    pub fn woken(self, o: Order, now: u32) -> Woken
         ensures { λ r. ⌜ r ≡ wakesIn now (woken self o) (listed o) ⌝ }
     {
         let mut state = self.state;
@@ -102,19 +121,5 @@ impl Tasks {
             outcome,
         };
         Woken { tasks, order }
-    }
-
-    // The due are made ready; where nobody is due the order is not walked.
-    pub fn wakes(self, o: Order, now: u32) -> Woken
-        ensures { λ r. ⌜ r ≡ wakesIn now (woken self o) (listed o) ⌝ }
-    {
-        if self.someone_due(now) {
-            self.woken(o, now)
-        } else {
-            Woken {
-                tasks: self,
-                order: o,
-            }
-        }
     }
 }

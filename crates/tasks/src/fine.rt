@@ -1,11 +1,12 @@
 // What soundness asks of the tasks, tested in numbers: no Task is made, so that the compiler does all sixteen rows at once.
 ghost use mathlib.Core.Path.{_≡_};
+ghost use mathlib.Core.Bool.{false, _&&_};
+ghost use lib.ListN.{getD};
 ghost use Rattle.lists.specs.Lists.{allBelow};
-ghost use Rattle.slots.specs.SoundSlots.{idleFine};
 ghost use Rattle.order.specs.Order.{listed};
 ghost use Rattle.tasks.specs.Columns.{rowAt};
 ghost use Rattle.tasks.specs.Known.{waitsState};
-ghost use Rattle.tasks.specs.Fine.{rowFine, wakeFine, rowsFine, wakesFine, waitingIn, waitsAt, headsIn, runsIn, Fine};
+ghost use Rattle.tasks.specs.Fine.{rowFine, idleIf, idleAlone, wakeFine, rowsFine, wakesFine, waitingIn, waitsAt, headsIn, runsIn, Fine};
 use crate::Tasks;
 use numbers::TaskSlot;
 use order::Order;
@@ -17,34 +18,33 @@ fn wide(n: u8) -> usize
 }
 
 // The state has an object.
-fn waits(s: u8) -> bool
+pub(crate) fn waits(s: u8) -> bool
     ensures { λ r. ⌜ r ≡ waitsState s ⌝ }
 {
     lists::either(s == 3, s == 4)
 }
 
-fn row_fine(s: u8, o: u8, own: u8, level: u8, outcome: u8, n: u8, held: bool) -> bool
-    ensures { λ r. ⌜ r ≡ rowFine s o own level outcome n held ⌝ }
+fn row_fine(s: u8, o: u8, own: u8, level: u8, outcome: u8, n: u8, held: bool, idle: bool) -> bool
+    ensures { λ r. ⌜ r ≡ (idleIf idle s own level held && rowFine s o own level outcome n held) ⌝ }
 {
     let waits = waits(s);
     let blocked = lists::either(s == 2, waits);
     let listed = lists::either(s == 1, blocked);
     let known = lists::both(s <= 6, lists::either(waits, o == 0));
-    let ranks = lists::both(
-        own <= level,
-        lists::both(level <= 31, lists::either(held, own == level)),
-    );
     let ends = lists::both(outcome <= 3, lists::either(!blocked, outcome == 0));
     let zeros = lists::both(own == 0, lists::both(level == 0, outcome == 0));
     let free = lists::either(s == 0, s == 5);
     let fresh = lists::either(!free, lists::both(zeros, !held));
-    lists::both(
+    let ready = lists::both(s == 1, lists::both(own == 0, level == 0));
+    let idles = lists::either(!idle, lists::both(ready, !held));
+    let alone = lists::both(
         known,
         lists::both(
             n == lists::one_if(listed),
-            lists::both(ranks, lists::both(ends, fresh)),
+            lists::both(own <= 31, lists::both(ends, fresh)),
         ),
-    )
+    );
+    lists::both(idles, alone)
 }
 
 // A wake tick that is used is not the count, and one that is not used is 0.
@@ -56,8 +56,9 @@ fn wake_fine(s: u8, w: u32, tick: u32) -> bool
 }
 
 impl Tasks {
+    // Idle is ready at priority 0 and holds nothing; asked of the first row among the others, it costs nothing more.
     fn rows_fine(self, stands: [u8; 16], holds: [bool; 16]) -> bool
-        ensures { λ r. ⌜ r ≡ allBelow 16 (rowsFine self stands holds) ⌝ }
+        ensures { λ r. ⌜ r ≡ (idleAlone (getD holds 0 false) (rowAt self 0) && allBelow 16 (rowsFine self stands holds)) ⌝ }
     {
         let state = self.state;
         let object = self.object;
@@ -75,6 +76,7 @@ impl Tasks {
                 outcome[i],
                 stands[i],
                 holds[i],
+                i == 0,
             );
             ok = lists::both(ok, fine);
             i += 1;
@@ -96,28 +98,17 @@ impl Tasks {
         ok
     }
 
-    // Idle is ready at priority 0.
-    fn idle_fine(self) -> bool
-        ensures { λ r. ⌜ r ≡ idleFine (rowAt self 0) ⌝ }
-    {
-        let state = self.state;
-        let own = self.own;
-        let effective = self.effective;
-        lists::both(state[0] == 1, lists::both(own[0] == 0, effective[0] == 0))
-    }
-
     // Each row is fine by itself, where it stands as often in the order as `stands` says, and holds a mutex or not as `holds` says. What is fine stands for the list that
     // it reads as.
     pub fn fine(self, tick: u32, stands: [u8; 16], holds: [bool; 16]) -> bool
         ensures { λ r. ⌜ Fine self tick stands holds r ⌝ }
     {
-        let idles = lists::both(self.idle_fine(), !holds[0]);
         let rows = self.rows_fine(stands, holds);
-        lists::both(idles, lists::both(rows, self.wakes_fine(tick)))
+        lists::both(rows, self.wakes_fine(tick))
     }
 
     // How many wait on an object.
-    fn waiting(self) -> u8
+    pub(crate) fn waiting(self) -> u8
         ensures { λ r. ⌜ r ≡ waitingIn self ⌝ }
     {
         let state = self.state;

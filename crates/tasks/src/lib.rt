@@ -4,7 +4,7 @@ ghost use mathlib.Core.Path.{_≡_};
 ghost use lib.ListN.{replicate};
 ghost use mathlib.Core.List.{_∷_};
 ghost use Rattle.slots.specs.Values.{freeTask, readyAt};
-ghost use Rattle.tasks.specs.Columns.{tasksOf, rowAt, put, placedAt, rankedAt};
+ghost use Rattle.tasks.specs.Columns.{tasksOf, rowAt, put, placedAt, ownedAt};
 use numbers::TaskSlot;
 use order::Order;
 use slots::Place;
@@ -12,6 +12,7 @@ use slots::Task;
 
 mod dues;
 mod fine;
+mod loans;
 mod numbering;
 mod walks;
 
@@ -24,7 +25,7 @@ pub struct Tasks {
     outcome: [u8; 16],
 }
 
-// What the wakes of a tick leave.
+// What the wakes of a tick leave, and what is left where effective priorities are worked out.
 pub struct Woken {
     pub tasks: Tasks,
     pub order: Order,
@@ -142,27 +143,26 @@ impl Tasks {
         }
     }
 
-    // The row of `t` with other priorities.
-    pub fn ranked(self, t: TaskSlot, own: u8, effective: u8) -> Tasks
-        ensures { λ r. ⌜ r ≡ rankedAt self (t .0) own effective ⌝ }
+    // The row of `t` with another own priority.
+    pub fn owned(self, t: TaskSlot, own: u8) -> Tasks
+        ensures { λ r. ⌜ r ≡ ownedAt self (t .0) own ⌝ }
     {
         let i = t.slot();
         let state = self.state;
         let object = self.object;
         let wake = self.wake;
         let mut owns = self.own;
-        let mut effectives = self.effective;
+        let effective = self.effective;
         let outcome = self.outcome;
         if i < 16 {
             owns[i] = own;
-            effectives[i] = effective;
         }
         Tasks {
             state,
             object,
             wake,
             own: owns,
-            effective: effectives,
+            effective,
             outcome,
         }
     }

@@ -1,13 +1,25 @@
 use borrow.Author.Needs.{needs}
-use Rattle.kernel.proofs.Stands.{same-running}
-use mathlib.Core.Path.{_∙_}
-use Rattle.rules.specs.Effects.{handedOn, given}
+use Rattle.rules.specs.Effects.{given}
 use Rattle.kernel.proofs.Core.give.Statement.{statement}
 use Rattle.kernel.proofs.Core.give.Tie as tie
 
 returns : tie.Need-returns
 unfolding given
-returns c = λ s h. c .own-again .ensures (handedOn s (c .before .before .before .args .o)) (c .before .handed-on .ensures s h) ∙ rw (same-running _ s h)
+returns c = λ s h. rw (← c .before .before .before .first-waiter .ensures s h, c .before .enum-told .given .1) (c .with-object .ensures s h)
+
+returns-2 : tie.Need-returns-2
+unfolding given
+returns-2 c = λ s h. rw (← c .before .before .before .before .before .first-waiter .ensures s h, c .before .before .before .t .given .1) (c .with-object2 .ensures _ (c .before .arrives .ensures s h))
 
 pub give-spec : {M : Type 1} → statement M
-give-spec = tie.close (tie.spec (λ c κs. search needs) (λ c κs. search needs) returns)
+give-spec =
+    tie.close
+    (tie.spec
+    (λ c κs. search needs)
+    (λ c. search needs)
+    (λ c κs. search needs)
+    (λ c. search needs)
+    (λ c κs. search needs)
+    (λ c κs. search needs)
+    returns
+    returns-2)

@@ -7,6 +7,7 @@ use mathlib.Core.Path.{_≡_, _∙_}
 use native.Mathlib.Omega.{arith}
 use Rattle.rules.specs.Effects.{effect, yielded}
 use Rattle.rules.specs.Steps.{stored}
+use Rattle.kernel.proofs.LevelWorks.{firm-reckons}
 use Rattle.kernel.proofs.RowPassed.{in-range, whole, right-size, may-hold, may-release, may-tick, may-turn, task-slot, queue-slot, mutex-slot}
 use Rattle.kernel.proofs.Core.served.Statement.{statement}
 use Rattle.kernel.proofs.Core.served.Tie as tie
@@ -36,6 +37,7 @@ time-passes-requires c κs =
       λ e. may-turn (o .args .self) (o .pre .0) a (length (o .args .item .now)) (length (o .args .store .now)) (o .pre .1) (eqb-true (a .number) 18 e),
       λ e. may-release (o .args .self) (o .pre .0) a (length (o .args .item .now)) (length (o .args .store .now)) (o .pre .1)
           (⊎-elim (λ (q : a .number ≡ 9). q) (λ (q : a .number ≡ 18). absurd (eqb-false (a .number) 18 e q)) (c .match .keys9)),
+      firm-reckons (o .pre .0),
     )
 
 cast-make-queue : tie.Need-cast-make-queue
@@ -70,7 +72,7 @@ receive-requires c κs =
 tick-on-requires : tie.Need-tick-on-requires
 tick-on-requires c κs =
     let o = c .before .before .before in
-    may-tick (o .args .self) (o .pre .0) (o .args .a) (length (o .args .item .now)) (length (o .args .store .now)) (o .pre .1) (c .match .keys17)
+    (may-tick (o .args .self) (o .pre .0) (o .args .a) (length (o .args .item .now)) (length (o .args .store .now)) (o .pre .1) (c .match .keys17), firm-reckons (o .pre .0))
 
 returns : tie.Need-returns
 unfolding effect stored

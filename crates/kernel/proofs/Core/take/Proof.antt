@@ -24,10 +24,8 @@ returns-4 c = λ s h. rw (sym (c .before .before .before .before .before .before
 
 returns-5 : tie.Need-returns-5
 unfolding taken
-returns-5 c =
-    let c4 = c .before .before .before .before in
-    λ s h. rw (sym (c4 .before .before .before .before .kind .ensures s h) ∙ c4 .before .before .h .given .1, c .before .before .before .h2 .given .1)
-    (c .wait-for .ensures _ (c .before .lent .ensures s h))
+returns-5 c = λ s h. rw (sym (c .before .before .before .before .before .before .kind .ensures s h) ∙ c .before .before .before .before .h .given .1)
+    (rw (c .before .enum-told5 .given .1) (c .wait-for .ensures s h))
 
 pub take-spec : {M : Type 1} → statement M
 take-spec =
@@ -41,7 +39,6 @@ take-spec =
     (λ c. search needs)
     (λ c κs. search needs)
     (λ c. search needs)
-    (λ c κs. search needs)
     (λ c κs. search needs)
     returns
     returns-2

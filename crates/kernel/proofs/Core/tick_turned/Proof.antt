@@ -14,14 +14,14 @@ returns-2 : tie.Need-returns-2
 returns-2 c =
     let o = c .before .before .before .before .before .before .before in
     let turns = on (o .before .args .turns) (c .before .before .before .before .before .before .if1 .left) in
-    rw turns (overtaken (o .before .pre turns) (o .one-tick .ensures) _ (c .before .before .before .before .before .task .ensures) _ (c .before .before .before .before .top .ensures)
+    rw turns (overtaken (o .before .pre .1 turns) (o .one-tick .ensures) _ (c .before .before .before .before .before .task .ensures) _ (c .before .before .before .before .top .ensures)
     (c .before .before .if2 .taken) _ (c .before .line .ensures) _ (c .head-after .ensures))
 
 turned-by-requires : tie.Need-turned-by-requires
 turned-by-requires c κs =
     let o = c .before .before .before .before .before in
     let turns = on (o .before .args .turns) (c .before .before .before .before .if1 .left) in
-    (not-overtaken (o .before .pre turns) (o .one-tick .ensures) _ (c .before .before .before .task .ensures) _ (c .before .before .top .ensures) (c .if2 .left), omega arith)
+    (not-overtaken (o .before .pre .1 turns) (o .one-tick .ensures) _ (c .before .before .before .task .ensures) _ (c .before .before .top .ensures) (c .if2 .left), omega arith)
 
 returns-3 : tie.Need-returns-3
 unfolding upTo
@@ -29,11 +29,14 @@ returns-3 c = λ s h.
     let o = c .before .before .before .before .before .before in
     rw (on (o .before .args .turns) (c .before .before .before .before .before .if1 .left)) (c .turned-by .ensures (oneTick s) (o .one-tick .ensures s h))
 
+one-tick-requires : tie.Need-one-tick-requires
+one-tick-requires c κs = c .pre .0
+
 pub tick-turned-spec : {M : Type 1} → statement M
 tick-turned-spec =
     tie.close
     (tie.spec
-    (λ c κs. search needs)
+    one-tick-requires
     returns
     (λ c κs. search needs)
     (λ c κs. search needs)

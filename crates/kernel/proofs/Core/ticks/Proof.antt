@@ -1,6 +1,6 @@
 use borrow.Author.Needs.{needs}
 use native.Mathlib.Omega.{arith}
-use Rattle.kernel.proofs.TickTurns.{Ticking, ticking-begins, jumps-all, jumps-turning, jumps-on, none-left}
+use Rattle.kernel.proofs.TickTurns.{Ticking, ticking-begins, jumps-all, jumps-reckons, jumps-turning, jumps-on, none-left}
 use Rattle.kernel.proofs.Core.ticks.Statement.{statement}
 use Rattle.kernel.proofs.Core.ticks.Tie as tie
 
@@ -11,7 +11,7 @@ abbrev μ-loop : tie.MeasureT-loop
 μ-loop n turns k₀ left₀ k left = left
 
 loop-holds : tie.Need-loop-holds Inv-loop μ-loop
-loop-holds c = ticking-begins (c .args .turns) (c .args .self) (c .args .n) (c .pre)
+loop-holds c = ticking-begins (c .args .turns) (c .args .self) (c .args .n) (c .pre .0) (c .pre .1)
 
 passed-requires : tie.Need-passed-requires Inv-loop μ-loop
 passed-requires c κs = c .before .before .before .loop .inv .may-turn
@@ -22,7 +22,10 @@ passed-requires-2 c κs = c .before .before .before .loop .inv .may-turn
 tick-turned-requires : tie.Need-tick-turned-requires Inv-loop μ-loop
 tick-turned-requires c κs =
     let until-due = c .before .before .until-due in
-    jumps-turning (c .before .before .before .before .loop .inv) (until-due .result) (until-due .ensures .1) (until-due .ensures .0) (c .passed2 .ensures)
+    let inv = c .before .before .before .before .loop .inv in (
+      jumps-reckons inv (until-due .result) (until-due .ensures .1) (until-due .ensures .0) (c .passed2 .ensures),
+      jumps-turning inv (until-due .result) (until-due .ensures .1) (until-due .ensures .0) (c .passed2 .ensures),
+    )
 
 returns : tie.Need-returns Inv-loop μ-loop
 returns c =

@@ -1,6 +1,8 @@
 use borrow.Author.Needs.{needs}
 use native.Mathlib.Omega.{arith}
 use Rattle.rows.specs.Asking.{is}
+use Rattle.rules.specs.Tables.{withHold}
+use Rattle.kernel.proofs.LevelWorks.{reckons-next}
 use Rattle.kernel.proofs.TickTurns.{unheld-turning, less-held, then-passes}
 use Rattle.kernel.proofs.Core.time_passes.Statement.{statement}
 use Rattle.kernel.proofs.Core.time_passes.Tie as tie
@@ -14,7 +16,11 @@ returns c =
     less-held (o .args .self) (o .args .a .ticks) (is 18 (o .args .a)) (o .pre .0) (c .before .before .if1 .taken) (c .with-hold .ensures)
 
 ticks-requires : tie.Need-ticks-requires
-ticks-requires c κs e = unheld-turning (c .before .before .before .before .before .pre .0 e) (c .before .before .with-hold2 .ensures)
+ticks-requires c κs =
+    let o = c .before .before .before .before .before in (
+      reckons-next (λ s. withHold s 0 0) (o .pre .2) (c .before .before .with-hold2 .ensures) (λ s h S. S),
+      λ e. unheld-turning (o .pre .0 e) (c .before .before .with-hold2 .ensures),
+    )
 
 returns-2 : tie.Need-returns-2
 returns-2 c =

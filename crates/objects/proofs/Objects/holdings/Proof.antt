@@ -14,12 +14,15 @@ use Rattle.objects.proofs.Objects.takes.Reads as takes-reads
 
 returns : tie.Need-returns
 returns c =
-    let os = c .before .before .before .before .before .args .self in
-    let f : Full os = search needs in
+    let c3 = c .before .before .before in
+    let marks = c3 .before .before .before .marks in
+    let os = c3 .before .before .before .before .args .self in
+    let f : Full os = search (c3 .before .before .before .before .good .0 .1 .1 .1 .1 .1, c3 .before .before .before .before .good, needs) in
     record {
       many = rows-many os ∙ f .states;
-      marks = c .before .before .before .before .marks .ensures;
-      waited = λ t n l. waits-is os t n (c .before .before .before .opens .ensures) (c .before .before .takes .ensures) l;
+      marks = marks .ensures .marks;
+      by = marks .ensures .by;
+      waited = λ t n l. waits-is os t n (c3 .opens .ensures) (c .before .before .takes .ensures) l;
       said = c .rows-fine .ensures;
       whole = λ h. sym (objects-back os f (fine-canonical os (sym (c .rows-fine .ensures) ∙ h)));
     }

@@ -1,15 +1,16 @@
 use borrow.Author.Needs.{needs}
 use Prim.Native.Nat.{_-_, _≤_}
-use Rattle.objects.proofs.Fines.{Filled, fill-begin, fill-turn, fill-done}
+use Rattle.slots.proofs.Sweeps.{Filled, fill-begin, fill-turn}
+use Rattle.objects.proofs.Fines.{fill-done}
 use lib.Dec.{eqb}
 use lib.ListN.{getD}
-use mathlib.Core.Bool.{_&&_, _||_}
+use mathlib.Core.Bool.{false, _&&_, _||_}
 use mathlib.Core.Path.{refl, _∙_}
 use Rattle.objects.proofs.Objects.opens.Statement.{statement}
 use Rattle.objects.proofs.Objects.opens.Tie as tie
 
 abbrev Inv-loop : tie.InvT-loop
-Inv-loop state capacity count out₀ i₀ out i = Filled (λ j. eqb (getD state j 0) 1 && (eqb (getD count j 0) 0 || eqb (getD count j 0) (getD capacity j 0))) out i × (i ≤ 16)
+Inv-loop state capacity count out₀ i₀ out i = Filled (λ j. eqb (getD state j 0) 1 && (eqb (getD count j 0) 0 || eqb (getD count j 0) (getD capacity j 0))) false out i × (i ≤ 16)
 
 abbrev μ-loop : tie.MeasureT-loop
 μ-loop state capacity count out₀ i₀ out i = 16 - i

@@ -1,14 +1,16 @@
 use borrow.Author.Needs.{needs}
 use Prim.Native.Nat.{_-_, _≤_}
-use Rattle.objects.proofs.Fines.{Filled, fill-begin, fill-turn, fill-done}
+use Rattle.slots.proofs.Sweeps.{Filled, fill-begin, fill-turn}
+use Rattle.objects.proofs.Fines.{fill-done}
 use lib.Dec.{leb}
 use lib.ListN.{getD}
+use mathlib.Core.Bool.{false}
 use mathlib.Core.Path.{refl}
 use Rattle.objects.proofs.Objects.takes.Statement.{statement}
 use Rattle.objects.proofs.Objects.takes.Tie as tie
 
 abbrev Inv-loop : tie.InvT-loop
-Inv-loop state out₀ i₀ out i = Filled (λ j. leb 4 (getD state j 0)) out i × (i ≤ 16)
+Inv-loop state out₀ i₀ out i = Filled (λ j. leb 4 (getD state j 0)) false out i × (i ≤ 16)
 
 abbrev μ-loop : tie.MeasureT-loop
 μ-loop state out₀ i₀ out i = 16 - i
