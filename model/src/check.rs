@@ -1,16 +1,16 @@
 //! The self-check: document 01's soundness sentence, with request 1's clauses on uses,
-//! request 3's on the remembered order and request 5's on loans, over the kernel's own
-//! structures, and what can be said of one step by looking at the kernel before and after: the
-//! lines, by when each task was last put into one; of an advance, that it is as many single
-//! ticks.
+//! request 3's on the remembered order, request 5's on loans and request 6's on circles, over
+//! the kernel's own structures, and what can be said of one step by looking at the kernel before
+//! and after: the lines, by when each task was last put into one; of an advance, that it is as
+//! many single ticks.
 
 use crate::calls::{single_ticks, step, Answer, Call, Named};
 use crate::kernel::{
-    Kernel, Kind, ObjectSlot, Outcome, Role, Stand, Task, TaskSlot, IDLE, LAST_USE, MOST_HOLD, MOST_PENDED, PRIORITIES,
-    RETIRED, TASKS,
+    Kernel, Kind, ObjectSlot, Outcome, Role, Stand, Task, TaskSlot, FOR_EVER, IDLE, LAST_USE, MOST_HOLD, MOST_PENDED,
+    PRIORITIES, RETIRED, TASKS,
 };
 use crate::loans::{by_search, by_walks};
-use crate::refusals::{refusal, refusal_by_rows};
+use crate::refusals::{refusal, refusal_by_rows, CIRCLE};
 
 fn must(holds: bool, sentence: &str) -> Result<(), String> {
     if holds {
@@ -29,6 +29,7 @@ pub fn soundness(kernel: &Kernel) -> Result<(), String> {
     for task in TaskSlot::all() {
         check_task(kernel, task)?;
     }
+    must(!has_circle(kernel), "there is no circle")?;
     check_loans(kernel)?;
     for object in ObjectSlot::all() {
         check_object(kernel, object)?;
@@ -134,6 +135,25 @@ fn check_task(kernel: &Kernel, task: TaskSlot) -> Result<(), String> {
     must(!kernel.is_blocked(task) || slot.outcome == Outcome::None, "an outcome is 0 if delayed or waiting")
 }
 
+/// "a kernel value with one is not sound". A mutex's waiter waits for its holder; such a pair is
+/// struck off as soon as that holder waits for nobody any more. What stays then is a circle, and
+/// who waits for it.
+pub fn has_circle(kernel: &Kernel) -> bool {
+    let mut pairs: Vec<(TaskSlot, TaskSlot)> = Vec::new();
+    for object in &kernel.objects {
+        if let Kind::Mutex { holder: Some(holder) } = object.kind {
+            pairs.extend(object.waiters.iter().map(|&waiter| (waiter, holder)));
+        }
+    }
+    loop {
+        let waiting: Vec<TaskSlot> = pairs.iter().map(|pair| pair.0).collect();
+        pairs.retain(|(_, holder)| waiting.contains(holder));
+        if pairs.len() == waiting.len() {
+            return !pairs.is_empty();
+        }
+    }
+}
+
 /// "Soundness and demand 3's last sentence read this rule from now on".
 fn check_loans(kernel: &Kernel) -> Result<(), String> {
     let effective = by_walks(kernel, |_| true);
@@ -184,6 +204,9 @@ fn check_step(
     if let Answer::Refused(_) = answer {
         must(before == after && store_before == store_after, "the kernel and all lent bytes stay")?;
     }
+    if let (Call::Take { object, .. }, Answer::Refused(CIRCLE)) = (*call, answer) {
+        check_turned_down(before, object)?;
+    }
     let caller = before.running;
     must(
         (answer == Answer::Waiting) == after.is_blocked(caller),
@@ -212,6 +235,14 @@ fn check_step(
         _ if after.tick != before.tick => check_places(before, &moments_of_ticks(before, after.tick), call, after),
         _ => check_places(before, &moments_of_call(before, after), call, after),
     }
+}
+
+/// Had the caller begun to wait, there would be a circle.
+fn check_turned_down(before: &Kernel, object: u32) -> Result<(), String> {
+    let mut kernel = before.clone();
+    let (object, _) = kernel.find_mutex(object).ok_or("a take refused as a circle names a mutex")?;
+    kernel.wait_running(object, Role::Taker, FOR_EVER);
+    must(has_circle(&kernel), "a take refused as a circle would close one")
 }
 
 /// "in order of arrival", and the order in which delays and waits began: who stays keeps

@@ -125,12 +125,14 @@ pub struct Coverage {
     pub lines: u64,
     pub accepted: [u64; 19],
     pub waiting: [u64; 19],
-    pub refused: [u64; 17],
+    pub refused: [u64; 18],
     pub refused_by_call: BTreeMap<(usize, u8), u64>,
     pub damaged: BTreeMap<&'static str, u64>,
     pub events: BTreeMap<&'static str, u64>,
     /// The tick count when each task last began a delay or wait.
     began_at: [u32; TASKS],
+    /// The caller's and the mutex's number of the last take from each slot that was refused as a circle.
+    pub refused_circles: [Option<(u32, u32)>; TASKS],
 }
 
 impl Coverage {
@@ -164,6 +166,9 @@ impl Coverage {
     pub fn observe_refused(&mut self, kernel: &Kernel, store: &[u8], call: &Call, row: u8) {
         if row == 5 {
             self.observe_unnamed(kernel, store, call);
+        }
+        if let Call::Take { object, wait } = *call {
+            self.observe_refused_take(kernel, object, wait, row);
         }
         if let Call::Advance { ticks } = *call {
             let held = kernel.hold > 0;
@@ -291,6 +296,7 @@ impl Coverage {
                 self.event_if(moved_in && queue.capacity > 8, "receive: moved in at capacity above 8");
             }
             Call::Take { object, .. } => {
+                self.observe_accepted_take(before, object, after);
                 let (_, holder) = before.find_mutex(object).expect("accepted");
                 if let Some(holder) = holder {
                     let raised = after.task(holder).effective > before.task(holder).effective;
@@ -461,7 +467,7 @@ impl Coverage {
             text += &format!("{number:>4} {name:<14}{accepted:>8} {waiting:>8}\n");
         }
         text += &format!("     {:<14}{:>8}\n\nrefused\n", "all", self.accepted.iter().sum::<u64>());
-        for row in 3..=16u8 {
+        for row in 3..=17u8 {
             let by_call: Vec<String> = self
                 .refused_by_call
                 .iter()

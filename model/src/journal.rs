@@ -2,6 +2,7 @@
 //! most calls are accepted and meet a busy kernel.
 
 use crate::calls::{Answer, Call};
+use crate::chains;
 use crate::coverage::Coverage;
 use crate::damage;
 use crate::kernel::{
@@ -9,10 +10,12 @@ use crate::kernel::{
     MOST_PENDED, RETIRED, TASKS,
 };
 use crate::line::{read_call, ITEM_BYTES};
-use crate::loans;
 use crate::machine::Machine;
 use crate::random::Random;
-use crate::refusals::refusal;
+use crate::refusals::{refusal, CIRCLE};
+use circles::{held_by_others, links_from, Rest, MOST_LINKS};
+
+mod circles;
 
 /// How often each call is tried, by call number; one row for each mood.
 #[rustfmt::skip]
@@ -30,9 +33,12 @@ const MOODS: [[u32; 19]; 10] = [
     [0,  9,  1,  2,  4,  6,  9,  6,  1,  3,  2,  2,  1,  7,  7,  9,  7,  3, 46], // sleep in a crowd
 ];
 
-/// Calls that can get each refusal from 4 to 15; used when one is aimed at.
+/// The refusals that are aimed at.
+const AIMED: [u8; 13] = [4, 5, 6, 7, 8, 9, 10, 11, 12, 13, 14, 15, CIRCLE];
+
+/// Calls that can get each refusal that is aimed at.
 #[rustfmt::skip]
-const CALLS_OF_ROW: [&[u32]; 16] = [
+const CALLS_OF_ROW: [&[u32]; 18] = [
     &[], &[], &[], &[],
     &[1, 5, 6, 10, 18],
     &[2, 3, 4, 5, 12, 13, 14, 15, 16],
@@ -46,6 +52,8 @@ const CALLS_OF_ROW: [&[u32]; 16] = [
     &[4],
     &[13, 14, 15],
     &[8, 9],
+    &[],
+    &[15],
 ];
 
 /// Tasks gather for a tick that is at most so far ahead.
@@ -71,15 +79,20 @@ enum Plan {
     /// Ticks up to this one, in this way; then `Descend`.
     Pass(u32, Way),
     /// Mutexes are taken, and waited on up to this tick or one of the next two, for this many lines, so that chains
-    /// and circles come about; then `Stir`. Or many wait on one mutex, and `Untie` follows.
+    /// come about, and takes that would close a circle; then `Stir`. Or many wait on one mutex, and `Untie` follows.
     Link(u32, u32, bool),
     /// Calls that change what is lent along chains, for this many lines, then `Pass` to this tick or `Untie`.
     Stir(u32, u32),
     /// Mutexes are given back, for this many lines.
     Untie(u32),
-    /// Tasks are deleted, and who holds a mutex gives it, until half of the task slots are free or for this many lines;
-    /// then `Link` or `Pair`.
-    Clear(u32),
+    /// Tasks are deleted, and who holds a mutex gives it, until more than so many task slots are free or for this many
+    /// lines; then `Link`, `Pair` or `Stretch`.
+    Clear(u32, usize),
+    /// For this many lines one chain is made, up to so many links; then `Close`.
+    Stretch(u32, usize, Rest),
+    /// Takes that would close a circle, and others, for this many lines; with who asked last, and for which mutex. Then
+    /// `Stir` or `Untie`.
+    Close(u32, Option<(TaskSlot, ObjectSlot)>),
     /// Tasks of the first priority each take a mutex, and tasks of the second each wait on one of these up to this tick
     /// or the next, for this many lines; then `Pass` or `Untie`.
     Pair(u32, u32, (u32, u32)),
@@ -256,11 +269,19 @@ impl Author {
         if self.plan == Plan::None && left > 700 && self.random.below(4_500) == 0 {
             self.plan = Plan::Climb(8);
         }
-        if self.plan == Plan::None && self.kernel().hold == 0 && self.random.below(22) == 0 {
+        if self.plan == Plan::None && self.kernel().hold == 0 && self.random.below(18) == 0 {
             self.plan = self.gather_tasks();
         }
-        if self.plan == Plan::None && self.kernel().hold == 0 && self.random.below(32) == 0 {
-            self.plan = if self.random.percent(25) { self.link_tasks() } else { Plan::Clear(24) };
+        if self.plan == Plan::None && self.kernel().hold == 0 && self.random.below(28) == 0 {
+            self.plan = if self.random.percent(25) { self.link_tasks() } else { Plan::Clear(24, TASKS / 2) };
+        }
+        if self.plan == Plan::None && self.kernel().hold == 0 && self.random.below(120) == 0 {
+            let links = self.random.between(1, 8);
+            self.plan = self.stretch_tasks(links as usize);
+        }
+        // Long enough for a chain of all tasks.
+        if self.plan == Plan::None && self.kernel().hold == 0 && self.random.below(900) == 0 {
+            self.plan = Plan::Clear(60, MOST_LINKS);
         }
         if self.plan == Plan::None && self.random.below(400) == 0 {
             self.plan = self.fill_a_queue();
@@ -326,7 +347,7 @@ impl Author {
         let until = due.wrapping_add(2);
         let way = match self.random.below(100) {
             0..=42 => Way::Single,
-            43..=74 => Way::Pended,
+            43..=77 => Way::Pended,
             _ if until < self.kernel().tick => Way::Pended,
             _ => Way::Advance,
         };
@@ -478,7 +499,7 @@ impl Author {
                 }
                 self.plan = Plan::Link(due, left - 1, crowd);
                 let fields = if hold > 0 { Some(call(&[9])) } else { self.link_call(ticks, crowd) };
-                fields.filter(|fields| often && self.refusal_of(fields).is_none())
+                fields.filter(|fields| often && self.refusal_of(fields).is_none_or(|row| row == CIRCLE))
             }
             Plan::Stir(due, left) => {
                 let ticks = due.wrapping_sub(self.kernel().tick);
@@ -492,15 +513,38 @@ impl Author {
                 let fields = if release { Some(call(&[9])) } else { self.stir_call() };
                 fields.filter(|fields| often && self.refusal_of(fields).is_none())
             }
-            Plan::Clear(left) => {
+            Plan::Clear(left, most) => {
                 let free = self.kernel().tasks.iter().filter(|task| task.is_free()).count();
-                if left == 0 || free > TASKS / 2 {
-                    self.plan = if self.random.percent(50) { self.link_tasks() } else { self.pair_tasks() };
+                if left == 0 || free > most {
+                    self.plan = match self.random.below(100) {
+                        _ if most == MOST_LINKS => self.stretch_tasks(MOST_LINKS),
+                        0..=49 => self.link_tasks(),
+                        _ => self.pair_tasks(),
+                    };
                     return None;
                 }
-                self.plan = Plan::Clear(left - 1);
+                self.plan = Plan::Clear(left - 1, most);
                 let fields = if hold > 0 { Some(call(&[9])) } else { self.clear_call() };
                 fields.filter(|fields| often && self.refusal_of(fields).is_none())
+            }
+            Plan::Stretch(left, links, rest) => {
+                if hold > 0 {
+                    return Some(call(&[9]));
+                }
+                let fields = if left == 0 { None } else { self.stretch_call(links, rest) };
+                self.plan = match fields {
+                    Some(_) => Plan::Stretch(left - 1, links, rest),
+                    None => Plan::Close(self.random.between(8, 24), None),
+                };
+                fields.filter(|fields| self.refusal_of(fields).is_none())
+            }
+            Plan::Close(0, _) => {
+                self.plan = self.after_close();
+                None
+            }
+            Plan::Close(left, last) => {
+                self.plan = Plan::Close(left - 1, last);
+                self.close_call(left - 1, last)
             }
             Plan::Pair(due, left, (low, high)) => {
                 let ticks = due.wrapping_sub(self.kernel().tick);
@@ -615,24 +659,23 @@ impl Author {
         }
     }
 
-    /// The running task takes a mutex, and another on which it waits for about so many ticks; or another task is
-    /// brought to run.
+    /// The running task takes a mutex, and another on which it waits for about so many ticks, or asks for one that would
+    /// close a circle; or another task is brought to run.
     fn link_call(&mut self, ticks: u32, crowd: bool) -> Option<Fields> {
         if self.kernel().running == IDLE {
             return self.bring_a_task();
         }
         let kernel = &self.machine.kernel;
         let caller = kernel.running;
-        let of_another = |object: &ObjectSlot| match kernel.object(*object).kind {
-            Kind::Mutex { holder } => holder.is_some_and(|holder| holder != caller),
-            _ => false,
-        };
-        let of_others: Vec<ObjectSlot> = ObjectSlot::all().filter(of_another).collect();
+        let (back, elsewhere) = held_by_others(kernel);
         let holds = kernel.holds_a_mutex(caller);
-        let lent = loans::has_waiters(kernel, caller);
+        let lent = chains::has_waiters(kernel, caller);
         let choice = self.random.below(100);
         if choice < 12 || (!holds && choice < 85) {
             return Some(self.take_a_free_one());
+        }
+        if !back.is_empty() && self.random.percent(18) {
+            return self.circle_call(&back);
         }
         // Who has waiters makes room for more of them, mostly.
         let begins = match (lent, crowd) {
@@ -640,8 +683,8 @@ impl Author {
             (true, false) => 35,
             _ => 85,
         };
-        if choice < begins && !of_others.is_empty() {
-            let object = self.link_to(&of_others, crowd);
+        if choice < begins && !elsewhere.is_empty() {
+            let object = self.link_to(&elsewhere, crowd);
             let wait = match self.random.below(100) {
                 0..=79 => ticks + self.random.pick(&[0, 0, 0, 0, 1, 2]),
                 80..=89 => self.random.between(10, 40),
@@ -704,7 +747,7 @@ impl Author {
             ObjectSlot::all().find(|&object| kernel.object(object).kind == Kind::Mutex { holder: Some(holder) })
         };
         let unlent: Vec<TaskSlot> =
-            holders.iter().copied().filter(|&task| task != caller && !loans::has_waiters(kernel, task)).collect();
+            holders.iter().copied().filter(|&task| task != caller && !chains::has_waiters(kernel, task)).collect();
         let yields_to =
             |own: u32| kernel.running_line().iter().any(|&other| is_of(other, own) && !kernel.holds_a_mutex(other));
         let enough = holders.len() >= PAIRS;
@@ -720,7 +763,7 @@ impl Author {
             return Some(self.take_a_free_one());
         }
         let own = if enough { high } else { low };
-        let done = enough && unlent.is_empty() && loans::has_waiters(kernel, caller);
+        let done = enough && unlent.is_empty() && chains::has_waiters(kernel, caller);
         match (done, yields_to(own)) {
             (true, _) => None,
             (_, true) => Some(call(&[7])),
@@ -728,19 +771,13 @@ impl Author {
         }
     }
 
-    /// One of these mutexes: at the end of the longest chain, of a holder that waits for the caller, with the most
-    /// waiters, or any.
+    /// One of these mutexes: at the end of the longest chain, with the most waiters, or any.
     fn link_to(&mut self, mutexes: &[ObjectSlot], crowd: bool) -> ObjectSlot {
         let kernel = &self.machine.kernel;
-        let chain_of = |object: &ObjectSlot| match kernel.object(*object).kind {
-            Kind::Mutex { holder: Some(holder) } => loans::chain(kernel, holder),
-            _ => Vec::new(),
-        };
         let found = match self.random.below(100) {
             _ if crowd => mutexes.iter().max_by_key(|object| kernel.object(**object).waiters.len()),
-            0..=44 => mutexes.iter().max_by_key(|object| chain_of(object).len()),
-            45..=64 => mutexes.iter().rfind(|object| chain_of(object).contains(&kernel.running)),
-            65..=79 => mutexes.iter().max_by_key(|object| kernel.object(**object).waiters.len()),
+            0..=54 => mutexes.iter().max_by_key(|object| links_from(kernel, **object)),
+            55..=74 => mutexes.iter().max_by_key(|object| kernel.object(**object).waiters.len()),
             _ => None,
         };
         found.copied().unwrap_or_else(|| self.random.pick(mutexes))
@@ -749,7 +786,7 @@ impl Author {
     /// A call that changes what is lent.
     fn stir_call(&mut self) -> Option<Fields> {
         let kernel = &self.machine.kernel;
-        let links = |task: &TaskSlot| loans::chain(kernel, *task).len();
+        let links = |task: &TaskSlot| chains::chain(kernel, *task).len();
         let mut takers: Vec<TaskSlot> = TaskSlot::all().filter(|task| links(task) > 0).collect();
         takers.sort_by_key(|task| std::cmp::Reverse(links(task)));
         let holders: Vec<TaskSlot> = TaskSlot::all().filter(|&task| kernel.holds_a_mutex(task)).collect();
@@ -795,13 +832,13 @@ impl Author {
         self.mostly(fields)
     }
 
-    /// The running task gives a mutex; without one, it goes.
+    /// The running task gives a mutex; without one, it goes, or one of too many mutexes does.
     fn untie_call(&mut self) -> Option<Fields> {
+        if let Some(fields) = self.give_call().or_else(|| self.spare_mutex()) {
+            return Some(fields);
+        }
         if self.kernel().running == IDLE {
             return self.bring_a_task();
-        }
-        if let Some(fields) = self.give_call() {
-            return Some(fields);
         }
         let caller = self.kernel().running_number();
         let fields = match self.random.below(100) {
@@ -821,7 +858,7 @@ impl Author {
                 let number = match kernel.object(object).kind {
                     Kind::Queue(queue) if queue.count == queue.capacity => 13,
                     Kind::Queue(queue) if queue.count == 0 => 14,
-                    Kind::Mutex { holder: Some(holder) } if holder != kernel.running => 15,
+                    Kind::Mutex { holder: Some(holder) } if !chains::leads_back(kernel, holder, kernel.running) => 15,
                     _ => return None,
                 };
                 Some((number, kernel.object_number(object)))
@@ -870,7 +907,7 @@ impl Author {
 
     /// A call that gets one chosen refusal, if one is found.
     fn aimed_call(&mut self) -> Fields {
-        let mut row = self.random.between(4, 15) as usize;
+        let mut row = self.random.pick(&AIMED) as usize;
         if self.kernel().running == IDLE && self.random.percent(30) {
             row = 7;
         } else if self.kernel().hold > 0 && self.random.percent(30) {
@@ -1124,7 +1161,7 @@ impl Author {
             return self.random.pick(&[0, 0, 1, 65_534, 65_535, 65_536, 65_536, 65_537, 131_071, 1 << 31, FOR_EVER]);
         }
         let line = self.kernel().running_line().len() as u32;
-        let most = if line == 1 || self.random.percent(8) { MOST_ADVANCE } else { MOST_TURNS };
+        let most = if line == 1 || self.random.percent(10) { MOST_ADVANCE } else { MOST_TURNS };
         let ticks = match self.random.below(100) {
             0..=29 => self.random.between(1, 5),
             // Around the next wake, or any.

@@ -1,6 +1,6 @@
 //! The kernel value: task slots, object slots, the lines of ready tasks and the order in
 //! which delayed and waiting tasks began. Quoted sentences are document 01's, and those of
-//! requests 1 and 3 to 5 in document 02.
+//! requests 1 and 3 to 6 in document 02.
 
 use crate::loans;
 

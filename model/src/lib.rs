@@ -1,8 +1,10 @@
-//! A second opinion on the kernel of document 01 and requests 1 and 3 to 5 of document 02, written from these and
+//! A second opinion on the kernel of document 01 and requests 1 and 3 to 6 of document 02, written from these and
 //! the readings in docs/DECISIONS.md.
 
 pub mod calls;
+pub mod chains;
 pub mod check;
+pub mod circle_events;
 pub mod coverage;
 pub mod damage;
 pub mod filter;

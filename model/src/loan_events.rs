@@ -1,10 +1,10 @@
-//! What a journal exercises of loans: chains and circles, and how a call changes who has which
-//! effective priority.
+//! What a journal exercises of loans: chains, and how a call changes who has which effective
+//! priority.
 
 use crate::calls::{jump, single_ticks, Call};
+use crate::chains::{chain, has_waiters, holder_over};
 use crate::coverage::Coverage;
 use crate::kernel::{Kernel, Kind, ObjectSlot, Stand, TaskSlot};
-use crate::loans::{chain, circle, has_waiters, holder_over};
 
 /// A name each for what a tick, a release and an advance do.
 type Names = [&'static str; 3];
@@ -35,7 +35,6 @@ const END_OF_CHAIN: Names = [
     "release: the end of a chain timed out",
     "advance: the end of a chain timed out",
 ];
-const BROKEN: Names = ["tick: a circle broken", "release: a circle broken", "advance: a circle broken"];
 const WOKEN: Names = [
     "tick: a task woken as its loan ends",
     "release: a task woken as its loan ends",
@@ -148,7 +147,7 @@ impl Coverage {
         }
     }
 
-    /// Chains and circles that stand as a call begins, without a hold.
+    /// Chains that stand as a call begins, without a hold.
     fn observe_shape(&mut self, kernel: &Kernel) {
         if kernel.hold > 0 {
             return;
@@ -156,14 +155,8 @@ impl Coverage {
         let longest = TaskSlot::all().map(|task| chain(kernel, task).len()).max().unwrap_or(0);
         self.event_if(longest >= 3, "chain: three links and more stand");
         self.event_if(longest >= 5, "chain: five links and more stand");
-        let circles: Vec<usize> = TaskSlot::all().filter_map(|task| circle(kernel, task)).collect();
-        self.event_if(circles.contains(&2), "circle: of two stands");
-        self.event_if(circles.contains(&3), "circle: of three stands");
-        self.event_if(circles.iter().any(|&tasks| tasks > 3), "circle: of four and more stands");
-        let leads_into = |task: TaskSlot| {
-            circle(kernel, task).is_none() && chain(kernel, task).iter().any(|&other| circle(kernel, other).is_some())
-        };
-        self.event_if(TaskSlot::all().any(leads_into), "circle: a chain leads into it");
+        self.event_if(longest >= 10, "chain: ten links and more stand");
+        self.event_if(longest == 14, "chain: of all fifteen tasks stands");
     }
 
     /// The running task's line changes.
@@ -186,15 +179,8 @@ impl Coverage {
         let raised = changed(before, after);
         let links_raised = links(after, caller, &raised);
         let length = chain(after, caller).len();
-        match circle(after, caller) {
-            None => {
-                self.event_if(length == 2, "take: a chain of two links");
-                self.event_if(length > 2, "take: a chain of three links and more");
-            }
-            Some(2) => self.event("take: closes a circle of two"),
-            Some(3) => self.event("take: closes a circle of three"),
-            Some(_) => self.event("take: closes a circle of four and more"),
-        }
+        self.event_if(length == 2, "take: a chain of two links");
+        self.event_if(length > 2, "take: a chain of three links and more");
         self.event_if(raised.is_empty(), "take: nobody raised");
         self.event_if(links_raised == 2, "take: lent over two links");
         self.event_if(links_raised > 2, "take: lent over three links and more");
@@ -239,7 +225,6 @@ impl Coverage {
         self.event_if(down && links > 2, "set priority: down, passed over three links and more");
         let waits = holder_over(before, task).is_some();
         self.event_if(down && waits && links == 0, "set priority: a waiter lower, other loans stay");
-        self.event_if(circle(before, task).is_some(), "set priority: a task on a circle");
         let ready = |other: &TaskSlot| before.task(*other).stand == Stand::Ready;
         self.event_if(links > 0 && moved.iter().any(ready), "set priority: a ready holder moves");
         if before.holds_a_mutex(task) && !up {
@@ -270,7 +255,6 @@ impl Coverage {
             self.event_if(links > 1, "suspend: a waiter, its loan ends over several links");
             self.event_if(links == 0, "suspend: a waiter, other loans stay");
             self.event_if(links > 0 && has_waiters(before, task), "suspend: the middle of a chain, a loan ends");
-            self.event_if(circle(before, task).is_some(), "suspend: a circle broken");
         } else {
             self.event_if(links > 0, "delete: a waiter, its loan ends");
             self.event_if(links > 1, "delete: a waiter, its loan ends over several links");
@@ -296,7 +280,6 @@ impl Coverage {
         let at_the_end =
             |task: &TaskSlot| reach(task) > 0 && chain(before, *task).len() > 1 && !has_waiters(before, *task);
         self.event_if(takers.iter().any(at_the_end), END_OF_CHAIN[way]);
-        self.event_if(takers.iter().any(|&task| circle(before, task).is_some()), BROKEN[way]);
         self.event_if(fallen.iter().any(|task| woken.contains(task)), WOKEN[way]);
         self.observe_moves(before, &woken, &fallen, after, way);
     }

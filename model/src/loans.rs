@@ -2,7 +2,8 @@
 //! that wait, directly or along a chain of holders, on a mutex it holds." The rule is here
 //! twice: the kernel goes by a search, and the self-check compares it with walks.
 
-use crate::kernel::{Kernel, Kind, Stand, TaskSlot, TASKS};
+use crate::chains::holder_over;
+use crate::kernel::{Kernel, Kind, TaskSlot, TASKS};
 
 /// A set of task slots, a bit for each.
 type Slots = u16;
@@ -28,6 +29,12 @@ fn waiters_of_holders(kernel: &Kernel) -> [Slots; TASKS] {
         }
     }
     waiters
+}
+
+/// Whether this task lends to the other: it is that one, or waits, directly or along a chain of
+/// holders, on a mutex that the other holds.
+pub fn lends(kernel: &Kernel, task: TaskSlot, other: TaskSlot) -> bool {
+    lenders(other.index(), &waiters_of_holders(kernel)) >> task.index() & 1 == 1
 }
 
 /// All who lend to this slot, itself among them. "a circle must still end": each is looked at
@@ -60,38 +67,4 @@ pub fn by_walks(kernel: &Kernel, waits: impl Fn(TaskSlot) -> bool) -> [u8; TASKS
         }
     }
     effective
-}
-
-/// The holder of the mutex on which this task waits, if it waits on one.
-pub fn holder_over(kernel: &Kernel, task: TaskSlot) -> Option<TaskSlot> {
-    let Stand::Waiting { object, .. } = kernel.task(task).stand else { return None };
-    match kernel.object(object).kind {
-        Kind::Mutex { holder } => holder,
-        _ => None,
-    }
-}
-
-/// Whether somebody waits on a mutex that this task holds.
-pub fn has_waiters(kernel: &Kernel, task: TaskSlot) -> bool {
-    TaskSlot::all().any(|other| holder_over(kernel, other) == Some(task))
-}
-
-/// The holders along the chain from this task, the nearest first. On a circle the last is the
-/// first that would come again.
-pub fn chain(kernel: &Kernel, task: TaskSlot) -> Vec<TaskSlot> {
-    let mut chain = Vec::new();
-    let mut at = task;
-    while let Some(holder) = holder_over(kernel, at) {
-        if chain.contains(&holder) {
-            break;
-        }
-        chain.push(holder);
-        at = holder;
-    }
-    chain
-}
-
-/// How many tasks are on the circle of this task, if it is on one.
-pub fn circle(kernel: &Kernel, task: TaskSlot) -> Option<usize> {
-    chain(kernel, task).iter().position(|&holder| holder == task).map(|place| place + 1)
 }

@@ -1,18 +1,24 @@
 //! What is turned away. "Of the numbers that apply, the one that stands first in this
 //! table is given, and none otherwise."
 //!
-//! `refusal` goes by call, with the rows that can apply to it in rising order.
+//! `refusal` goes by call, with the rows that can apply to it in the table's order.
 //! `refusal_by_rows` is the table itself, row by row; the self-check compares the two.
 //! Row 1 (soundness) is asserted by the self-check; row 3 belongs to the line reader.
 
 use crate::calls::{Call, Named};
+use crate::chains::leads_back;
 use crate::kernel::{
     Kernel, Kind, ObjectSlot, Stand, TaskSlot, FOR_EVER, IDLE, MOST_ADVANCE, MOST_CAPACITY, MOST_HOLD, MOST_ITEM,
     MOST_PENDED, MOST_PRODUCT, PRIORITIES,
 };
+use crate::loans::lends;
 use crate::store::STORE_BYTES;
 
 pub const NOT_A_CALL: u8 = 3;
+pub const CIRCLE: u8 = 17;
+
+/// The table's rows in its order, without 1 and 3. "17, circle, which stands directly before 14".
+const ROWS: [u8; 15] = [2, 4, 5, 6, 7, 8, 9, 10, 11, 12, 13, CIRCLE, 14, 15, 16];
 
 fn first_of(rows: &[(u8, bool)]) -> Option<u8> {
     rows.iter().find(|row| row.1).map(|row| row.0)
@@ -88,6 +94,7 @@ pub fn refusal(kernel: &Kernel, store: &[u8], call: &Call) -> Option<u8> {
                 (7, idle_calls),
                 (8, wait != 0 && held),
                 (12, holder == Some(caller)),
+                (CIRCLE, holder.is_some_and(|holder| leads_back(kernel, holder, caller))),
                 (14, wait == 0 && holder.is_some()),
             ])
         }
@@ -102,7 +109,7 @@ pub fn refusal(kernel: &Kernel, store: &[u8], call: &Call) -> Option<u8> {
 
 /// The same, read off the table: the first row that applies.
 pub fn refusal_by_rows(kernel: &Kernel, store: &[u8], call: &Call) -> Option<u8> {
-    (2..=16).filter(|&row| row != NOT_A_CALL).find(|&row| row_applies(row, kernel, store, call))
+    ROWS.into_iter().find(|&row| row_applies(row, kernel, store, call))
 }
 
 fn row_applies(row: u8, kernel: &Kernel, store: &[u8], call: &Call) -> bool {
@@ -188,6 +195,15 @@ fn row_applies(row: u8, kernel: &Kernel, store: &[u8], call: &Call) -> bool {
         13 => match *call {
             Call::Resume { task } => {
                 kernel.find_task(task).is_some_and(|task| kernel.task(task).stand != Stand::Suspended)
+            }
+            _ => false,
+        },
+        // "Turn down a take, of any wait, exactly if the chain from that mutex's holder, through
+        // mutexes being waited on, leads back to the caller": the holder lends to the caller then.
+        CIRCLE => match *call {
+            Call::Take { object, .. } => {
+                let holder = kernel.find_mutex(object).and_then(|(_, holder)| holder);
+                holder.is_some_and(|holder| lends(kernel, holder, caller))
             }
             _ => false,
         },

@@ -4,10 +4,11 @@ mod common;
 
 use common::{go_on, line_of, object, repeat, session, task};
 use model::calls::{step, Answer, Call};
-use model::check::soundness;
+use model::chains::chain;
+use model::check::{has_circle, soundness};
 use model::journal::journal;
 use model::kernel::{Kernel, Kind, ObjectSlot, Outcome, Role, Stand, TaskSlot};
-use model::loans::{by_search, by_walks, chain, circle};
+use model::loans::{by_search, by_walks};
 use model::machine::Machine;
 use model::random::Random;
 
@@ -143,18 +144,35 @@ fn first_waiter_goes_by_what_is_lent() {
     }
 }
 
+/// How many tasks are on the circle of this task, if it is on one.
+fn circle(kernel: &Kernel, task: TaskSlot) -> Option<usize> {
+    chain(kernel, task).iter().position(|&holder| holder == task).map(|place| place + 1)
+}
+
+/// The running task closes a circle: it begins to wait on this mutex by hand, since its take is turned down. The kernel
+/// is not sound then, and "a circle must still end".
+fn close_by_hand(machine: &mut Machine, mutex: usize, wait: u32) {
+    go_on(machine, &format!("15 {mutex} {wait} -> no 17 {}", machine.kernel.running_number()));
+    machine.check = false;
+    machine.kernel.wait_running(object(mutex), Role::Taker, wait);
+    machine.kernel.work_out_loans();
+    machine.kernel.choose();
+}
+
 /// Tasks 1 and 2 (3 and 4) hold mutexes 0 and 1, and wait on each other's: task 1 for so many ticks. Idle runs.
 fn two_on_a_circle(first_waits: u32) -> Machine {
-    session(&format!(
+    let mut machine = session(
         "1 3 -> ok 1 1
          11 -> ok 0 1
          11 -> ok 1 1
          15 0 0 -> ok 0 1
          1 4 -> ok 2 2
          15 1 0 -> ok 0 2
-         15 0 4294967295 -> wait 0 1
-         15 1 {first_waits} -> wait 0 0"
-    ))
+         15 0 4294967295 -> wait 0 1",
+    );
+    close_by_hand(&mut machine, 1, first_waits);
+    assert_eq!(machine.kernel.running, task(0));
+    machine
 }
 
 #[test]
@@ -175,6 +193,7 @@ fn a_circle_of_two() {
     go_on(&mut machine, "5 2 6 -> ok 0 0");
     repeat(&mut machine, 3, "17 -> ok 0 0");
     go_on(&mut machine, "17 -> ok 0 1");
+    machine.check = true;
     assert_eq!(effective(&machine, [1, 2, 3]), [6, 6, 1]);
     assert_eq!((chain(&machine.kernel, task(3)).len(), circle(&machine.kernel, task(2))), (2, None));
     go_on(&mut machine, "16 0 -> ok 0 2");
@@ -209,9 +228,9 @@ fn a_circle_of_three() {
          15 0 50 -> wait 0 1
          3 1 -> ok 0 2
          15 2 50 -> wait 0 0
-         4 1 -> ok 0 1
-         15 1 50 -> wait 0 0",
+         4 1 -> ok 0 1",
     );
+    close_by_hand(&mut machine, 1, 50);
     assert_eq!(effective(&machine, [1, 2, 3]), [5, 5, 5]);
     assert_eq!(circle(&machine.kernel, task(2)), Some(3));
     go_on(&mut machine, "5 2 8 -> ok 0 0");
@@ -437,7 +456,7 @@ fn by_rounds(kernel: &Kernel) -> [u8; 16] {
 
 #[test]
 fn three_ways_on_random_journals() {
-    let (mut lent, mut over_links, mut circles) = (0, 0, 0);
+    let (mut lent, mut over_links) = (0, 0);
     for seed in 5_000..5_060 {
         let mut machine = Machine::new(false);
         for line in journal(seed, 2_000).split_inclusive(|&byte| byte == b'\n') {
@@ -449,10 +468,9 @@ fn three_ways_on_random_journals() {
             assert_eq!(effective, by_rounds(kernel), "seed {seed}");
             lent += u32::from(kernel.tasks.iter().any(|task| task.effective > task.own));
             over_links += u32::from(TaskSlot::all().any(|task| chain(kernel, task).len() > 2));
-            circles += u32::from(TaskSlot::all().any(|task| circle(kernel, task).is_some()));
         }
     }
-    assert!(lent > 20_000 && over_links > 3_000 && circles > 3_000, "{lent} {over_links} {circles}");
+    assert!(lent > 20_000 && over_links > 3_000, "{lent} {over_links}");
 }
 
 /// Any tasks that hold any mutexes, and wait on any that another holds.
@@ -479,12 +497,12 @@ fn tangle(random: &mut Random) -> Kernel {
     kernel
 }
 
-/// Tangles that no journal reaches in few lines: the three ways agree, and a call works them out and leaves a sound
-/// kernel.
+/// Tangles that no journal reaches in few lines, or at all: the three ways agree, and a call works them out and leaves
+/// a kernel that is sound but for a circle.
 #[test]
 fn three_ways_on_tangles() {
     let mut random = Random::new(5);
-    let (mut longest, mut largest) = (0, 0);
+    let (mut longest, mut largest, mut sound) = (0, 0, 0);
     for _ in 0..20_000 {
         let mut kernel = tangle(&mut random);
         let effective = by_search(&kernel);
@@ -494,7 +512,10 @@ fn three_ways_on_tangles() {
         largest = largest.max(TaskSlot::all().filter_map(|task| circle(&kernel, task)).max().unwrap_or(0));
         assert_eq!(step(&mut kernel, &mut [0; 9_216], &Call::Hold), Answer::Done);
         assert_eq!(kernel.tasks.map(|task| task.effective), effective);
-        assert_eq!(soundness(&kernel), Ok(()));
+        assert_eq!(has_circle(&kernel), TaskSlot::all().any(|task| circle(&kernel, task).is_some()));
+        let verdict = if has_circle(&kernel) { Err("there is no circle".to_string()) } else { Ok(()) };
+        assert_eq!(soundness(&kernel), verdict);
+        sound += u32::from(verdict.is_ok());
     }
-    assert!(longest > 8 && largest > 5, "{longest} {largest}");
+    assert!(longest > 8 && largest > 5 && sound > 2_000, "{longest} {largest} {sound}");
 }

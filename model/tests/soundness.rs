@@ -43,6 +43,7 @@ const ORDER: &str = "the order has each of them";
 const ORDER_ONCE: &str = "the order has each of them once";
 const ORDER_ELSE: &str = "the order has no one else";
 const ORDER_AGREES: &str = "the order agrees with each object's list";
+const CIRCLE: &str = "there is no circle";
 const LOANS: &str = "effective is what the rule of loans says";
 const MOST: &str = "a use is at most 65,536";
 const MOST_TAKEN: &str = "in a taken slot 65,535";
@@ -102,23 +103,50 @@ fn a_chain_is_sound_with_its_loans_alone() {
     }
 }
 
-/// Task 1, which runs no more, waits on mutex 2 too: a circle with task 2, and task 6 before it.
+/// Task 1, which runs no more, waits on this mutex too.
+fn closed(mut kernel: Kernel, mutex: usize) -> Kernel {
+    kernel.leave_line(task(1));
+    kernel.tasks[1].stand = Stand::Waiting { object: object(mutex), role: Role::Taker, wake: None };
+    kernel.objects[mutex].waiters.push(task(1));
+    kernel.began.push(task(1));
+    kernel.running = task(3);
+    kernel
+}
+
 #[test]
-fn a_circle_is_sound_with_the_largest_own_priority() {
-    let mut circle = chained();
-    circle.leave_line(task(1));
-    circle.tasks[1].stand = Stand::Waiting { object: object(2), role: Role::Taker, wake: None };
-    circle.objects[2].waiters.push(task(1));
-    circle.began.push(task(1));
-    circle.running = task(3);
-    assert_eq!(soundness(&circle), Ok(()));
-    // The two could as well lend each other 31, but nobody has it.
+fn a_circle_is_not_sound() {
+    // Tasks 1 and 2, with task 6 before them; all have the largest own priority, as the rule of loans says.
+    let circle = closed(chained(), 2);
+    assert_eq!(soundness(&circle), Err(CIRCLE.to_string()));
     for (first, second) in [(31, 31), (10, 10), (5, 5), (9, 5), (5, 9), (3, 9)] {
         let mut kernel = circle.clone();
         kernel.set_effective(task(1), first);
         kernel.set_effective(task(2), second);
-        assert_eq!(soundness(&kernel), Err(LOANS.to_string()), "{first}, {second}");
+        assert_eq!(soundness(&kernel), Err(CIRCLE.to_string()), "{first}, {second}");
     }
+    // Tasks 1, 2 and 6: task 1 waits on mutex 3, which task 6 holds.
+    let mut kernel = chained();
+    kernel.objects[3].kind = Kind::Mutex { holder: Some(task(6)) };
+    assert_eq!(soundness(&kernel), Ok(()));
+    assert_eq!(soundness(&closed(kernel, 3)), Err(CIRCLE.to_string()));
+}
+
+#[test]
+fn what_is_no_circle_is_sound() {
+    // Task 1 waits on mutex 3, and its holder, task 3, waits for nobody, is suspended, or waits on queue 1.
+    let mut kernel = chained();
+    kernel.objects[3].kind = Kind::Mutex { holder: Some(task(3)) };
+    let mut kernel = closed(kernel, 3);
+    kernel.set_effective(task(3), 9);
+    assert_eq!(soundness(&kernel), Ok(()));
+    kernel.leave_line(task(3));
+    kernel.running = task(0);
+    kernel.tasks[3].stand = Stand::Suspended;
+    assert_eq!(soundness(&kernel), Ok(()));
+    kernel.tasks[3].stand = Stand::Waiting { object: object(1), role: Role::Receiver, wake: None };
+    kernel.objects[1].waiters.push(task(3));
+    kernel.began.push(task(3));
+    assert_eq!(soundness(&kernel), Ok(()));
 }
 
 #[test]

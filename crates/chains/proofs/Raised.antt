@@ -5,9 +5,9 @@ use mathlib.Core.Path.{_≡_, refl, sym, _∙_}
 use mathlib.Core.Bool.{Bool, true, false, _||_}
 use mathlib.Core.List.{List}
 use lib.Dec.{eqb, ltb}
-use lib.ListN.{length, getD, set, length-set}
+use lib.ListN.{length, getD, set, replicate, length-set, getD-replicate}
 use lib.Seq.{getD-set-same, getD-set-other}
-use borrow.Author.Tests.{ltb-false, eqb-true, eqb-false}
+use borrow.Author.Tests.{ltb-false, eqb-true, eqb-false, eq-eqb, ne-eqb}
 use Rattle.lists.specs.Choice.{if_then_else_}
 use Rattle.lists.specs.Lists.{larger, upTo}
 use Rattle.lists.proofs.Tests.{larger-max}
@@ -54,6 +54,14 @@ module _ (onto by : List ℕ) where
         go true false e = e
         go false true e = rw e
         go false false e = e
+
+  -- a loan of 1 where nobody has anything yet marks who lies within 16 links of h
+  pub marks-at : (h u : ℕ) → u < 16 → eqb (getD (lent onto by 16 h 1 (replicate 16 0)) u 0) 1 ≡ within (nextBy onto by) 16 h u
+  marks-at h u l = one (within (nextBy onto by) 16 h u) _ _ (getD-replicate {A = ℕ} 16 u 0 0 l) (lent-at 1 u l 16 h (replicate 16 0) refl)
+    where
+      one : (b : Bool) (m n : ℕ) → n ≡ 0 → m ≡ (if b then max n 1 else n) → eqb m 1 ≡ b
+      one true m n z e = eq-eqb m 1 (omega arith)
+      one false m n z e = ne-eqb m 1 (λ q. omega arith)
 
 module _ (own onto by : List ℕ) (full : length own ≡ 16) where
   -- when the loans of the first m have gone their way

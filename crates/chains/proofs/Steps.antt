@@ -2,10 +2,13 @@
 use Prim.Native.Nat.{ℕ, zero, suc, _-_, _≤_, _<_}
 use native.Mathlib.Omega.{arith}
 use mathlib.Core.Path.{_≡_, refl, sym}
+use mathlib.Core.Bool.{Bool, true, _&&_, and-true}
 use mathlib.Core.List.{List}
+use lib.Dec.{leb}
 use lib.ListN.{getD}
-use borrow.Author.Tests.{lt-ltb, le-ltb}
-use Rattle.chains.specs.Columns.{says, raised, lent, passed}
+use borrow.Author.Tests.{lt-ltb, le-ltb, le-leb, lt-leb}
+use Rattle.chains.specs.Chains.{ends}
+use Rattle.chains.specs.Columns.{says, nextBy, raised, lent, passed}
 
 raised-past : (t p : ℕ) (ls : List ℕ) → 16 ≤ t → raised t p ls ≡ ls
 unfolding raised
@@ -36,3 +39,32 @@ module _ (onto by : List ℕ) (p : ℕ) where
 
   pub loan-none : (n i : ℕ) (ls : List ℕ) → i < 16 → 16 ≤ getD onto i 0 → ls ≡ passed onto by n (says onto i) p ls
   loan-none n i ls l h = rw (lt-ltb i 16 l) (sym (passed-past n (getD onto i 0) ls h))
+
+-- ── whether the chain ends
+module _ (onto by : List ℕ) where
+  pub ends-past : (n s : ℕ) → 16 ≤ s → ends (nextBy onto by) n s ≡ true
+  unfolding ends
+  ends-past zero s h = le-leb 16 s h
+  ends-past (suc n) s h = rw (le-leb 16 s h)
+
+  pub ends-on : (n t : ℕ) → t < 16 → ends (nextBy onto by) (suc n) t ≡ ends (nextBy onto by) n (says by (getD onto t 0))
+  unfolding ends
+  ends-on n t h = rw (lt-leb 16 t h, lt-ltb t 16 h)
+
+  -- from the holder of the object o, where tasks are left and where none is; and past the columns
+  pub passes-on : (n o : ℕ) → 0 < n → o < 16 → ends (nextBy onto by) (suc (n - 1)) (getD by o 0) ≡ ends (nextBy onto by) n (says by o)
+  passes-on n o l h = let z : suc (n - 1) ≡ n = omega arith in rw (z, lt-ltb o 16 h)
+
+  pub passes-none : (o : ℕ) → o < 16 → leb 16 (getD by o 0) ≡ ends (nextBy onto by) 0 (says by o)
+  unfolding ends
+  passes-none o h = rw (lt-ltb o 16 h)
+
+  pub passes-past : (n o : ℕ) → 16 ≤ o → true ≡ ends (nextBy onto by) n (says by o)
+  passes-past n o h = rw (le-ltb o 16 h) (sym (ends-past n 16 (omega arith)))
+
+  -- from whom the task i waits for, if it waits
+  pub goes-on : (i : ℕ) → i < 16 → ends (nextBy onto by) 16 (says by (getD onto i 0)) ≡ ends (nextBy onto by) 16 (nextBy onto by i)
+  goes-on i l = rw (lt-ltb i 16 l)
+
+  pub goes-nowhere : (i : ℕ) → i < 16 → 16 ≤ getD onto i 0 → (b : Bool) → b ≡ (b && ends (nextBy onto by) 16 (nextBy onto by i))
+  goes-nowhere i l h b = rw (← goes-on i l, ← passes-past 16 (getD onto i 0) h) (sym (and-true b))

@@ -1,7 +1,7 @@
 -- Chains of waits: sixteen tasks, each of which waits for at most one other.
 use Prim.Native.Nat.{ℕ, zero, suc}
 use mathlib.Core.Bool.{Bool, _||_}
-use lib.Dec.{eqb}
+use lib.Dec.{eqb, leb}
 use Rattle.lists.specs.Choice.{if_then_else_}
 use Rattle.lists.specs.Lists.{larger, upTo}
 
@@ -9,6 +9,11 @@ use Rattle.lists.specs.Lists.{larger, upTo}
 unfoldable pub within : (ℕ → ℕ) → ℕ → ℕ → ℕ → Bool
 within next zero s u = eqb s u
 within next (suc n) s u = eqb s u || within next n (next s) u
+
+-- the chain from s ends: after at most n links nobody is waited for
+unfoldable pub ends : (ℕ → ℕ) → ℕ → ℕ → Bool
+ends next zero s = leb 16 s
+ends next (suc n) s = leb 16 s || ends next n (next s)
 
 -- u lies any number of links from s
 pub data Along (next : ℕ → ℕ) : ℕ → ℕ → Type 0 where

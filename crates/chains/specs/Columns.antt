@@ -1,10 +1,12 @@
 -- The chains in columns of numbers, and the loans along them.
 use Prim.Native.Nat.{ℕ, zero, suc}
+use mathlib.Core.Bool.{Bool}
 use mathlib.Core.List.{List}
 use lib.Dec.{ltb}
 use lib.ListN.{getD, set}
 use Rattle.lists.specs.Choice.{if_then_else_}
-use Rattle.lists.specs.Lists.{larger, upTo}
+use Rattle.lists.specs.Lists.{larger, upTo, allBelow}
+use Rattle.chains.specs.Chains.{ends}
 
 -- what a column says of i; past it, 16
 abbrev pub says : List ℕ → ℕ → ℕ
@@ -34,3 +36,7 @@ levelsTo own onto by n = upTo (λ ls i. passed onto by 16 (says onto i) (getD ow
 
 unfoldable pub levelsBy : List ℕ → List ℕ → List ℕ → List ℕ
 levelsBy own onto by = levelsTo own onto by 16
+
+-- each of the first n waits for someone whose chain ends
+abbrev pub endedTo : List ℕ → List ℕ → ℕ → Bool
+endedTo onto by n = allBelow n (λ i. ends (nextBy onto by) 16 (nextBy onto by i))

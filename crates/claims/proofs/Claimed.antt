@@ -22,11 +22,13 @@ use Rattle.journal.proofs.write_answer.Met as teller-code
 use Rattle.rules.specs.Steps.{Stepped}
 use Rattle.kernel.specs.Stands.{shown}
 use Rattle.kernel.specs.Promises.{Is}
+use Rattle.rules.proofs.SoundSays.{sound-says}
 use Rattle.kernel.proofs.Shown.{shown-of}
 use Rattle.promises.proofs.Gate.{both-sides-of-the-gate}
 use Rattle.promises.proofs.TurnedAway.{decided}
 use Rattle.promises.proofs.Advances.{advance-is-ticks, advance-refused, sleeps-so}
 use Rattle.promises.proofs.Lendings.{only-the-rule}
+use Rattle.promises.proofs.Circles.{chain-ends}
 use Rattle.promises.proofs.Wakings.{few-wakings}
 use Rattle.promises.proofs.Reaches.{program-placed}
 use Rattle.histories.proofs.Given.{program-by-the-rule}
@@ -35,10 +37,11 @@ use Rattle.histories.proofs.NeverAgain.{never-again-task, never-again-object, m
 use Rattle.histories.proofs.EarlierSteps.{each-began}
 use Rattle.histories.proofs.EarlierWakes.{woken-in-order}
 use Rattle.claims.specs.Types.{Call, Read}
-use Rattle.claims.specs.Claims.{Code, Values, Refused, Ruled, Journalled, Kept, NeverAgain, EarlierFirst, Sleeping, Lending, Claims}
+use Rattle.claims.specs.Claims.{Code, Values, Refused, Ruled, Journalled, Kept, NeverAgain, EarlierFirst, Sleeping, Lending, NoStandstill, Claims}
 use Rattle.claims.proofs.Values.{test-says, says-test, full-stands}
 use Rattle.claims.proofs.Exact.{step-exactly, accepted-so, unsound-stays}
 use Rattle.claims.proofs.Lending.{rule-of-value, afresh-of-value, step-none-lent}
+use Rattle.claims.proofs.Standstill.{take-exactly, calls-make-none, lines-make-none, session-makes-none, circle-not-sound}
 use Rattle.claims.proofs.Unique.{line-so}
 use Rattle.claims.proofs.Fitting.{total}
 use Rattle.claims.proofs.Reaching.{calls-reach, calls-sound, calls-numbered, calls-placed, calls-by-the-rule, calls-not-slow}
@@ -134,6 +137,17 @@ lending =
       nobody-slow = calls-not-slow;
     }
 
+no-standstill : NoStandstill
+no-standstill =
+    record {
+      exactly = take-exactly;
+      none-arises = calls-make-none;
+      lines-make-none = lines-make-none;
+      session-makes-none = session-makes-none;
+      not-sound = circle-not-sound;
+      chain-ends = λ k e. chain-ends (shown k) (sound-says (shown k) e);
+    }
+
 pub claims : Claims
 claims =
     record {
@@ -148,4 +162,5 @@ claims =
       earlier-first = earlier-first;
       sleeping = sleeping;
       lending = lending;
+      no-standstill = no-standstill;
     }

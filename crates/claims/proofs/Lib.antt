@@ -4,5 +4,6 @@ pub mod Exact
 pub mod Runs
 pub mod Fitting
 pub mod Reaching
+pub mod Standstill
 pub mod Lending
 pub mod Claimed

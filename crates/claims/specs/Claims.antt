@@ -5,6 +5,8 @@ use mathlib.Core.Bool.{Bool, true, false}
 use mathlib.Core.List.{List, [], map, _++_, _∷_}
 use lib.ListN.{length, take, replicate}
 use Rattle.numbers.specs.declared.TaskSlot.{TaskSlot}
+use Rattle.calls.specs.declared.ObjNo.{ObjNo}
+use Rattle.calls.specs.Said.{said}
 use Rattle.calls.specs.Table.{called}
 use Rattle.journal.specs.Line.{lineOf, HasLine}
 use Rattle.journal.specs.Told.{tellsCall, refusedWith}
@@ -13,6 +15,7 @@ use Rattle.rules.specs.Tables.{fresh}
 use Rattle.rules.specs.Sound.{sound}
 use Rattle.rules.specs.Loans.{workedOut}
 use Rattle.rules.specs.Ticks.{sleeps}
+use Rattle.rules.specs.Sentences.{Exists, Circle, NoCircle}
 use Rattle.rules.specs.Steps.{Stepped}
 use Rattle.rules.specs.Trace.{CallMade}
 use Rattle.kernel.specs.Stands.{kernelOf, asRows, shown}
@@ -36,6 +39,7 @@ use Rattle.promises.specs.Program.{linesOf, answering}
 use Rattle.promises.specs.ByLines.{LineSteps, ProgramAnswers}
 use Rattle.promises.specs.Turns.{Turn, cameIn}
 use Rattle.promises.specs.Reached.{programCalls}
+use Rattle.promises.specs.Circles.{CirclesExactly, ChainEnds}
 use Rattle.promises.specs.Lending.{RuleHolds, Afresh, SameLoans, SameLevels, NotSlow}
 use Rattle.promises.specs.Advance.{singly, atFirst, AsTicks, AdvanceRefused, SleepsSo, FewWakings}
 use Rattle.histories.specs.ByFullNumber.{Numbered}
@@ -43,7 +47,7 @@ use Rattle.histories.specs.Given.{LentByRule}
 use Rattle.histories.specs.Uses.{UsesCount}
 use Rattle.histories.specs.Earlier.{EachBegan, Earlier, WokenInOrder}
 use Rattle.histories.specs.Again.{namesTask, namesObject, momentFrom, madeTask, madeObject}
-use Rattle.claims.specs.Types.{TaskNo, Call, Advance, Answer, Asked, Read, Says, Written, Count, State, Kernel, Sleep, Step, Session, Served}
+use Rattle.claims.specs.Types.{TaskNo, Call, Take, Advance, Answer, Asked, Read, Says, Written, Count, State, Kernel, Sleep, Step, Session, Served}
 use Rattle.claims.specs.Values.{SoundValue, Full, Stands}
 use Rattle.claims.specs.Exact.{ValueRefused, ValueAccepted, tableFor, ValueExactly}
 use Rattle.claims.specs.Runs.{Called, Port, servedTo, Turned, freshPort, portOutcome, CameTo}
@@ -192,6 +196,21 @@ pub record Lending : Type 0 where
   -- than any who waits for it, over however many links; nor is the running task, unless held
   pub nobody-slow : (ms : List CallMade) (k : Kernel) → Called (kernelOf fresh) ms k → NotSlow (shown k)
 
+-- "Do not let two tasks wait on each other. At one parlour both sat still until someone pulled the plug."
+pub record NoStandstill : Type 0 where
+  -- "exactly if the chain from that mutex's holder, through mutexes being waited on, leads back to the caller": where no row before 17 applies, a take is refused 17 exactly if
+  -- that is so, and exactly if accepting it would have made a circle; the kernel, were it not held, would not have been sound for just that reason
+  pub exactly : (k : Kernel) → sound (shown k) ≡ true → (n : ObjNo) (w : ℕ) (item store : List ℕ) (r : Step) (after : List ℕ) → Steps k (Take n w) item store r after
+      → CirclesExactly (shown k) n (tableFor k (Take n w) item store) (said (r .answer))
+  -- "From a fresh kernel no circle can then arise": of whatever length, after any calls, refused ones among them, after every line of every journal, and at any time of a session
+  pub none-arises : (ms : List CallMade) (k : Kernel) → Called (kernelOf fresh) ms k → NoCircle (shown k .tasks) (shown k .objects)
+  pub lines-make-none : (ls : List (List ℕ)) → let k = answering fresh (replicate 9216 0) ls .kernel in NoCircle (k .tasks) (k .objects)
+  pub session-makes-none : (ts : List Turn) (p : Port) → Turned freshPort ts p → let k = shown (p .session .kernel) in NoCircle (k .tasks) (k .objects)
+  -- "and a kernel value with one is not sound"
+  pub not-sound : (k : Kernel) (t : TaskSlot) → Circle (asRows (k .core) (k .uses) .tasks) (asRows (k .core) (k .uses) .objects) t → sound (shown k) ≡ false
+  -- so nobody waits round a circle: in a sound kernel every chain of waits ends at a task that is there and waits on no mutex
+  pub chain-ends : (k : Kernel) → sound (shown k) ≡ true → (t : TaskSlot) → Exists (shown k .tasks) t → ChainEnds (shown k) t
+
 pub record Claims : Type 2 where
   pub code : Code
   pub values : Values
@@ -204,3 +223,4 @@ pub record Claims : Type 2 where
   pub earlier-first : EarlierFirst
   pub sleeping : Sleeping
   pub lending : Lending
+  pub no-standstill : NoStandstill

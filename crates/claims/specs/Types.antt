@@ -2,7 +2,7 @@
 pub use Rattle.numbers.specs.declared.TaskSlot.{TaskSlot}
 pub use Rattle.calls.specs.declared.TaskNo.{TaskNo}
 pub use Rattle.calls.specs.declared.Call.{Call}
-pub use Rattle.calls.specs.declared.Call.the-variants.{Advance}
+pub use Rattle.calls.specs.declared.Call.the-variants.{Take, Advance}
 pub use Rattle.calls.specs.declared.Answer.{Answer}
 pub use Rattle.calls.specs.declared.Asked.{Asked}
 pub use Rattle.journal.specs.declared.Read.{Read}

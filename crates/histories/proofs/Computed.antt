@@ -16,6 +16,8 @@ use Rattle.rules.specs.Queues.{outlet, sent, storeSent, received, storeReceived
 use Rattle.rules.specs.Lines.{line, those, begun, highest, leader, first, chosen, toTail, toHead, leaves}
 use Rattle.rules.specs.Loans.{ruled, moved, movedIf, prioritized, relevelled, workedOut, newPriority}
 use Rattle.rows.specs.Applies.{outOfRange, namesNone, wrongSize, notForIdle, notWithHold, noneFree, notHis, hisAlready, notSuspended, mustWait, noDepth}
+use Rattle.chains.specs.Chains.{within}
+use Rattle.rules.specs.Circles.{leadsTo, closesCircle, noCircle}
 use Rattle.rules.specs.Refusals.{heldOrWaited, inUse}
 use Rattle.rows.specs.Applies.{noTick, table}
 use Rattle.rules.specs.Refusals.{laterRow, refusal}
@@ -30,7 +32,7 @@ use Rattle.rules.specs.Waits.{arrives, waitFor}
 use Rattle.promises.specs.History.{reached}
 use Rattle.promises.specs.Advance.{wakings}
 use Rattle.histories.specs.Moments.{unlent}
-use Rattle.histories.specs.Tales.{shownAfter, Fits, chainOfThree, firstGive, setWithLoan, timeRunsOut, twoLoansEnd, circleOfTwo, threeLinks, handedWithWaiter, waiterSetLower}
+use Rattle.histories.specs.Tales.{shownAfter, Fits, chainOfThree, firstGive, setWithLoan, timeRunsOut, twoLoansEnd, refusedCircle, threeLinks, handedWithWaiter, waiterSetLower}
 use Rattle.histories.specs.Tales.{waitersGone, refusedChange, slotUsedAgain}
 use Rattle.histories.specs.Again.{namesTask, namesObject, madeTask, madeObject, usedAgain, atEach}
 use Rattle.histories.specs.Given.{givenTo, lastGivenTo}
@@ -48,7 +50,8 @@ pub record TalesFit : Type 0 where
   -- a loan ends with the wait
   pub ends-with-the-wait : Fits timeRunsOut
   pub two-on-one-tick : Fits twoLoansEnd
-  pub circle-of-two : Fits circleOfTwo
+  -- a take that would close a circle lends nothing
+  pub refused-circle : Fits refusedCircle
   -- a change of a waiter goes along the chain
   pub three-links : Fits threeLinks
   -- who waited already when the mutex was handed on lends to the new holder
@@ -61,11 +64,11 @@ pub record TalesFit : Type 0 where
   pub another-task : Fits slotUsedAgain
 
 pub tales-fit : TalesFit
-unfolding trace shownAfter chainOfThree firstGive setWithLoan timeRunsOut twoLoansEnd circleOfTwo threeLinks handedWithWaiter waiterSetLower waitersGone refusedChange slotUsedAgain
+unfolding trace shownAfter chainOfThree firstGive setWithLoan timeRunsOut twoLoansEnd refusedCircle threeLinks handedWithWaiter waiterSetLower waitersGone refusedChange slotUsedAgain
     givenTo lastGivenTo every allBelow foldl upTo index any kept asked ordered without count tidy putAt created deleted suspended
     resumed yielded delayed queueMade mutexMade removed taken given effect after itemAt outlet sent storeSent received storeReceived line those begun
     highest leader first chosen toTail toHead leaves values goesOn raised levels ruled moved movedIf prioritized relevelled workedOut newPriority outOfRange namesNone wrongSize notForIdle
-    notWithHold noneFree heldOrWaited inUse notHis hisAlready notSuspended mustWait noDepth noTick table laterRow refusal noHigher runsFine tablesFine
+    notWithHold noneFree heldOrWaited inUse notHis hisAlready notSuspended closesCircle leadsTo noCircle within mustWait noDepth noTick table laterRow refusal noHigher runsFine tablesFine
     levelsFine listingFine clockFine usesFine sound stored answered usesAfter accepted step fresh freshUses taskAt kindAt holds freeSlot freeObject
     wokenIfDue wakes countedOn oneTick turned ticked ticks released held arrives waitFor
 tales-fit = record {
@@ -74,7 +77,7 @@ tales-fit = record {
   set-with-loan = refl;
   ends-with-the-wait = refl;
   two-on-one-tick = refl;
-  circle-of-two = refl;
+  refused-circle = refl;
   three-links = refl;
   handed-with-waiter = refl;
   waiter-set-lower = refl;
@@ -101,7 +104,7 @@ pub again-fits : AgainFits
 unfolding trace usedAgain givenTo every allBelow foldl upTo index any kept asked ordered without count tidy putAt created deleted suspended
     resumed yielded delayed queueMade mutexMade removed taken given effect after itemAt outlet sent storeSent received storeReceived line those begun
     highest leader first chosen toTail toHead leaves values goesOn raised levels ruled moved movedIf prioritized relevelled workedOut newPriority outOfRange namesNone wrongSize notForIdle
-    notWithHold noneFree heldOrWaited inUse notHis hisAlready notSuspended mustWait noDepth noTick table laterRow refusal noHigher runsFine tablesFine
+    notWithHold noneFree heldOrWaited inUse notHis hisAlready notSuspended closesCircle leadsTo noCircle within mustWait noDepth noTick table laterRow refusal noHigher runsFine tablesFine
     levelsFine listingFine clockFine usesFine sound stored answered usesAfter accepted step fresh freshUses taskAt kindAt holds freeSlot freeObject
     wokenIfDue wakes countedOn oneTick turned ticked ticks released held arrives waitFor
 again-fits = record {
@@ -136,7 +139,7 @@ unfolding trace asTheSlots againstTheSlots longerFirst waiterFirst delayFirst de
     every allBelow foldl upTo index any kept asked ordered without count tidy putAt created deleted suspended
     resumed yielded delayed queueMade mutexMade removed taken given effect after itemAt outlet sent storeSent received storeReceived line those begun
     highest leader first chosen toTail toHead leaves values goesOn raised levels ruled moved movedIf prioritized relevelled workedOut newPriority outOfRange namesNone wrongSize notForIdle
-    notWithHold noneFree heldOrWaited inUse notHis hisAlready notSuspended mustWait noDepth noTick table laterRow refusal noHigher runsFine tablesFine
+    notWithHold noneFree heldOrWaited inUse notHis hisAlready notSuspended closesCircle leadsTo noCircle within mustWait noDepth noTick table laterRow refusal noHigher runsFine tablesFine
     levelsFine listingFine clockFine usesFine sound stored answered usesAfter accepted step fresh freshUses taskAt kindAt holds freeSlot freeObject
     wokenIfDue wakes countedOn oneTick turned ticked ticks released held arrives waitFor
 meters-fit = record {
@@ -157,7 +160,7 @@ pub fifteen-wake : wakings true 16 (reached (map unlent eachItsOwnTick)) ≡ 15
 unfolding wakings trace eachItsOwnTick advanced every allBelow foldl upTo index any kept asked ordered without count tidy putAt created deleted suspended
     resumed yielded delayed queueMade mutexMade removed taken given effect after itemAt outlet sent storeSent received storeReceived line those begun
     highest leader first chosen toTail toHead leaves values goesOn raised levels ruled moved movedIf prioritized relevelled workedOut newPriority outOfRange namesNone wrongSize notForIdle
-    notWithHold noneFree heldOrWaited inUse notHis hisAlready notSuspended mustWait noDepth noTick table laterRow refusal noHigher runsFine tablesFine
+    notWithHold noneFree heldOrWaited inUse notHis hisAlready notSuspended closesCircle leadsTo noCircle within mustWait noDepth noTick table laterRow refusal noHigher runsFine tablesFine
     levelsFine listingFine clockFine usesFine sound stored answered usesAfter accepted step fresh freshUses taskAt kindAt holds freeSlot freeObject
     wokenIfDue wakes countedOn oneTick turned ticked ticks released held arrives waitFor
 fifteen-wake = refl

@@ -131,7 +131,7 @@ module _ (ms : List CallMade) (w : ℕ) (t u : TaskSlot) (E : Earlier ms w t u) 
     still-sound : Sound j
     still-sound =
         let H = ticks-unheld i k U .sound in
-        record { tables = H .tables; levels = H .levels; listing = H .listing; clock = H .clock; running = H .running; uses = rw (ticks-uses true i k) (S .uses) }
+        record { tables = H .tables; levels = H .levels; listing = H .listing; clock = H .clock; running = H .running; uses = rw (ticks-uses true i k) (S .uses); circles = H .circles }
 
     in-advance : (p : ℕ) → AheadIfBoth p t u j (ticks true (suc i) k)
     unfolding ticks upTo

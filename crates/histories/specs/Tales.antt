@@ -155,9 +155,9 @@ twoLoansEnd = record {
       ∷ [];
 }
 
--- "a circle must still end": each waits on the other's mutex, task 2 until the next tick
-unfoldable pub circleOfTwo : Tale
-circleOfTwo = record {
+-- "Do not let two tasks wait on each other": task 2 waits on task 1's mutex until the next tick, and task 1 may not wait on task 2's, so that it lends nothing
+unfoldable pub refusedCircle : Tale
+refusedCircle = record {
   tasks = 1 ∷ 2 ∷ [];
   lines =
       two (Create 3) (has 3 3) gone
@@ -168,7 +168,7 @@ circleOfTwo = record {
       ∷ two (Take (objectOf 1) 0) (has 3 3) (has 5 5)
       ∷ two (Take (objectOf 0) 1) (has 3 5) (has 5 5)
       ∷ two (Take (objectOf 1) 10) (has 3 5) (has 5 5)
-      ∷ two (SetPriority (taskOf 1) 8) (has 8 8) (has 5 8)
+      ∷ two (SetPriority (taskOf 1) 8) (has 8 8) (has 5 5)
       ∷ two (SetPriority (taskOf 1) 2) (has 2 5) (has 5 5)
       ∷ two Tick (has 2 2) (has 5 5)
       ∷ [];

@@ -1,11 +1,11 @@
 -- The levels of the columns are the rule's, and working them out is working out those of the state; and values of which each effective priority is the rule's.
 use Prim.Native.Nat.{ℕ, zero, suc, _<_}
 use mathlib.Core.Path.{_≡_, refl, sym, ap, _∙_, subst}
-use mathlib.Core.Bool.{Bool, true, false, not}
+use mathlib.Core.Bool.{Bool, true, false, not, _&&_}
 use mathlib.Core.List.{List, map}
-use lib.Dec.{eqb}
+use lib.Dec.{eqb, ltb}
 use lib.ListN.{length, getD, set}
-use borrow.Author.Tests.{eqb-true}
+use borrow.Author.Tests.{eqb-true, lt-ltb, ltb-false}
 use Rattle.lists.specs.Choice.{if_then_else_}
 use Rattle.lists.specs.Lists.{upTo, values, allBelow}
 use Rattle.lists.proofs.Loops.{values-same}
@@ -13,8 +13,9 @@ use Rattle.numbers.specs.declared.TaskSlot.{TaskSlot}
 use Rattle.numbers.specs.Numbers.{task, sameTask}
 use Rattle.calls.specs.Door.{freshUses}
 use Rattle.chains.specs.Columns.{says}
-use Rattle.chains.specs.Chains.{largestOwn}
+use Rattle.chains.specs.Chains.{within, largestOwn}
 use Rattle.chains.proofs.Says.{says-map}
+use Rattle.chains.proofs.Paths.{within-past}
 use Rattle.chains.proofs.Largest.{largest-same}
 use Rattle.chains.proofs.Lending.{level-is}
 use Rattle.order.specs.declared.Order.{Order}
@@ -30,8 +31,8 @@ use Rattle.tasks.specs.declared.Woken.{Woken}
 use Rattle.tasks.specs.Columns.{tasksOf, rowsOf, rowAt}
 use Rattle.tasks.proofs.Columns.{rows-of}
 use Rattle.tasks.specs.Dues.{woken, tailed, wakeNow, waitEnds}
-use Rattle.tasks.specs.Loans.{levelsIn, fronted, levelIn, workedIn}
-use Rattle.tasks.proofs.ByList.{levels-of, atLevel, shifted, levels-by, none-due, none-ends}
+use Rattle.tasks.specs.Loans.{levelsIn, reachesIn, fronted, levelIn, workedIn}
+use Rattle.tasks.proofs.ByList.{levels-of, reaches-of, atLevel, shifted, levels-by, none-due, none-ends}
 use Rattle.objects.specs.Columns.{objectsOf, rowsOf as kindsOf, HoldersAre}
 use Rattle.objects.proofs.ByList.{holders-of}
 use Rattle.objects.proofs.Columns.{rows-of as kinds-of}
@@ -39,11 +40,13 @@ use Rattle.rules.specs.State.{State}
 use Rattle.rules.specs.Tables.{withTask, withRunning, withTick, withUses}
 use Rattle.rules.specs.Lines.{level, toTail, toHead}
 use Rattle.rules.specs.Loans.{forWhom, ruled, Reckoned, moved, movedIf, prioritized, relevelled, workedOut}
+use Rattle.rules.specs.Circles.{leadsTo}
 use Rattle.rules.specs.Waits.{later}
 use Rattle.rules.specs.Ticks.{wakes, oneTick}
 use Rattle.rules.proofs.LoanStill.{wakes-reckoned}
 use Rattle.rules.proofs.TickJumps.{quiet-tick}
 use Rattle.rules.proofs.LoanRule.{ownOf, nextOf, links-past, ruled-sixteen}
+use Rattle.rules.proofs.CircleRule.{nobody-leads}
 use Rattle.rules.proofs.LoanWorks.{upToSlot, slots-same, worked-same, worked-still}
 use Rattle.rules.proofs.KeepBlocks.{same-level, prioritized-tasks}
 use Rattle.rules.proofs.KeepChosen.{sound-reckoned}
@@ -51,7 +54,7 @@ use Rattle.kernel.specs.Types.{Core}
 use Rattle.kernel.specs.Stands.{coreOf, shownCore}
 use Rattle.kernel.specs.Does.{Does, Firm, Turning, Reckons}
 use Rattle.kernel.proofs.Shown.{shown-with}
-use Rattle.kernel.proofs.Stands.{same-tick}
+use Rattle.kernel.proofs.Stands.{same-tick, same-running}
 
 -- ── the levels
 abbrev pub holdersOf : List Object → List ℕ
@@ -80,6 +83,17 @@ module _ (ts : List Task) (os : List Object) (full : length ts ≡ 16) (few : le
       ∙ values-same _ (λ u. getD (ruled ts os) u 0) 16
       (λ u l. largest-same (ownOf ts os) (ownOf ts os) _ (nextOf ts os) (λ s h. refl) (λ s. next-is (taskAt ts (task s) .place)) u ∙ sym (ruled-is u l))
       ∙ all-values (ruled ts os) (ruled-sixteen ts os)
+
+  -- ── the chain that leads from h to u
+  pub leads-led : (h u : TaskSlot) → u .0 < 16 → reachesIn (tasksOf ts) (holdersOf os) (h .0) (u .0) ≡ leadsTo ts os h u
+  unfolding leadsTo
+  leads-led h u l =
+      reaches-of ts (holdersOf os) (h .0) (u .0)
+      ∙ rw (lt-ltb (u .0) 16 l) (ap (λ (next : ℕ → ℕ). within next 16 (h .0) (u .0)) (λ i s. next-is (taskAt ts (task s) .place) i) ∙ somebody (ltb (h .0) 16) refl)
+    where
+      somebody : (b : Bool) → ltb (h .0) 16 ≡ b → within (nextOf ts os) 16 (h .0) (u .0) ≡ (b && within (nextOf ts os) 16 (h .0) (u .0))
+      somebody true e = refl
+      somebody false e = within-past (nextOf ts os) (links-past ts os full) (u .0) l 16 (h .0) (ltb-false (h .0) 16 e)
 
 -- ── slot by slot, with the running task at hand
 module _ (ls : List ℕ) (r : TaskSlot) where
@@ -182,6 +196,19 @@ reckons-next {k} f R d u = stands-reckons (f (shownCore k)) (d (shownCore k) (R 
 
 pub firm-reckons : {k : Core} → Firm k → Reckons k
 firm-reckons {k} F = record { stands = F .stands; full = F .sound .tables .task-slots; reckoned = sound-reckoned (shownCore k) (F .sound) }
+
+-- ── the chain that leads from h to the caller, as in the state that the value stands for
+module _ {k : Core} (F : Firm k) (s : State) (e : k ≡ coreOf s) where
+  caller-low : s .running .0 < 16
+  caller-low = subst (λ (t : TaskSlot). t .0 < 16) (same-running k s e) (F .runs)
+
+  pub leads-core : (by : List ℕ) → HoldersAre (k .objects) by → (h : TaskSlot) → reachesIn (k .tasks) by (h .0) (k .running .0) ≡ leadsTo (s .tasks) (s .objects) h (s .running)
+  unfolding coreOf
+  leads-core by B h =
+      rw (B .said, e, holders-of (s .objects)) (leads-led (s .tasks) (s .objects) (reckons-of (firm-reckons F) s e .0) (objects-full k s e (B .many)) h (s .running) caller-low)
+
+  pub none-leads : false ≡ leadsTo (s .tasks) (s .objects) (task 16) (s .running)
+  none-leads = sym (nobody-leads (s .tasks) (s .objects) (s .running))
 
 -- nothing is to be worked out of them
 pub nothing-to-do : {k : Core} → Reckons k → Does k workedOut k

@@ -61,7 +61,7 @@ module _ (k : Core) (us : Uses) where
   change : (vs : Uses) → usesFine vs ≡ true → sound (asRows k us) ≡ true → sound (asRows k vs) ≡ true
   change vs f e =
       let T = sound-tested (asRows k us) e in
-      tested-sound (asRows k vs) record { tables = T .tables; levels = T .levels; listing = T .listing; clock = T .clock; runs = T .runs; uses = f }
+      tested-sound (asRows k vs) record { tables = T .tables; levels = T .levels; listing = T .listing; clock = T .clock; runs = T .runs; uses = f; circles = T .circles }
 
 pub sound-parts : (k : Core) (us : Uses) → sound (shownWith k us) ≡ (sound (shownCore k) && usesFine us)
 unfolding shownWith

@@ -10,13 +10,16 @@ use borrow.Author.Tests.{ltb-true, ltb-false}
 use Rattle.lists.specs.Choice.{if_then_else_}
 use Rattle.lists.specs.Lists.{kept, allBelow}
 use Rattle.lists.proofs.Bools.{and-left, and-right, and-intro, same-test, all-below, below-all}
+use Rattle.chains.specs.Chains.{ends}
 use Rattle.chains.specs.Columns.{says}
+use Rattle.chains.proofs.Circles.{all-end}
 use Rattle.chains.proofs.Largest.{largest-same as chain-same}
 use Rattle.lists.proofs.Loops.{values-same}
 use Rattle.slots.specs.declared.Object.{Object}
-use Rattle.tasks.specs.Loans.{levelsIn}
+use Rattle.tasks.specs.Loans.{levelsIn, endedIn}
 use Rattle.rules.specs.Loans.{forWhom, ruled}
-use Rattle.rules.proofs.LoanRule.{ownOf, nextOf, ruled-sixteen}
+use Rattle.rules.specs.Circles.{leadsTo, noCircle}
+use Rattle.rules.proofs.LoanRule.{ownOf, nextOf, links-past, ruled-sixteen}
 use Rattle.kernel.proofs.LevelWorks.{holdersOf, next-is, all-values, ruled-is}
 use Rattle.numbers.specs.declared.TaskSlot.{TaskSlot}
 use Rattle.numbers.specs.Numbers.{task, object}
@@ -152,6 +155,10 @@ module _ (ts : Tasks) (many : length (rowsOf ts) ≡ 16) where
             ap (λ (p : Place). says (holdersOf ys) (waitedOn p)) (past-free s (ltb-false s 16 q))
             ∙ sym (ap (λ (x : Task). forWhom ys (x .place) .0) (past-tasks xs (task s) (omega (arith, many, ltb-false s 16 q))))
 
+    pub ended-rows : endedIn ts (holdersIn os) ≡ noCircle xs ys
+    unfolding endedIn noCircle leadsTo
+    ended-rows = ap (λ (next : ℕ → ℕ). allBelow 16 (λ s. ends next 16 (next s))) (λ i s. next-at s i) ∙ all-end (nextOf xs ys) (links-past xs ys many)
+
     pub levels-rows : levelsIn ts (holdersIn os) ≡ ruled xs ys
     unfolding levelsIn
     levels-rows =
@@ -217,7 +224,7 @@ module _ (os : Objects) (hs : Holdings) (H : HoldingsAre os hs) where
 
 -- ── the whole test
 module _ (k : Core) (stands : List ℕ) (hs : Holdings) (fine : Bool) (F : Fine (k .tasks) (k .tick) stands (hs .held) fine) (H : HoldingsAre (k .objects) hs)
-    (levels : Bool) (Q : levels ≡ allBelow 16 (λ n. eqb (rowAt (k .tasks) n .effective) (getD (levelsIn (k .tasks) (hs .by)) n 0)))
+    (levels : Bool) (Q : levels ≡ (endedIn (k .tasks) (hs .by) && allBelow 16 (λ n. eqb (rowAt (k .tasks) n .effective) (getD (levelsIn (k .tasks) (hs .by)) n 0))))
     (tallies : stands ≡ talliesOf (listed (k .order))) (places : length (k .order .places) ≡ 16) (ranges : counted (k .tick) (k .hold) (k .pended) ≡ true) where
   abbrev ts : Tasks
   ts = k .tasks
@@ -250,6 +257,9 @@ module _ (k : Core) (stands : List ℕ) (hs : Holdings) (fine : Bool) (F : Fine 
   rule : levelsIn ts (hs .by) ≡ ruled (s .tasks) (s .objects)
   rule = ap (levelsIn ts) (H .by) ∙ levels-rows ts (F .many) (k .objects) (H .many)
 
+  straight : endedIn ts (hs .by) ≡ noCircle (s .tasks) (s .objects)
+  straight = ap (endedIn ts) (H .by) ∙ ended-rows ts (F .many) (k .objects) (H .many)
+
   row : (n : ℕ) → n < 16 → slotTask (s .tasks) n ≡ rowAt ts n
   row n l = at-row ts (F .many) n l
 
@@ -276,8 +286,9 @@ module _ (k : Core) (stands : List ℕ) (hs : Holdings) (fine : Bool) (F : Fine 
     kinds : allBelow 16 (fineAt (k .objects)) ≡ true
     kinds = sym (H .said) ∙ and-right levels _ (and-right waits _ (and-right fine _ tables))
 
-    levelled : allBelow 16 (λ n. eqb (rowAt ts n .effective) (getD (levelsIn ts (hs .by)) n 0)) ≡ true
-    levelled = sym Q ∙ and-left levels _ (and-right waits _ (and-right fine _ tables))
+    -- no chain leads back, and each is at its level
+    chained : (endedIn ts (hs .by) && allBelow 16 (λ n. eqb (rowAt ts n .effective) (getD (levelsIn ts (hs .by)) n 0))) ≡ true
+    chained = sym Q ∙ and-left levels _ (and-right waits _ (and-right fine _ tables))
 
     -- so it stands for a state
     pub is-plain : plain k ≡ true
@@ -321,7 +332,7 @@ module _ (k : Core) (stands : List ℕ) (hs : Holdings) (fine : Bool) (F : Fine 
         let orders = and-right runs _ last in
         tested-sound s record {
           tables = tested-tables _ _ tables-so;
-          levels = below-all 16 _ (λ n l. and-intro (prioritiesFine (slotTask (s .tasks) n)) _ (alone n l .range) (rw (row n l, ← rule) (all-below 16 _ levelled n l)));
+          levels = below-all 16 _ (λ n l. and-intro (prioritiesFine (slotTask (s .tasks) n)) _ (alone n l .range) (rw (row n l, ← rule) (all-below 16 _ (and-right (endedIn ts (hs .by)) _ chained) n l)));
           listing = tested-listing _ _ record {
             places = rw places;
             stands = below-all 16 _ once;
@@ -336,6 +347,7 @@ module _ (k : Core) (stands : List ℕ) (hs : Holdings) (fine : Bool) (F : Fine 
           };
           runs = sym (runs-is ts (F .many) (listed (k .order)) (k .running) (k .hold)) ∙ and-left runs _ last;
           uses = fresh-fine;
+          circles = sym straight ∙ and-left (endedIn ts (hs .by)) _ chained;
         }
 
   -- and back
@@ -356,7 +368,7 @@ module _ (k : Core) (stands : List ℕ) (hs : Holdings) (fine : Bool) (F : Fine 
     unfolding levelsFine plain canonical
     from-plain =
         and-intro _ _ (and-intro fine _ (F .said ∙ and-intro _ _ idles (and-intro _ _ (below-all 16 _ each-row) (below-all 16 _ each-wake)))
-        (and-intro waits _ (below-all 16 _ each-wait) (and-intro levels _ (Q ∙ below-all 16 _ each-level) (H .said ∙ below-all 16 _ each-kind))))
+        (and-intro waits _ (below-all 16 _ each-wait) (and-intro levels _ (Q ∙ and-intro (endedIn ts (hs .by)) _ (straight ∙ E .circles) (below-all 16 _ each-level)) (H .said ∙ below-all 16 _ each-kind))))
         (and-intro runs _ (runs-is ts (F .many) (listed (k .order)) (k .running) (k .hold) ∙ E .runs) (and-intro (tidy (k .order)) pends (L .tidied) (C .pends)))
       where
         cells : (n : ℕ) → n < 16 → (known (getD (ts .state) n 0) (getD (ts .object) n 0) && wakeKnown (getD (ts .state) n 0) (getD (ts .wake) n 0)) ≡ true

@@ -21,6 +21,7 @@ use Rattle.rules.specs.Tables.{withUses}
 use Rattle.rules.specs.Lines.{chosen}
 use Rattle.rules.specs.Sound.{sound}
 use Rattle.rows.specs.Asking.{makes}
+use Rattle.rules.specs.Circles.{closesCircle}
 use Rattle.rules.specs.Refusals.{newSlot}
 use Rattle.rules.specs.Refusals.{heldOrWaited, inUse, laterRow, refusal}
 use Rattle.rules.specs.Effects.{effect}
@@ -71,7 +72,7 @@ module _ (k : Kernel) (fine : sound (shown k) ≡ true) (h : k ≡ kernelOf (sho
 
   -- no row looks at the uses
   pub same-row : (a : Asked) (item store : ℕ) → laterRow (shownCore (k .core)) a item store ≡ laterRow (shown k) a item store
-  unfolding laterRow inUse heldOrWaited
+  unfolding laterRow inUse heldOrWaited closesCircle
   same-row a item store = ap (λ (x : State). laterRow x a item store) behind
 
   -- behind the door

@@ -1,12 +1,16 @@
-// What the rows of the refusal table look at. The new slot, and whether something is in use, are searched once, for their calls alone.
+// What the rows of the refusal table look at. The new slot, whether something is in use and whether a circle closes are searched once, for their calls alone.
 ghost use Rattle.lists.specs.Choice.{if_then_else_};
 ghost use Rattle.rows.specs.Asking.{makes};
 ghost use Rattle.rules.specs.Refusals.{newSlot, heldOrWaited, inUse, seen};
-ghost use Rattle.kernel.specs.Does.{Reads};
+ghost use Rattle.slots.specs.Kinds.{holderOf};
+ghost use Rattle.rules.specs.Circles.{leadsTo, closesCircle};
+ghost use Rattle.kernel.specs.Does.{Reads, Firm};
 use crate::Core;
 use calls::Asked;
 use numbers::ObjSlot;
 use rows::Seen;
+use slots::Holder;
+use slots::Kind;
 
 impl Core {
     // The slot that a create or make takes; 16 where none is free, 0 for any other call.
@@ -41,7 +45,38 @@ impl Core {
         false
     }
 
+    // The chain from the holder of a mutex leads back to the caller.
+    fn leads_back(self, x: Kind) -> bool
+        requires { ⌜ Firm self ⌝ }
+        ensures { λ r. ⌜ Reads self (λ s. leadsTo (s .tasks) (s .objects) (holderOf x) (s .running)) r ⌝ }
+    {
+        match x {
+            Kind::Unused => false,
+            Kind::Spent => false,
+            Kind::Queue(_) => false,
+            Kind::Mutex(h) => match h {
+                Holder::Nobody => false,
+                Holder::By(t) => {
+                    let by = self.objects.holders();
+                    self.tasks.reaches(by, t, self.running)
+                }
+            },
+        }
+    }
+
+    // A take that would close a circle. Of a mutex that nobody holds there is no chain to follow.
+    fn closes_circle(self, a: Asked) -> bool
+        requires { ⌜ Firm self ⌝ }
+        ensures { λ r. ⌜ Reads self (λ s. closesCircle s a) r ⌝ }
+    {
+        if a.number == 15 {
+            return self.leads_back(self.kind(a.object));
+        }
+        false
+    }
+
     pub(crate) fn seen(self, a: Asked) -> Seen
+        requires { ⌜ Firm self ⌝ }
         ensures { λ r. ⌜ Reads self (λ s. seen s a) r ⌝ }
     {
         let x = self.task(a.task);
@@ -52,6 +87,7 @@ impl Core {
             kind: self.kind(a.object),
             new: self.new_slot(a),
             used: self.used(a),
+            circle: self.closes_circle(a),
             running,
             hold: self.hold,
             pended: self.pended,

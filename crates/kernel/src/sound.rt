@@ -28,13 +28,14 @@ impl Core {
         let holder = holdings.holder;
         let rows = self.tasks.fine(self.tick, tallies, held);
         let waits = self.tasks.waits_fine(open, taken, holder);
-        let by = holdings.by;
-        let levels = self.tasks.levels_fine(by);
-        let tables = lists::both(rows, lists::both(waits, lists::both(levels, holdings.fine)));
         let runs = self.tasks.runs_fine(o, self.running, 0 < self.hold);
         let tidy = lists::both(o.living <= 16, lists::both(walk.numbers, o.zeros()));
         let pends = lists::either(0 < self.hold, self.pended == 0);
         let rest = lists::both(runs, lists::both(tidy, pends));
+        // Asked last: here alone the test branches, and by now what it has found is one answer.
+        let by = holdings.by;
+        let levels = self.tasks.levels_fine(by);
+        let tables = lists::both(rows, lists::both(waits, lists::both(levels, holdings.fine)));
         lists::both(self.shaped(), lists::both(tables, rest))
     }
 }

@@ -19,6 +19,7 @@ use Rattle.rules.specs.Sound.{sound}
 use Rattle.rules.specs.Sentences.{Sound, Unheld}
 use Rattle.rules.specs.Loans.{workedOut}
 use Rattle.rules.specs.Ticks.{SomeoneWakes, oneTick, untilDue, turned, turnedIf, ticked, ticks, released, advanced, sleeps}
+use Rattle.rules.specs.Circles.{closesCircle}
 use Rattle.rules.specs.Refusals.{inUse, laterRow, refusal}
 use Rattle.rules.specs.Effects.{effect}
 use Rattle.rules.specs.Steps.{Stepped, stored, answered, usesAfter, after, accepted, turnedAway, step}
@@ -39,11 +40,11 @@ use Rattle.promises.specs.Advance.{singly, atFirst, AsTicks, AdvanceRefu
 -- ── which row applies
 module _ (k : State) (item store : ℕ) (whole : store ≡ 9216) where
   tick-passes : k .hold ≡ 0 → laterRow k (asked (k .uses) Tick) item store ≡ 0
-  unfolding asked laterRow table outOfRange namesNone wrongSize notForIdle notWithHold noneFree inUse notHis hisAlready notSuspended mustWait noDepth noTick
+  unfolding asked laterRow table outOfRange namesNone wrongSize notForIdle notWithHold noneFree inUse notHis hisAlready notSuspended closesCircle mustWait noDepth noTick
   tick-passes z = rw (z, whole)
 
   advance-passes : k .hold ≡ 0 → (n : ℕ) → 1 ≤ n → n ≤ 65535 → laterRow k (asked (k .uses) (Advance n)) item store ≡ 0
-  unfolding asked laterRow table outOfRange namesNone wrongSize notForIdle notWithHold noneFree inUse notHis hisAlready notSuspended mustWait noDepth noTick
+  unfolding asked laterRow table outOfRange namesNone wrongSize notForIdle notWithHold noneFree inUse notHis hisAlready notSuspended closesCircle mustWait noDepth noTick
   advance-passes z n l m = rw (z, whole, lt-leb 4294967295 n (omega arith), le-ltb n 1 l, le-ltb 65535 n m)
 
   too-many : (n : ℕ) (b : Bool) → leb 4294967295 n ≡ b → 65535 < n → laterRow k (asked (k .uses) (Advance n)) item store ≡ 4

@@ -21,13 +21,14 @@ use Rattle.slots.specs.Values.{taskAt}
 use Rattle.rules.specs.Tables.{freeSlot, withOrder}
 use Rattle.rules.specs.Sound.{sound}
 use Rattle.rows.specs.Applies.{noneFree, notSuspended, Row, row, firstRow, table}
+use Rattle.rules.specs.Circles.{closesCircle}
 use Rattle.rules.specs.Refusals.{seen, heldOrWaited, inUse, laterRow, refusal}
 use Rattle.promises.specs.Alike.{Alike}
 use Rattle.promises.proofs.AlikeTwins.{one-kernel}
 use Rattle.promises.proofs.AlikeEffects.{slot-low}
 
 rows-same : (k : State) (o : Order) → Alike k (withOrder k o) → (a : Asked) (item store : ℕ) → laterRow k a item store ≡ laterRow (withOrder k o) a item store
-unfolding laterRow table noneFree heldOrWaited inUse
+unfolding laterRow table noneFree heldOrWaited inUse closesCircle
 rows-same k o e a item store = rw (e .lists (a .object))
 
 pub alike-refusal : (k j : State) (a : Asked) (item store : ℕ) → sound k ≡ sound j → Alike k j → refusal k a item store ≡ refusal j a item store

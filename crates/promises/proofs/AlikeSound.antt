@@ -35,6 +35,7 @@ sound-other k o a d s =
         no-higher = λ h p l. rw (← a .lines p) (s .running .no-higher h p l);
       };
       uses = s .uses;
+      circles = s .circles;
     }
 
 alike-back : {k j : State} → Alike k j → Alike j k

@@ -27,6 +27,8 @@ use Rattle.chains.specs.Lent.{goesOn, levels}
 use Rattle.rules.specs.Loans.{movedIf, prioritized, ruled, relevelled, workedOut}
 use Rattle.rules.specs.Ticks.{wokenIfDue, wakes, countedOn, oneTick, turned, ticked}
 use Rattle.rows.specs.Applies.{outOfRange, namesNone, wrongSize, notForIdle, notWithHold, noneFree, notHis, hisAlready, notSuspended, mustWait, noDepth, noTick, table}
+use Rattle.chains.specs.Chains.{within}
+use Rattle.rules.specs.Circles.{leadsTo, closesCircle, noCircle}
 use Rattle.rules.specs.Refusals.{inUse, laterRow, refusal}
 use Rattle.rules.specs.Effects.{effect}
 use Rattle.rules.specs.Steps.{after, accepted, step}
@@ -34,7 +36,7 @@ use Rattle.promises.specs.Alike.{Alike, idleFirst, idleLast, firstBegan,
 
 pub two-sound : (sound idleFirst ≡ true) × (sound idleLast ≡ true)
 unfolding idleFirst idleLast sound every allBelow any kept ordered count tidy
-    taskAt kindAt holds line noHigher runsFine tablesFine levelsFine ruled levels goesOn values upTo listingFine clockFine usesFine freshUses
+    taskAt kindAt holds line noHigher runsFine tablesFine levelsFine ruled levels goesOn values upTo listingFine clockFine usesFine freshUses noCircle leadsTo within
 two-sound = (refl, refl)
 
 pub two-alike : Alike idleFirst idleLast
@@ -52,7 +54,7 @@ two-differ e = let z : _≡_ {A = ℕ} 0 1 = ap (λ (o : Order). getD (o .places
 -- ── who began first
 pub began-sound : (sound firstBegan ≡ true) × (sound secondBegan ≡ true)
 unfolding firstBegan secondBegan sound every allBelow any kept ordered count tidy
-    taskAt kindAt holds line noHigher runsFine tablesFine levelsFine ruled levels goesOn values upTo listingFine clockFine usesFine freshUses
+    taskAt kindAt holds line noHigher runsFine tablesFine levelsFine ruled levels goesOn values upTo listingFine clockFine usesFine freshUses noCircle leadsTo within
 began-sound = (refl, refl)
 
 -- all is the same but the order, and so is each line and each list
@@ -65,7 +67,7 @@ same-but-begun = (refl, (λ p. refl, λ o. refl))
 -- so without the field `begun` alike kernels would part
 pub order-counts : (step firstBegan Tick [] (replicate 9216 0) .kernel .running ≡ task 1) × (step secondBegan Tick [] (replicate 9216 0) .kernel .running ≡ task 2)
 unfolding firstBegan secondBegan step accepted after asked refusal laterRow table outOfRange namesNone wrongSize notForIdle notWithHold noneFree inUse
-    notHis hisAlready notSuspended mustWait noDepth noTick sound every allBelow any kept foldl ordered without count tidy taskAt kindAt holds line those
+    notHis hisAlready notSuspended closesCircle leadsTo noCircle within mustWait noDepth noTick sound every allBelow any kept foldl ordered without count tidy taskAt kindAt holds line those
     begun highest leader first chosen toTail arrives wokenIfDue wakes countedOn oneTick turned ticked effect noHigher runsFine tablesFine levelsFine listingFine
     clockFine usesFine freshUses ruled levels goesOn values upTo relevelled workedOut prioritized movedIf
 order-counts = (refl, refl)

@@ -1,6 +1,7 @@
 pub mod Gate
 pub mod Caught
 pub mod LoansCaught
+pub mod CirclesCaught
 pub mod AlikeFirsts
 pub mod AlikeTwins
 pub mod AlikeEffects
@@ -24,4 +25,5 @@ pub mod Typing
 pub mod Advances
 pub mod Wakings
 pub mod Lendings
+pub mod Circles
 pub mod Quickly

@@ -25,7 +25,7 @@ use Rattle.promises.specs.Types.{Asked, Call, State}
 use Rattle.promises.specs.TurnedAway.{wholeTable, First, thisRow, below, None, end, notThisRow, Refusal, Accepted, Exactly, Decided}
 
 -- ── the first row that applies, as a number and as a proposition
-first-is : {n : ℕ} {rs : List Row} → First n rs → firstRow rs ≡ n
+pub first-is : {n : ℕ} {rs : List Row} → First n rs → firstRow rs ≡ n
 first-is (thisRow e a) = rw a e
 first-is (below a f) = rw a (first-is f)
 

@@ -2,6 +2,8 @@ pub mod Types
 pub mod Cases
 pub mod Wrong
 pub mod WrongLoans
+pub mod CircleCases
+pub mod WrongCircles
 pub mod Alike
 pub mod History
 pub mod Program
@@ -13,3 +15,4 @@ pub mod Depth
 pub mod Typed
 pub mod Advance
 pub mod Lending
+pub mod Circles

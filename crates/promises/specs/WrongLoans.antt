@@ -11,7 +11,6 @@ use Rattle.calls.specs.Named.{taskOf, objectOf}
 use Rattle.calls.specs.Behind.{asked}
 use Rattle.calls.specs.Said.{done, made}
 use Rattle.order.specs.Order.{listed}
-use Rattle.chains.specs.Columns.{raised}
 use Rattle.chains.specs.Lent.{goesOn}
 use Rattle.slots.specs.Places.{isReady}
 use Rattle.slots.specs.Values.{levelled, taskAt}
@@ -67,10 +66,6 @@ oneLink k = upTo (λ ls n. goesOn (nextOf k) 1 (nextOf k n) (ownOf k n) ls) 16 (
 abbrev pub lasting : State → List ℕ
 lasting k = let ls = byTheRule k in values (λ n. if holds (k .objects) (task n) then larger (levelOf k n) (getD ls n 0) else getD ls n 0) 16
 
--- "the largest own priority": sixteen times each passes its effective one on to whom it waits for, so that on a circle an old one goes round for ever
-abbrev pub passedOn : State → List ℕ
-passedOn k = upTo (λ ls i. upTo (λ ms n. raised (nextOf k n) (getD ls n 0) ms) 16 (values (ownOf k) 16)) 16 (values (levelOf k) 16)
-
 -- "tasks whose line changes move in order of task number": in order of arrival, and then those who stand nowhere
 abbrev pub asArrived : State → List TaskSlot
 asArrived k = listed (k .order) ++ byNumber k
@@ -113,13 +108,6 @@ loanMistakes =
     saysNothing
     (view done 0 1 [])
     (view done 0 2 [])
-    -- tasks 1 and 2 wait for each other, and task 3 has left: both have 4 then, so that task 1, which began first, is woken before task 4
-    ∷ fails (lendsBy (worksOut passedOn byNumber prioritized))
-    (Create 3 ∷ MakeMutex ∷ MakeMutex ∷ Take (objectOf 0) 0 ∷ Create 4 ∷ Take (objectOf 1) 0 ∷ Take (objectOf 0) 9 ∷ Create 6 ∷ Take (objectOf 0) 1
-    ∷ Take (objectOf 1) 2 ∷ Tick ∷ Create 4 ∷ Suspend (taskOf 3) ∷ Delay 1 ∷ Tick ∷ [])
-    saysNothing
-    (view done 0 1 [])
-    (view done 0 4 [])
     -- one tick ends two waits, for tasks 1 and 2, of which 2 stands first
     ∷ fails (stepBy (worksBy (worksOut byTheRule asArrived prioritized) (worksOut byTheRule asArrived prioritized)) chosen)
     (Create 3 ∷ MakeMutex ∷ MakeMutex ∷ Take (objectOf 0) 0 ∷ Create 3 ∷ Yield ∷ Take (objectOf 1) 0 ∷ Create 5 ∷ Take (objectOf 1) 1

@@ -131,6 +131,7 @@ table s a item store =
     ∷ row 11 (notHis s a)
     ∷ row 12 (hisAlready s a)
     ∷ row 13 (notSuspended s a)
+    ∷ row 17 (s .circle)
     ∷ row 14 (mustWait s a)
     ∷ row 15 (noDepth s a)
     ∷ row 16 (noTick s a)

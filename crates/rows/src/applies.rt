@@ -221,7 +221,7 @@ impl Seen {
         false
     }
 
-    // The number of the first row that applies, of rows 2 to 16; 0 where none does. No row is passed over: which one applies cannot be foretold, and most calls pass them all.
+    // The number of the first row that applies, of rows 2 to 17; 0 where none does. No row is passed over: which one applies cannot be foretold, and most calls pass them all.
     pub fn row(self, a: Asked, item: usize, store: usize) -> u32
         ensures { λ r. ⌜ r ≡ firstRow (table self a item store) ⌝ }
     {
@@ -236,6 +236,7 @@ impl Seen {
         let no = or_row(no, 11, self.not_his(a));
         let no = or_row(no, 12, self.his_already(a));
         let no = or_row(no, 13, self.not_suspended(a));
+        let no = or_row(no, 17, self.circle);
         let no = or_row(no, 14, self.must_wait(a));
         let no = or_row(no, 15, self.no_depth(a));
         or_row(no, 16, self.no_tick(a))

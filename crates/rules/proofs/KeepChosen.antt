@@ -16,11 +16,11 @@ use Rattle.order.specs.Tidy.{count}
 use Rattle.order.proofs.CountPassing.{count-kept}
 use Rattle.slots.specs.Places.{isReady}
 use Rattle.slots.specs.Values.{inLine, taskAt}
-use Rattle.rules.specs.Types.{TaskSlot, Uses, Task, AllReady, State}
+use Rattle.rules.specs.Types.{TaskSlot, Uses, Task, Object, AllReady, State}
 use Rattle.rules.specs.Tables.{withRunning, withUses}
 use Rattle.rules.specs.Lines.{line, those, level, highest, first, runsIf, chosen}
 use Rattle.rules.specs.Loans.{workedOut, Reckoned}
-use Rattle.rules.specs.Sentences.{Running, Used, Sound}
+use Rattle.rules.specs.Sentences.{Running, Used, SoundBy, Sound}
 use Rattle.rules.proofs.SoundLists.{once-of}
 use Rattle.rules.proofs.LineLeads.{leader-none, first-heads-highest}
 use Rattle.rules.proofs.TableWithin.{first-meant, first-single}
@@ -32,8 +32,8 @@ use Rattle.rules.proofs.KeepNearly.{Open, settled, Nearly, RunsIn}
 
 -- ── from nearly sound to sound, and back
 pub nearly-sound : (k : State) → Nearly (settled (k .tick)) k → Reckoned (k .tasks) (k .objects) → Running (k .tasks) (listed (k .order)) (k .running) (k .hold)
-    → {us : Uses} → Used us → Sound (withUses k us)
-nearly-sound k N L R U =
+    → {us : Uses} → Used us → (P : List Task → List Object → Type 0) → P (k .tasks) (k .objects) → SoundBy P (withUses k us)
+nearly-sound k N L R U P C =
     record {
       tables = N .tables;
       levels = reckoned-levels (k .tasks) (k .objects) (N .tables .task-slots) L (N .range);
@@ -41,11 +41,12 @@ nearly-sound k N L R U =
       clock = record { wakes = λ t. wake-says (k .tick) (taskAt (k .tasks) t .place) (N .due t); counts = N .counts };
       running = R;
       uses = U;
+      circles = C;
     }
 
 -- with other uses
 pub sound-with : (k : State) → Sound k → {us : Uses} → Used us → Sound (withUses k us)
-sound-with k S U = record { tables = S .tables; levels = S .levels; listing = S .listing; clock = S .clock; running = S .running; uses = U }
+sound-with k S U = record { tables = S .tables; levels = S .levels; listing = S .listing; clock = S .clock; running = S .running; uses = U; circles = S .circles }
 
 pub sound-nearly : (k : State) → Sound k → Nearly (settled (k .tick)) k
 sound-nearly k S =
@@ -101,11 +102,12 @@ some-ready k N = leader-none (k .tasks) (those (k .tasks) AllReady (listed (k .o
 pub sound-reckoned : (k : State) → Sound k → Reckoned (k .tasks) (k .objects)
 sound-reckoned k S = levels-reckoned (k .tasks) (k .objects) (S .tables .task-slots) (S .levels)
 
-module _ (k : State) (N : Nearly (settled (k .tick)) k) (L : Reckoned (k .tasks) (k .objects)) {us : Uses} (U : Used us) where
+module _ (k : State) (N : Nearly (settled (k .tick)) k) (L : Reckoned (k .tasks) (k .objects)) {us : Uses} (U : Used us)
+    (P : List Task → List Object → Type 0) (C : P (k .tasks) (k .objects)) where
   abbrev high : ℕ
   high = highest (k .tasks) (those (k .tasks) AllReady (listed (k .order)))
 
-  runs-first : (t : TaskSlot) → first k AllReady ≡ t ∷ [] → Sound (withUses (withRunning k t) us)
+  runs-first : (t : TaskSlot) → first k AllReady ≡ t ∷ [] → SoundBy P (withUses (withRunning k t) us)
   unfolding line
   runs-first t e =
       nearly-sound (withRunning k t) (record { tables = N .tables; range = N .range; listing = N .listing; due = N .due; counts = N .counts }) L
@@ -113,7 +115,7 @@ module _ (k : State) (N : Nearly (settled (k .tick)) k) (L : Reckoned (k .tasks)
         runs = record { ready = is-ready _ (first-meant k AllReady t e); heads = rw top heads };
         no-higher = λ h p m. above-highest (k .tasks) p (listed (k .order)) (rw top at m);
       })
-      U
+      U P C
     where
       heads : head (line (k .tasks) high (listed (k .order))) ≡ t ∷ []
       heads = sym (first-heads-highest k) ∙ e
@@ -121,23 +123,24 @@ module _ (k : State) (N : Nearly (settled (k .tick)) k) (L : Reckoned (k .tasks)
       top : level (k .tasks) t ≡ high
       top = eqb-true (level (k .tasks) t) high (and-right (isReady (taskAt (k .tasks) t .place)) _ (kept-head (λ u. inLine high (taskAt (k .tasks) u)) (listed (k .order)) t heads))
 
-  pub chosen-sound : (0 < k .hold → RunsIn k) → Sound (withUses (chosen k) us)
+  pub chosen-sound : (0 < k .hold → RunsIn k) → SoundBy P (withUses (chosen k) us)
   unfolding chosen
   chosen-sound R = go (eqb (k .hold) 0) refl
     where
-      choose : (f : List TaskSlot) → first k AllReady ≡ f → isNone f ≡ false → Sound (withUses (runsIf k f) us)
+      choose : (f : List TaskSlot) → first k AllReady ≡ f → isNone f ≡ false → SoundBy P (withUses (runsIf k f) us)
       choose [] e n = absurd (false≢true (sym n))
       choose (t ∷ r) e n = runs-first t (first-single k AllReady t r e)
 
-      go : (b : Bool) → eqb (k .hold) 0 ≡ b → Sound (withUses (if b then runsIf k (first k AllReady) else k) us)
+      go : (b : Bool) → eqb (k .hold) 0 ≡ b → SoundBy P (withUses (if b then runsIf k (first k AllReady) else k) us)
       go true e = choose (first k AllReady) refl (some-ready k N)
       go false e =
           let busy : 0 < k .hold = omega (arith, eqb-false (k .hold) 0 e) in
-          nearly-sound k N L (record { runs = R busy; no-higher = λ h. absurd (omega arith) }) U
+          nearly-sound k N L (record { runs = R busy; no-higher = λ h. absurd (omega arith) }) U P C
 
 -- both after a call's effect
-pub worked-sound : (k : State) → Nearly (settled (k .tick)) k → {us : Uses} → Used us → (0 < k .hold → RunsIn k) → Sound (withUses (chosen (workedOut k)) us)
-worked-sound k N U R =
+pub worked-sound : (k : State) → Nearly (settled (k .tick)) k → (P : List Task → List Object → Type 0) → P (workedOut k .tasks) (workedOut k .objects) → {us : Uses} → Used us
+    → (0 < k .hold → RunsIn k) → SoundBy P (withUses (chosen (workedOut k)) us)
+worked-sound k N P C U R =
     let S = worked-same k in
-    chosen-sound (workedOut k) (subst (λ (n : ℕ). Nearly (settled n) (workedOut k)) (sym (S .tick)) (worked-nearly k N)) (worked-reckoned k (N .tables .task-slots)) U
+    chosen-sound (workedOut k) (subst (λ (n : ℕ). Nearly (settled n) (workedOut k)) (sym (S .tick)) (worked-nearly k N)) (worked-reckoned k (N .tables .task-slots)) U P C
     (λ h. worked-runs k N (R (rw (S .hold) at h)))

@@ -11,6 +11,7 @@ use Rattle.order.specs.Order.{ordered}
 use Rattle.order.specs.Tidy.{count, tidy}
 use Rattle.chains.specs.Lent.{goesOn, levels}
 use Rattle.chains.specs.Columns.{raised}
+use Rattle.chains.specs.Chains.{within}
 use Rattle.rules.specs.Types.{Call, Create, Delete, Suspend, Resume, SetPriority, Delay, Yield, Hold, Release, MakeQueue, MakeMutex, Remove, Send, Receive, Take, Give, Tick, Advance, State}
 use Rattle.slots.specs.Values.{taskAt}
 use Rattle.slots.specs.Kinds.{kindAt}
@@ -28,10 +29,12 @@ use Rattle.rules.proofs.KeepObjects.{queue-keeps, mutex-keeps, remove-k
 use Rattle.rules.proofs.KeepQueues.{send-keeps, receive-keeps}
 use Rattle.rules.proofs.KeepMutexes.{take-keeps, give-keeps}
 use Rattle.rules.proofs.KeepUses.{used-after}
+use Rattle.rules.proofs.KeepCircles.{effect-circles}
 use Rattle.rules.specs.Loans.{ruled}
+use Rattle.rules.specs.Circles.{leadsTo, noCircle}
 
 pub fresh-sound : sound fresh ≡ true
-unfolding sound fresh ruled levels goesOn raised upTo values freshUses every allBelow kept any ordered count tidy taskAt kindAt holds line noHigher runsFine tablesFine levelsFine listingFine clockFine usesFine
+unfolding sound fresh ruled levels goesOn raised upTo values freshUses every allBelow kept any ordered count tidy taskAt kindAt holds line noHigher runsFine tablesFine levelsFine listingFine clockFine usesFine noCircle leadsTo within
 fresh-sound = refl
 
 pub effect-keeps : (k : State) → Sound k → (n : ℕ) (c : Call) → Passed k (asked (k .uses) c) n → Keeps (effect k (asked (k .uses) c))
@@ -57,4 +60,6 @@ effect-keeps k S n (Advance d) = advance-keeps k S n d
 
 -- whatever the item and the store
 pub step-kept : (k : State) (c : Call) (item s : List ℕ) → sound k ≡ true → sound (step k c item s .kernel) ≡ true
-step-kept k c item s e = step-keeps k c item s e (λ S P. effect-keeps k S (length s) c P) (λ S P. used-after k (asked (k .uses) c) (S .uses) (delete-not-idle k (asked (k .uses) c) (length s) P))
+step-kept k c item s e =
+    step-keeps k c item s e (λ S P. effect-keeps k S (length s) c P) (λ S P. effect-circles k S (length s) c P)
+    (λ S P. used-after k (asked (k .uses) c) (S .uses) (delete-not-idle k (asked (k .uses) c) (length s) P))

@@ -47,6 +47,17 @@ module _ (k : State) (S : Sound k) (store : ℕ) where
   caller-low : k .running .0 < 16
   caller-low = ready-low (k .tasks) (k .running) (S .tables .task-slots) (R .ready)
 
+  -- the caller, who is not idle, begins to wait on a mutex that another holds
+  pub waits-nearly : (o : ObjSlot) (w : ℕ) → 0 < w → (k .running .0 ≡ 0 → ⊥) → (h : TaskSlot) → kindAt (k .objects) o ≡ Mutex (By h) → (h .0 ≡ k .running .0 → ⊥)
+      → Nearly (settled (k .tick)) (waitFor k o w)
+  unfolding waitFor
+  waits-nearly o w some busy h e other = arrives-nearly k N (k .running) caller-low (to-wait refl busy may-wait (wake-ahead (k .tick) w o (S .clock .counts .tick-range) some))
+    where
+      may-wait : (p : ObjSlot) (v : Wake) → Waiting o (wakeOf (k .tick) w) ≡ Waiting p v → MayWait (k .running) (kindAt (k .objects) p)
+      may-wait p v q =
+          let z : o ≡ p = cc in
+          subst (λ x. MayWait (k .running) (kindAt (k .objects) x)) z (subst (λ (x : Kind). MayWait (k .running) x) (sym e) (taker other))
+
   -- 15: take
   module _ (o : ObjSlot) (w : ℕ) {l : Bool} (P : Passed k (onObject 15 AMutex o l w) store) where
     is-mutex : isMutex (kindAt (k .objects) o) ≡ true
@@ -82,19 +93,11 @@ module _ (k : State) (S : Sound k) (store : ℕ) where
     held-waited : (h : TaskSlot) → kindAt (k .objects) o ≡ Mutex (By h) → Keeps (waitFor k o w)
     unfolding waitFor arrives toTail
     held-waited h e =
+        let wait = some (ap isHeld e) in
         record {
-          nearly = arrives-nearly k N (k .running) caller-low (to-wait refl not-idle may-wait (wake-ahead (k .tick) w o (S .clock .counts .tick-range) wait));
+          nearly = waits-nearly o w wait not-idle h e (λ z. false≢true (sym not-his ∙ (ap (heldBy (k .running)) e ∙ eq-eqb (h .0) (k .running .0) z)));
           runs = λ q. absurd (no-hold wait q);
         }
-      where
-        wait : 0 < w
-        wait = some (ap isHeld e)
-
-        may-wait : (p : ObjSlot) (v : Wake) → Waiting o (wakeOf (k .tick) w) ≡ Waiting p v → MayWait (k .running) (kindAt (k .objects) p)
-        may-wait p v q =
-            let z : o ≡ p = cc in
-            subst (λ x. MayWait (k .running) (kindAt (k .objects) x)) z
-            (subst (λ (x : Kind). MayWait (k .running) x) (sym e) (taker (λ z. false≢true (sym not-his ∙ (ap (heldBy (k .running)) e ∙ eq-eqb (h .0) (k .running .0) z)))))
 
     pub take-keeps : Keeps (effect k (onObject 15 AMutex o l w))
     unfolding effect taken

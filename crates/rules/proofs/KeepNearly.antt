@@ -1,4 +1,4 @@
--- Soundness on the way: the parts of Sound but the effective priorities and who runs, with what is still open named. A call's effect takes nearly sound kernels to nearly
+-- Soundness on the way: the parts of Sound but the effective priorities, who runs, the uses and the circles, with what is still open named. A call's effect takes nearly sound kernels to nearly
 -- sound ones; then the effective priorities are worked out, and choose comes last.
 use Prim.Native.Nat.{ℕ, _≤_}
 use mathlib.Core.Path.{_≡_, sym, ap, _∙_}

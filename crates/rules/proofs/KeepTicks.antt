@@ -12,7 +12,7 @@ use borrow.Author.Tests.{eqb-true, eqb-false, eq-eqb, ltb-true, ltb-false, lt-lt
 use Rattle.lists.specs.Choice.{if_then_else_}
 use Rattle.lists.specs.Lists.{foldl, upTo}
 use Rattle.lists.proofs.Bools.{and-left, and-intro, not-off, or-off, or-left, or-right}
-use Rattle.numbers.specs.Numbers.{sameTask}
+use Rattle.numbers.specs.Numbers.{task, sameTask}
 use Rattle.calls.specs.Door.{freshUses}
 use Rattle.calls.specs.Behind.{asked, nothing}
 use Rattle.order.specs.Order.{listed}
@@ -25,19 +25,20 @@ use Rattle.rules.specs.Types.{TaskSlot, Place, Free, Ready, Delayed, Wai
 use Rattle.rules.specs.Tables.{withTick, withHold, withUses}
 use Rattle.rules.specs.Lines.{begun, level, toTail}
 use Rattle.rules.specs.Sound.{noHigher}
-use Rattle.rules.specs.Sentences.{Counts, Used, Sound, Unheld}
+use Rattle.rules.specs.Sentences.{Counts, Used, NoCircle, Sound, Unheld}
 use Rattle.rows.specs.Applies.{noDepth, noTick}
 use Rattle.rules.specs.Waits.{later, arrives}
-use Rattle.rules.specs.Loans.{workedOut, ruled, Reckoned}
+use Rattle.rules.specs.Loans.{forWhom, waitsFor, workedOut, ruled, Reckoned}
 use Rattle.rules.specs.Ticks.{wokenIfDue, wakes, countedOn, oneTick, turned, turnedIf, ticked, ticks, released, held, advanced}
 use Rattle.rules.specs.Effects.{effect}
 use Rattle.rules.proofs.TableSlots.{passes-there}
 use Rattle.rules.proofs.RowPasses.{Passed, advance-free}
 use Rattle.rules.proofs.SoundUses.{uses-say, fresh-fine}
-use Rattle.rules.proofs.TickJumps.{turned-only, turn-only, only-reckoned}
+use Rattle.rules.proofs.TickJumps.{turned-only, turn-only, only-reckoned, only-circles}
 use Rattle.rules.proofs.KeepNearly.{Open, settled, Nearly, RunsIn}
 use Rattle.rules.proofs.LoanRule.{ruled-less}
-use Rattle.rules.proofs.LoanWorks.{worked-same, worked-place, worked-reckoned, worked-nearly, worked-at, worked-many}
+use Rattle.rules.proofs.CircleRule.{nobody-for-nobody, loosened}
+use Rattle.rules.proofs.LoanWorks.{worked-same, worked-place, worked-reckoned, worked-circles, worked-nearly, worked-at, worked-many}
 use Rattle.rules.proofs.KeepSlot.{at-other, moved-nearly, at-same, like-before}
 use Rattle.rules.proofs.KeepChosen.{sound-with, sound-nearly, sound-reckoned, chosen-sound}
 use Rattle.rules.proofs.KeepBlocks.{to-ready, arrives-nearly, arrives-same, arrives-at}
@@ -223,6 +224,29 @@ tick-lowers k l R t h =
     old v o w (inl f) e = sym f ∙ e
     old v o w (inr f) e = absurd (let q : Ready ≡ Waiting o w = sym f ∙ e in let z : _≡_ {A = ℕ} 0 1 = cc in omega arith)
 
+tick-many : (k : State) → length (oneTick k .tasks) ≡ length (k .tasks)
+unfolding oneTick
+tick-many k = worked-many (countedOn k) ∙ count-woke k .many
+
+-- nor does any circle come of them
+pub tick-circles : (k : State) → length (k .tasks) ≡ 16 → NoCircle (k .tasks) (k .objects) → NoCircle (oneTick k .tasks) (oneTick k .objects)
+unfolding oneTick
+tick-circles k l C = worked-circles j m (loosened (k .tasks) (j .tasks) (k .objects) (j .objects) l m C (λ t. ends t (W .either t)))
+  where
+    j : State
+    j = countedOn k
+
+    W : Woke (withTick k (later (k .tick) 1)) j
+    W = count-woke k
+
+    m : length (j .tasks) ≡ 16
+    m = W .many ∙ l
+
+    ends : (t : TaskSlot) → (taskAt (j .tasks) t .place ≡ taskAt (k .tasks) t .place) ⊎ (taskAt (j .tasks) t .place ≡ Ready)
+        → (waitsFor (j .tasks) (j .objects) t ≡ waitsFor (k .tasks) (k .objects) t) ⊎ (waitsFor (j .tasks) (j .objects) (waitsFor (j .tasks) (j .objects) t) ≡ task 16)
+    ends t (inl e) = inl (ap (forWhom (j .objects)) e ∙ ap (λ os. waitsFor (k .tasks) os t) (W .objects))
+    ends t (inr e) = inr (ap (λ p. waitsFor (j .tasks) (j .objects) (forWhom (j .objects) p)) e ∙ nobody-for-nobody (j .tasks) (j .objects) m)
+
 -- after some ticks each effective priority is the rule's still
 pub ticks-reckoned : (b : Bool) (n : ℕ) (k : State) → length (k .tasks) ≡ 16 → Reckoned (k .tasks) (k .objects) → (length (ticks b n k .tasks) ≡ 16) × Reckoned (ticks b n k .tasks) (ticks b n k .objects)
 unfolding ticks upTo oneTick
@@ -232,6 +256,15 @@ ticks-reckoned b (suc n) k l R =
     let m : length (countedOn j .tasks) ≡ 16 = count-woke j .many ∙ ticks-reckoned b n k l R .0 in
     let o = turn-only b (workedOut (countedOn j)) in
     (ap length (o .tasks) ∙ worked-many (countedOn j) ∙ m, only-reckoned o (worked-reckoned (countedOn j) m))
+
+pub ticks-circles : (b : Bool) (n : ℕ) (k : State) → length (k .tasks) ≡ 16 → NoCircle (k .tasks) (k .objects) → (length (ticks b n k .tasks) ≡ 16) × NoCircle (ticks b n k .tasks) (ticks b n k .objects)
+unfolding ticks upTo
+ticks-circles b zero k l C = (l, C)
+ticks-circles b (suc n) k l C =
+    let j = ticks b n k in
+    let N = ticks-circles b n k l C in
+    let o = turn-only b (oneTick j) in
+    (ap length (o .tasks) ∙ tick-many j ∙ N .0, only-circles o (tick-circles j (N .0) (N .1)))
 
 -- ── what they leave, too: the hold, who runs, and who was ready
 pub record After (k j : State) : Type 0 where
@@ -372,17 +405,17 @@ pub unheld-keeps : (k : State) → Unheld k → Keeps k
 unheld-keeps k U = record { nearly = unheld-nearly k U; runs = λ h. absurd (omega (arith, U .free)) }
 
 -- the turn and the choose, after a tick's wakes or by themselves
-module _ (k j : State) (U : Unheld k) (T : Ticked k j) where
+module _ (k j : State) (U : Unheld k) (T : Ticked k j) (C : NoCircle (j .tasks) (j .objects)) where
   pub turned-unheld : Unheld (turnedIf true j)
   turned-unheld =
       let K = turn-keeps k j (U .sound .running .runs) T (U .free) in
-      record { sound = chosen-sound (turned j) (K .nearly) (only-reckoned (turned-only j) (T .reckoned)) fresh-used (K .runs); free = turn-only true j .hold ∙ T .after .hold ∙ U .free }
+      record { sound = chosen-sound (turned j) (K .nearly) (only-reckoned (turned-only j) (T .reckoned)) fresh-used NoCircle (only-circles (turned-only j) C) (K .runs); free = turn-only true j .hold ∙ T .after .hold ∙ U .free }
 
 pub tick-unheld : (k : State) → Unheld k → Unheld (turnedIf true (oneTick k))
-tick-unheld k U = turned-unheld k (oneTick k) U (one-tick k (unheld-nearly k U))
+tick-unheld k U = turned-unheld k (oneTick k) U (one-tick k (unheld-nearly k U)) (tick-circles k (U .sound .tables .task-slots) (U .sound .circles))
 
 pub turn-unheld : (k : State) → Unheld k → Unheld (turnedIf true k)
-turn-unheld k U = turned-unheld k k U (record { nearly = unheld-nearly k U; reckoned = sound-reckoned (withUses k freshUses) (U .sound); after = record { hold = refl; running = refl; ready = λ t e. e } })
+turn-unheld k U = turned-unheld k k U (record { nearly = unheld-nearly k U; reckoned = sound-reckoned (withUses k freshUses) (U .sound); after = record { hold = refl; running = refl; ready = λ t e. e } }) (U .sound .circles)
 
 pub ticks-unheld : (n : ℕ) (k : State) → Unheld k → Unheld (ticks true n k)
 unfolding ticks upTo

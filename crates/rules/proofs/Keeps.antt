@@ -19,7 +19,7 @@ use Rattle.slots.specs.Kinds.{kindAt}
 use Rattle.rules.specs.Tables.{withUses}
 use Rattle.rules.specs.Lines.{chosen}
 use Rattle.rules.specs.Sound.{sound}
-use Rattle.rules.specs.Sentences.{Exists, Used, Sound}
+use Rattle.rules.specs.Sentences.{Exists, Used, NoCircle, Sound}
 use Rattle.rows.specs.Asking.{is, stops, waits}
 use Rattle.rows.specs.Applies.{notForIdle, notWithHold, stopsAt, mustWait}
 use Rattle.rules.specs.Refusals.{seen, laterRow, refusal}
@@ -29,6 +29,7 @@ use Rattle.rules.proofs.TableSlots.{past-tasks}
 use Rattle.rules.proofs.SoundSays.{sound-says, says-sound}
 use Rattle.rules.proofs.RowPasses.{Passed, passed}
 use Rattle.rules.proofs.KeepNearly.{settled, Nearly, RunsIn}
+use Rattle.rules.proofs.LoanWorks.{worked-circles}
 use Rattle.rules.proofs.KeepChosen.{worked-sound}
 
 -- after its effect the kernel is nearly sound, and with a hold the running task still heads its line
@@ -39,9 +40,10 @@ pub record Keeps (j : State) : Type 0 where
 -- so the step keeps soundness, whether the call is accepted or not
 pub effect-kept : (k : State) (c : Call) (item s : List ℕ) → sound k ≡ true
     → (Sound k → Passed k (asked (k .uses) c) (length s) → Keeps (effect k (asked (k .uses) c)))
+    → (Sound k → Passed k (asked (k .uses) c) (length s) → NoCircle (effect k (asked (k .uses) c) .tasks) (effect k (asked (k .uses) c) .objects))
     → (Sound k → Passed k (asked (k .uses) c) (length s) → Used (usesAfter (k .uses) (asked (k .uses) c))) → sound (step k c item s .kernel) ≡ true
 unfolding step refusal accepted after
-effect-kept k c item s e f g = rw e (go (eqb (laterRow k a (length item) (length s)) 0) refl)
+effect-kept k c item s e f x g = rw e (go (eqb (laterRow k a (length item) (length s)) 0) refl)
   where
     a : Asked
     a = asked (k .uses) c
@@ -50,7 +52,7 @@ effect-kept k c item s e f g = rw e (go (eqb (laterRow k a (length item) (length
     go true q =
         let P = passed k a (length item) (length s) (eqb-true _ 0 q) in
         let h = f (sound-says k e) P in
-        says-sound (withUses (chosen (after k a)) (usesAfter (k .uses) a)) (worked-sound (effect k a) (h .nearly) (g (sound-says k e) P) (h .runs))
+        says-sound (withUses (chosen (after k a)) (usesAfter (k .uses) a)) (worked-sound (effect k a) (h .nearly) NoCircle (worked-circles (effect k a) (h .nearly .tables .task-slots) (x (sound-says k e) P)) (g (sound-says k e) P) (h .runs))
     go false q = e
 
 -- ── small laws that the calls share

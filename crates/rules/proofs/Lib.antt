@@ -7,6 +7,7 @@ pub mod LineMoves
 pub mod SoundLists
 pub mod SoundTables
 pub mod LoanRule
+pub mod CircleRule
 pub mod SoundLevels
 pub mod SoundListing
 pub mod SoundClock
@@ -32,6 +33,7 @@ pub mod KeepQueues
 pub mod KeepUses
 pub mod KeepTaken
 pub mod LoanStill
+pub mod KeepCircles
 pub mod Begun
 pub mod BegunCalls
 pub mod BegunPairs

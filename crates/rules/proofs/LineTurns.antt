@@ -26,7 +26,7 @@ use Rattle.rules.specs.Tables.{withOrder, withRunning, withTick}
 use Rattle.rules.specs.Lines.{line, those, begun, level, highest, first, chosen, toTail}
 use Rattle.rules.specs.Sound.{noHigher}
 use Rattle.rules.specs.Waits.{later, arrives}
-use Rattle.rules.specs.Sentences.{Running, Unheld}
+use Rattle.rules.specs.Sentences.{NoCircle, Running, Unheld}
 use Rattle.rules.specs.Ticks.{wokenIfDue, wakes, oneTick, turned, turnedIf, turnings, countedOn}
 use Rattle.rules.proofs.TableSlots.{is-ready}
 use Rattle.rules.proofs.LineLeads.{first-heads-highest, no-higher-by}
@@ -37,7 +37,7 @@ use Rattle.rules.proofs.Keeps.{ready-low, apart}
 use Rattle.rules.proofs.KeepNearly.{RunsIn}
 use Rattle.rules.proofs.KeepHeads.{runs-tail}
 use Rattle.rules.proofs.KeepChosen.{nearly-sound, above-highest}
-use Rattle.rules.proofs.KeepTicks.{fresh-used, one-tick, unheld-nearly, turn-unheld, counted}
+use Rattle.rules.proofs.KeepTicks.{fresh-used, one-tick, unheld-nearly, turn-unheld, counted, tick-circles}
 use Rattle.rules.proofs.TickJumps.{passed-over}
 use Rattle.rules.proofs.Begun.{RoomyIn}
 use Rattle.rules.proofs.BegunCalls.{woken-fades}
@@ -268,4 +268,4 @@ tick-still k U e =
     let R : RoomyIn k = record { many = U .sound .tables .task-slots; room = room k U } in
     let S : RunsIn (countedOn k) = wakes-run (begun (k .tasks) (listed (k .order))) (withTick k (later (k .tick) 1)) R (U .sound .running .runs) in
     let z = T .after .hold ∙ U .free in
-    record { sound = nearly-sound j (T .nearly) (T .reckoned) (rw z (highest-runs (j .tasks) (listed (j .order)) (j .running) (worked-runs (countedOn k) (counted k (unheld-nearly k U)) S) e)) fresh-used; free = z }
+    record { sound = nearly-sound j (T .nearly) (T .reckoned) (rw z (highest-runs (j .tasks) (listed (j .order)) (j .running) (worked-runs (countedOn k) (counted k (unheld-nearly k U)) S) e)) fresh-used NoCircle (tick-circles k (U .sound .tables .task-slots) (U .sound .circles)); free = z }

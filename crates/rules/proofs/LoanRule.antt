@@ -35,7 +35,7 @@ module _ (ts : List Task) (os : List Object) where
       → ((h : TaskSlot) → Holds os h o → P) → P
   by-kind-waited s o w P e none some = by-kind (kindAt os o) (λ x. (holderOf x ≡ task 16 → P) → P) (λ f. f refl) (λ f. f refl) (λ q e f. f refl) (λ e f. f refl) (λ h e f. some h e) none
 
-  by-link : (s : TaskSlot) (P : Type 0) → (waitsFor ts os s ≡ task 16 → P) → ((o : ObjSlot) (w : Wake) (h : TaskSlot) → taskAt ts s .place ≡ Waiting o w → Holds os h o → P) → P
+  pub by-link : (s : TaskSlot) (P : Type 0) → (waitsFor ts os s ≡ task 16 → P) → ((o : ObjSlot) (w : Wake) (h : TaskSlot) → taskAt ts s .place ≡ Waiting o w → Holds os h o → P) → P
   by-link s P none some = go (taskAt ts s .place) refl
     where
       go : (p : Place) → taskAt ts s .place ≡ p → P
@@ -66,12 +66,12 @@ module _ (ts : List Task) (os : List Object) where
         absurd (let z : _≡_ {A = ℕ} 0 1 = cc in omega arith)
 
     -- ── any number of links, by slots and by numbers
-    reaches-along : {s t : TaskSlot} → Reaches ts os s t → Along nextOf (s .0) (t .0)
+    pub reaches-along : {s t : TaskSlot} → Reaches ts os s t → Along nextOf (s .0) (t .0)
     reaches-along itself = here
     reaches-along {s} {t} (along {h = h} o w p q r) =
         let e : nextOf (s .0) ≡ h .0 = ap (λ (v : TaskSlot). v .0) (waits-for-holder s h o w p q) in link {u = t .0} (subst (λ (n : ℕ). Along nextOf n (t .0)) (sym e) (reaches-along r))
 
-    along-reaches : {s u : ℕ} → u < 16 → Along nextOf s u → Reaches ts os (task s) (task u)
+    pub along-reaches : {s u : ℕ} → u < 16 → Along nextOf s u → Reaches ts os (task s) (task u)
     along-reaches l here = itself
     along-reaches {s} {u} l (link a) =
         let ih = along-reaches l a in

@@ -1,6 +1,7 @@
 -- The effective priorities worked out afresh: what becomes of each task and of all else, that nothing changes where each has the rule's already, and that a nearly sound
 -- kernel stays so.
 use Prim.Native.Nat.{ℕ, zero, suc, _<_, _≤_}
+use mathlib.Core.Logic.{inl}
 use mathlib.Core.Path.{_≡_, refl, sym, ap, _∙_}
 use mathlib.Core.Bool.{Bool, true, false, false≢true}
 use mathlib.Core.List.{List}
@@ -16,8 +17,9 @@ use Rattle.slots.specs.Values.{levelled, taskAt}
 use Rattle.rules.specs.Types.{TaskSlot, Place, Free, Ready, Delayed, Waiting, Suspended, Spent, Task, Object, State}
 use Rattle.rules.specs.Lines.{level}
 use Rattle.rules.specs.Loans.{forWhom, waitsFor, ruled, prioritized, relevelled, workedOut, Reckoned}
-use Rattle.rules.specs.Sentences.{Exists, HoldsNothing}
+use Rattle.rules.specs.Sentences.{Exists, HoldsNothing, NoCircle}
 use Rattle.rules.proofs.LoanRule.{ruled-same, alone-own}
+use Rattle.rules.proofs.CircleRule.{loosened}
 use Rattle.rules.proofs.KeepNearly.{Open, Nearly, RunsIn}
 use Rattle.rules.proofs.KeepSlot.{at-same, at-other, like-before}
 use Rattle.rules.proofs.KeepBlocks.{Same, same-trans, same-level, prioritized-same, prioritized-tasks, prioritized-nearly, prioritized-runs}
@@ -97,12 +99,13 @@ module _ (k : State) where
   pub worked-own : (t : TaskSlot) → taskAt (workedOut k .tasks) t .own ≡ taskAt (k .tasks) t .own
   worked-own = worked-keeps (λ (x : Task). x .own) (λ x n. refl)
 
-  -- so nothing changes that the rule looks at
+  -- so nothing changes that the rule looks at, nor any chain
+  worked-waits : (t : TaskSlot) → waitsFor (workedOut k .tasks) (workedOut k .objects) t ≡ waitsFor (k .tasks) (k .objects) t
+  worked-waits t = ap (λ (os : List Object). waitsFor (workedOut k .tasks) os t) (worked-same k .objects) ∙ ap (forWhom (k .objects)) (worked-place t)
+
   pub worked-ruled : ruled (workedOut k .tasks) (workedOut k .objects) ≡ ruled (k .tasks) (k .objects)
   worked-ruled =
-      ruled-same (workedOut k .tasks) (k .tasks) (workedOut k .objects) (k .objects) (λ t h. worked-own t)
-      (λ t h. ap (λ (os : List Object). waitsFor (workedOut k .tasks) os t) (worked-same k .objects)
-      ∙ ap (forWhom (k .objects)) (worked-place t))
+      ruled-same (workedOut k .tasks) (k .tasks) (workedOut k .objects) (k .objects) (λ t h. worked-own t) (λ t h. worked-waits t)
 
   module _ (full : length (k .tasks) ≡ 16) where
     pub worked-at : (t : TaskSlot) → t .0 < 16 → taskAt (workedOut k .tasks) t ≡ levelled (taskAt (k .tasks) t) (getD (ruled (k .tasks) (k .objects)) (t .0) 0)
@@ -111,6 +114,9 @@ module _ (k : State) where
 
     pub worked-reckoned : Reckoned (workedOut k .tasks) (workedOut k .objects)
     worked-reckoned t h = ap (λ (x : Task). x .effective) (worked-at t h) ∙ ap (λ ls. getD ls (t .0) 0) (sym worked-ruled)
+
+    pub worked-circles : NoCircle (k .tasks) (k .objects) → NoCircle (workedOut k .tasks) (workedOut k .objects)
+    worked-circles C = loosened (k .tasks) (workedOut k .tasks) (k .objects) (workedOut k .objects) full (worked-many k ∙ full) C (λ t. inl (worked-waits t))
 
 -- ── a nearly sound kernel stays so
 module _ {w : Open} (k : State) (N : Nearly w k) where

@@ -2,16 +2,20 @@
 use Prim.Native.Nat.{ℕ, _<_, _≤_}
 use mathlib.Core.Path.{_≡_, refl, sym}
 use mathlib.Core.Bool.{Bool, true, false, not, _&&_, false≢true}
+use mathlib.Core.List.{List, [], _∷_, _++_, map}
 use native.Mathlib.Omega.{arith}
 use lib.Dec.{eqb, ltb, leb}
+use lib.ListN.{take, drop}
 use borrow.Author.Tests.{eqb-true, eqb-false, ltb-false, lt-ltb, not-false}
 use Rattle.lists.specs.Choice.{if_then_else_}
-use Rattle.lists.proofs.Bools.{or-off}
+use Rattle.lists.specs.Lists.{every}
+use Rattle.lists.proofs.Bools.{and-left, and-right, or-off, off, at}
 use Rattle.rules.specs.Types.{Ring, Kind, Queue, Asked, State}
 use Rattle.slots.specs.Kinds.{kindAt}
 use Rattle.rows.specs.Applies.{notSoMany, outOfRange, namesNone, sizeDiffers, wrongSize, notForIdle, notWithHold, noneFree}
+use Rattle.rules.specs.Circles.{closesCircle}
 use Rattle.rules.specs.Refusals.{seen, inUse}
-use Rattle.rows.specs.Applies.{notHis, hisAlready, notSuspended, mustWait, noDepth, noTick, table}
+use Rattle.rows.specs.Applies.{notHis, hisAlready, notSuspended, mustWait, noDepth, noTick, Row, firstRow, table}
 use Rattle.rules.specs.Refusals.{laterRow}
 
 pub record Passed (k : State) (a : Asked) (store : ℕ) : Type 0 where
@@ -25,6 +29,7 @@ pub record Passed (k : State) (a : Asked) (store : ℕ) : Type 0 where
   pub his : notHis (seen k a) a ≡ false
   pub another : hisAlready (seen k a) a ≡ false
   pub suspended : notSuspended (seen k a) a ≡ false
+  pub no-circle : closesCircle k a ≡ false
   pub may-wait : mustWait (seen k a) a ≡ false
   pub deep : noDepth (seen k a) a ≡ false
   pub ticks : noTick (seen k a) a ≡ false
@@ -56,52 +61,76 @@ in-range-of a e =
       small = ltb-false 64 (a .size) (v .0);
     }
 
--- a row that does not apply
-row-passed : (b : Bool) (n : ℕ) {m : ℕ} → 0 < n → (if b then n else m) ≡ 0 → (b ≡ false) × (m ≡ 0)
-row-passed true n h e = absurd (omega arith)
-row-passed false n h e = (refl, e)
+-- the rows rs, none of which has the number that is given, do not apply; and that number is given by the others
+pub differ : List Row → ℕ → Bool
+differ rs n = every (map (λ (x : Row). not (eqb (x .number) n)) rs)
+
+pub rowsOff : List Row → Bool
+rowsOff rs = every (map (λ (x : Row). not (x .applies)) rs)
+
+pub rows-off : (rs ss : List Row) (n : ℕ) → differ rs n ≡ true → firstRow (rs ++ ss) ≡ n → (rowsOff rs ≡ true) × (firstRow ss ≡ n)
+unfolding differ rowsOff every
+rows-off [] ss n d e = (refl, e)
+rows-off (r ∷ rs) ss n d e = go (r .applies) e (rows-off rs ss n (and-right (not (eqb (r .number) n)) _ d))
+  where
+    go : (b : Bool) → (if b then r .number else firstRow (rs ++ ss)) ≡ n → (firstRow (rs ++ ss) ≡ n → (rowsOff rs ≡ true) × (firstRow ss ≡ n)) → ((not b && rowsOff rs) ≡ true) × (firstRow ss ≡ n)
+    go true f ih = absurd (eqb-false (r .number) n (off (eqb (r .number) n) (and-left (not (eqb (r .number) n)) _ d)) f)
+    go false f ih = ih f
+
+-- no row applies
+none-apply : (k : State) (a : Asked) (item store : ℕ) → laterRow k a item store ≡ 0 → rowsOff (table (seen k a) a item store) ≡ true
+unfolding laterRow table differ every
+none-apply k a item store e = rows-off (table (seen k a) a item store) [] 0 refl e .0
 
 pub passed : (k : State) (a : Asked) (item store : ℕ) → laterRow k a item store ≡ 0 → Passed k a store
-unfolding laterRow table
-passed k a item store e0 =
-    let e1 = row-passed (not (eqb store 9216)) 2 (omega arith) e0 in
-    let e2 = row-passed (outOfRange a) 4 (omega arith) (e1 .1) in
-    let e3 = row-passed (namesNone (seen k a) a) 5 (omega arith) (e2 .1) in
-    let e4 = row-passed (wrongSize (seen k a) a item) 6 (omega arith) (e3 .1) in
-    let e5 = row-passed (notForIdle (seen k a) a) 7 (omega arith) (e4 .1) in
-    let e6 = row-passed (notWithHold (seen k a) a) 8 (omega arith) (e5 .1) in
-    let e7 = row-passed (noneFree (seen k a)) 9 (omega arith) (e6 .1) in
-    let e8 = row-passed (inUse k a) 10 (omega arith) (e7 .1) in
-    let e9 = row-passed (notHis (seen k a) a) 11 (omega arith) (e8 .1) in
-    let e10 = row-passed (hisAlready (seen k a) a) 12 (omega arith) (e9 .1) in
-    let e11 = row-passed (notSuspended (seen k a) a) 13 (omega arith) (e10 .1) in
-    let e12 = row-passed (mustWait (seen k a) a) 14 (omega arith) (e11 .1) in
-    let e13 = row-passed (noDepth (seen k a) a) 15 (omega arith) (e12 .1) in
-    let e14 = row-passed (noTick (seen k a) a) 16 (omega arith) (e13 .1) in
+unfolding table rowsOff
+passed k a item store e =
+    let none = none-apply k a item store e in
     record {
-      whole = eqb-true store 9216 (not-false (eqb store 9216) (e1 .0));
-      in-range = e2 .0;
-      named = e3 .0;
-      idle = e5 .0;
-      held = e6 .0;
-      slot = e7 .0;
-      unused = e8 .0;
-      his = e9 .0;
-      another = e10 .0;
-      suspended = e11 .0;
-      may-wait = e12 .0;
-      deep = e13 .0;
-      ticks = e14 .0;
+      whole = eqb-true store 9216 (not-false (eqb store 9216) (off _ (at _ none 0)));
+      in-range = off _ (at _ none 1);
+      named = off _ (at _ none 2);
+      idle = off _ (at _ none 4);
+      held = off _ (at _ none 5);
+      slot = off _ (at _ none 6);
+      unused = off _ (at _ none 7);
+      his = off _ (at _ none 8);
+      another = off _ (at _ none 9);
+      suspended = off _ (at _ none 10);
+      no-circle = off _ (at _ none 11);
+      may-wait = off _ (at _ none 12);
+      deep = off _ (at _ none 13);
+      ticks = off _ (at _ none 14);
     }
 
 -- row 6 has the item's length
 pub right-size : (k : State) (a : Asked) (item store : ℕ) → laterRow k a item store ≡ 0 → wrongSize (seen k a) a item ≡ false
-unfolding laterRow table
-right-size k a item store e0 =
-    let e1 = row-passed (not (eqb store 9216)) 2 (omega arith) e0 in
-    let e2 = row-passed (outOfRange a) 4 (omega arith) (e1 .1) in
-    let e3 = row-passed (namesNone (seen k a) a) 5 (omega arith) (e2 .1) in
-    row-passed (wrongSize (seen k a) a item) 6 (omega arith) (e3 .1) .0
+unfolding table rowsOff
+right-size k a item store e = off _ (at _ (none-apply k a item store e) 3)
+
+-- row 17 is given: it applies, and two of the rows before it, which do not
+pub record CircleGiven (k : State) (a : Asked) : Type 0 where
+  pub idle : notForIdle (seen k a) a ≡ false
+  pub another : hisAlready (seen k a) a ≡ false
+  pub circle : closesCircle k a ≡ true
+
+none-before : (k : State) (a : Asked) (item store : ℕ) → laterRow k a item store ≡ 17
+    → (rowsOff (take 11 (table (seen k a) a item store)) ≡ true) × (firstRow (drop 11 (table (seen k a) a item store)) ≡ 17)
+unfolding laterRow table differ every
+none-before k a item store e = let rows = table (seen k a) a item store in rows-off (take 11 rows) (drop 11 rows) 17 refl e
+
+pub circle-given : (k : State) (a : Asked) (item store : ℕ) → laterRow k a item store ≡ 17 → CircleGiven k a
+unfolding table rowsOff
+circle-given k a item store e =
+    let E = none-before k a item store e in
+    record { idle = off _ (at _ (E .0) 4); another = off _ (at _ (E .0) 9); circle = go (closesCircle k a) (mustWait (seen k a) a) (noDepth (seen k a) a) (noTick (seen k a) a) (E .1) }
+  where
+    go : (b c d e : Bool) → _≡_ {A = ℕ} (if b then 17 else if c then 14 else if d then 15 else if e then 16 else 0) 17 → b ≡ true
+    go true c d e z = refl
+    go false true d e z = absurd (omega arith)
+    go false false true e z = absurd (omega arith)
+    go false false false true z = absurd (omega arith)
+    go false false false false z = absurd (omega arith)
 
 pub send-sized : (k : State) (a : Asked) (item store : ℕ) → a .number ≡ 13 → laterRow k a item store ≡ 0 → sizeDiffers item (kindAt (k .objects) (a .object)) ≡ false
 unfolding wrongSize

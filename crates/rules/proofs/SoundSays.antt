@@ -5,6 +5,7 @@ use Rattle.lists.proofs.Bools.{at, also, none}
 use Rattle.calls.specs.Door.{usesFine}
 use Rattle.order.specs.Order.{listed}
 use Rattle.rules.specs.Types.{State}
+use Rattle.rules.specs.Circles.{noCircle}
 use Rattle.rules.specs.Sound.{tablesFine, levelsFine, listingFine, clockFine, runsFine, sound}
 use Rattle.rules.specs.Sentences.{Tables, Sound}
 use Rattle.rules.proofs.SoundTables.{tables-say, says-tables}
@@ -13,6 +14,7 @@ use Rattle.rules.proofs.SoundListing.{listing-says, says-listing}
 use Rattle.rules.proofs.SoundClock.{clock-says, says-clock}
 use Rattle.rules.proofs.SoundRuns.{runs-say, says-runs}
 use Rattle.rules.proofs.SoundUses.{uses-say, says-uses}
+use Rattle.rules.proofs.CircleRule.{circles-say, says-circles}
 
 -- the parts' tests by their names
 pub record Tested (k : State) : Type 0 where
@@ -22,14 +24,15 @@ pub record Tested (k : State) : Type 0 where
   pub clock : clockFine (k .tasks) (k .tick) (k .hold) (k .pended) ≡ true
   pub runs : runsFine (k .tasks) (listed (k .order)) (k .running) (k .hold) ≡ true
   pub uses : usesFine (k .uses) ≡ true
+  pub circles : noCircle (k .tasks) (k .objects) ≡ true
 
 pub sound-tested : (k : State) → sound k ≡ true → Tested k
 unfolding sound
-sound-tested k e = record { tables = at _ e 0; levels = at _ e 1; listing = at _ e 2; clock = at _ e 3; runs = at _ e 4; uses = at _ e 5 }
+sound-tested k e = record { tables = at _ e 0; levels = at _ e 1; listing = at _ e 2; clock = at _ e 3; runs = at _ e 4; uses = at _ e 5; circles = at _ e 6 }
 
 pub tested-sound : (k : State) → Tested k → sound k ≡ true
 unfolding sound
-tested-sound k T = also _ _ (T .tables) (also _ _ (T .levels) (also _ _ (T .listing) (also _ _ (T .clock) (also _ _ (T .runs) (also _ _ (T .uses) none)))))
+tested-sound k T = also _ _ (T .tables) (also _ _ (T .levels) (also _ _ (T .listing) (also _ _ (T .clock) (also _ _ (T .runs) (also _ _ (T .uses) (also _ _ (T .circles) none))))))
 
 pub sound-says : (k : State) → sound k ≡ true → Sound k
 sound-says k e =
@@ -40,6 +43,7 @@ sound-says k e =
       clock = clock-says (k .tasks) (k .tick) (k .hold) (k .pended) (tables .task-slots) (T .clock);
       running = runs-say (k .tasks) (listed (k .order)) (k .running) (k .hold) (T .runs);
       uses = uses-say (k .uses) (T .uses);
+      circles = circles-say (k .tasks) (k .objects) (tables .task-slots) (T .circles);
     }
   where
     T : Tested k
@@ -57,4 +61,5 @@ says-sound k S =
       clock = says-clock (k .tasks) (k .tick) (k .hold) (k .pended) (S .clock);
       runs = says-runs (k .tasks) (listed (k .order)) (k .running) (k .hold) (S .running);
       uses = says-uses (k .uses) (S .uses);
+      circles = says-circles (k .tasks) (k .objects) (S .tables .task-slots) (S .circles);
     }

@@ -14,6 +14,7 @@ use Rattle.lists.proofs.Loops.{some-more}
 use Rattle.order.specs.Order.{listed}
 use Rattle.slots.specs.Places.{wakesAt, ahead, away}
 use Rattle.slots.specs.Values.{freeTask, taskAt}
+use Rattle.rules.specs.Sentences.{NoCircle}
 use Rattle.rules.specs.Types.{TaskSlot, Never, At, Place, Free, Ready, Delayed, Waiting, Suspended, Spent, Task, AllReady, State}
 use Rattle.rules.specs.Tables.{withTick}
 use Rattle.rules.specs.Lines.{begun, level, first, runsIf, chosen, toTail}
@@ -93,6 +94,9 @@ module _ (k : State) where
 -- so each effective priority is what it was, and the rule's if it was
 pub only-reckoned : {k j : State} → OnlyTurned k j → Reckoned (k .tasks) (k .objects) → Reckoned (j .tasks) (j .objects)
 only-reckoned o R = rw (o .tasks, o .objects) R
+
+pub only-circles : {k j : State} → OnlyTurned k j → NoCircle (k .tasks) (k .objects) → NoCircle (j .tasks) (j .objects)
+only-circles o C = rw (o .tasks, o .objects) C
 
 pub turn-only : (b : Bool) (k : State) → OnlyTurned k (turnedIf b k)
 turn-only true k =

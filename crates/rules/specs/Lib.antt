@@ -8,6 +8,7 @@ pub mod Sentences
 pub mod Refusals
 pub mod Waits
 pub mod Loans
+pub mod Circles
 pub mod Ticks
 pub mod Parts
 pub mod Rings

@@ -11,6 +11,7 @@ use Rattle.rows.specs.Applies.{firstRow, table}
 use Rattle.rules.specs.Types.{ObjSlot, Asked, WaitersOf, Seen, State}
 use Rattle.rules.specs.Tables.{holds, freeSlot, freeObject}
 use Rattle.rules.specs.Lines.{those}
+use Rattle.rules.specs.Circles.{closesCircle}
 use Rattle.rules.specs.Sound.{sound}
 
 -- "lowest free slot", "lowest free object": the slot that a create or make takes
@@ -32,12 +33,13 @@ seen k a =
       kind = kindAt (k .objects) (a .object);
       new = if makes a then newSlot k a else 0;
       used = inUse k a;
+      circle = closesCircle k a;
       running = k .running;
       hold = k .hold;
       pended = k .pended;
     }
 
--- rows 2 to 16
+-- rows 2 to 17
 unfoldable pub laterRow : State → Asked → ℕ → ℕ → ℕ
 laterRow k a item store = firstRow (table (seen k a) a item store)
 

@@ -1,4 +1,4 @@
--- "A kernel value is sound when", as propositions, in the six parts of Sound.antt: for each task, each object, each line and each list what the sentence says.
+-- "A kernel value is sound when", as propositions, in the seven parts of Sound.antt: for each task, each object, each line and each list what the sentence says.
 use Prim.Native.Nat.{ℕ, _*_, _<_, _≤_}
 use mathlib.Core.Path.{_≡_}
 use mathlib.Core.Bool.{false}
@@ -159,14 +159,28 @@ pub record Used (us : Uses) : Type 0 where
   pub task-slots : length (us .tasks) ≡ 16
   pub object-slots : length (us .objects) ≡ 16
 
--- ── every part
-pub record Sound (k : State) : Type 0 where
+-- ── the circles
+-- the task s waits on a mutex whose holder is s, or waits, "directly or along a chain of holders, on a mutex" that s holds: over any number of links
+pub data Circle (ts : List Task) (os : List Object) (s : TaskSlot) : Type 0 where
+  back : {h : TaskSlot} (o : ObjSlot) (w : Wake) → taskAt ts s .place ≡ Waiting o w → Holds os h o → Reaches ts os h s → Circle ts os s
+
+-- "no circle can then arise"
+abbrev pub NoCircle : List Task → List Object → Type 0
+NoCircle ts os = (s : TaskSlot) → Circle ts os s → ⊥
+
+-- ── every part: the first six, and what is said of circles
+pub record SoundBy (C : List Task → List Object → Type 0) (k : State) : Type 0 where
   pub tables : Tables (k .tasks) (k .objects)
   pub levels : Levels (k .tasks) (k .objects)
   pub listing : Listing (k .tasks) (k .order)
   pub clock : Clock (k .tasks) (k .tick) (k .hold) (k .pended)
   pub running : Running (k .tasks) (listed (k .order)) (k .running) (k .hold)
   pub uses : Used (k .uses)
+  pub circles : C (k .tasks) (k .objects)
+
+-- "a kernel value with one is not sound"
+abbrev pub Sound : State → Type 0
+Sound k = SoundBy NoCircle k
 
 -- what ticks with their turns lean on: no hold, and soundness but for the uses, which no tick looks at
 pub record Unheld (k : State) : Type 0 where

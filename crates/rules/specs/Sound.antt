@@ -1,4 +1,4 @@
--- "A kernel value is sound when": a test for each sentence, in six parts. Each part takes the fields that it speaks of, and has its sentences in document 01's order.
+-- "A kernel value is sound when": a test for each sentence, in seven parts. Each part takes the fields that it speaks of, and has its sentences in document 01's order.
 -- (Sentences.antt has the same as propositions.)
 use Prim.Native.Nat.{ℕ}
 use mathlib.Core.Bool.{Bool, false, not, _&&_, _||_}
@@ -18,6 +18,7 @@ use Rattle.rules.specs.Types.{TaskSlot, Order, Task, Object, Kind, State
 use Rattle.rules.specs.Tables.{holds}
 use Rattle.rules.specs.Lines.{line, level}
 use Rattle.rules.specs.Loans.{ruled}
+use Rattle.rules.specs.Circles.{noCircle}
 
 -- the task and the object of a slot
 abbrev pub slotTask : List Task → ℕ → Task
@@ -111,6 +112,7 @@ runsFine ts l r hold =
     isReady (taskAt ts r .place) && (heads (line ts (level ts r) l) r && (ltb 0 hold || noHigher ts (level ts r) l))
 
 -- ── the uses: `usesFine` in calls/specs/Door
+-- ── the circles: `noCircle` in Circles.antt
 -- ── every part
 unfoldable pub sound : State → Bool
 sound k =
@@ -121,4 +123,5 @@ sound k =
     ∷ clockFine (k .tasks) (k .tick) (k .hold) (k .pended)
     ∷ runsFine (k .tasks) (listed (k .order)) (k .running) (k .hold)
     ∷ usesFine (k .uses)
+    ∷ noCircle (k .tasks) (k .objects)
     ∷ [])

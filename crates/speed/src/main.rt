@@ -190,7 +190,7 @@ fn loans(start: Kernel, m: u32, times: u32, store: &mut [u8]) -> u32 {
     same(k, Call::Take(ObjNo::of(n), 1), Call::Tick, times, store)
 }
 
-// The same where task 1 waits for the last one: the loan goes round the circle.
+// The same where task 1 waits for the last one: the take would close a circle, and is refused 17.
 fn circles(start: Kernel, m: u32, times: u32, store: &mut [u8]) -> u32 {
     let n = links(m);
     let k = bent(chained(start, n, store), n, store);

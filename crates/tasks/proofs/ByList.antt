@@ -1,7 +1,7 @@
 -- Each walk of the columns that stand for a list is the walk of the list.
 use Prim.Native.Nat.{ℕ, zero, suc, min, _<_}
 use mathlib.Core.Path.{_≡_, refl, sym, ap, _∙_}
-use mathlib.Core.Bool.{Bool, true, false, not}
+use mathlib.Core.Bool.{Bool, true, false, not, _&&_}
 use mathlib.Core.List.{List, [], _∷_, map}
 use native.Mathlib.Omega.{arith}
 use lib.Dec.{eqb, ltb}
@@ -14,7 +14,7 @@ use Rattle.numbers.specs.declared.TaskSlot.{TaskSlot}
 use Rattle.numbers.specs.Numbers.{task, sameTask}
 use Rattle.order.specs.declared.Order.{Order}
 use Rattle.heights.specs.Heights.{occupied, largest}
-use Rattle.chains.specs.Chains.{largestOwn}
+use Rattle.chains.specs.Chains.{within, largestOwn}
 use Rattle.chains.specs.Columns.{says}
 use Rattle.slots.specs.declared.Wake.the-variants.{Never, At}
 use Rattle.slots.specs.declared.Place.{Place}
@@ -30,7 +30,7 @@ use Rattle.tasks.specs.Numbering.{cellsOf}
 use Rattle.tasks.specs.Columns.{wakeCell, tasksOf, freeIn, put, levelledAt, rowAt}
 use Rattle.tasks.specs.Walks.{leadIn, lineIn, topIn, linesIn}
 use Rattle.tasks.specs.Dues.{untilIn, wakeNow, waitEnds, woken, readyOf, tailed, wakeIn, wakesIn}
-use Rattle.tasks.specs.Loans.{levelsIn, fronted, levelIn, workedIn}
+use Rattle.tasks.specs.Loans.{levelsIn, reachesIn, fronted, levelIn, workedIn}
 use Rattle.tasks.proofs.Columns.{row-of, rows-of, put-of, levelled-of}
 use Rattle.tasks.proofs.Heads.{none-passes}
 
@@ -76,6 +76,10 @@ pub levels-of : (xs : List Task) (by : List ℕ)
     → levelsIn (tasksOf xs) by ≡ values (λ u. largestOwn (λ s. taskAt xs (task s) .own) (λ s. says by (waitedOn (taskAt xs (task s) .place))) u) 16
 unfolding levelsIn
 levels-of xs by = ap (λ (row : ℕ → Task). values (λ u. largestOwn (λ s. row s .own) (λ s. says by (waitedOn (row s .place))) u) 16) (λ i s. task-of xs (task s) i)
+
+pub reaches-of : (xs : List Task) (by : List ℕ) (h u : ℕ) → reachesIn (tasksOf xs) by h u ≡ (ltb u 16 && within (λ s. says by (waitedOn (taskAt xs (task s) .place))) 16 h u)
+unfolding reachesIn
+reaches-of xs by h u = ap (λ (row : ℕ → Task). ltb u 16 && within (λ s. says by (waitedOn (row s .place))) 16 h u) (λ i s. task-of xs (task s) i)
 
 pub worked-of : (r : TaskSlot) (by : List ℕ) (xs : List Task) (o : Order) → workedIn r by (woken (tasksOf xs) o)
     ≡ upTo (levelIn r (values (λ u. largestOwn (λ s. taskAt xs (task s) .own) (λ s. says by (waitedOn (taskAt xs (task s) .place))) u) 16)) 16 (woken (tasksOf xs) o)

@@ -10,9 +10,9 @@ use lib.Seq.{ext-getD}
 use borrow.Author.Tests.{eqb-true, eqb-false, eq-eqb, ne-eqb, ltb-true, ltb-false}
 use Rattle.lists.specs.Choice.{if_then_else_}
 use Rattle.lists.specs.Lists.{upTo, values, allBelow}
-use Rattle.lists.proofs.Bools.{all-below}
-use Rattle.chains.specs.Chains.{largestOwn}
-use Rattle.chains.specs.Columns.{says, nextBy, levelsTo, levelsBy}
+use Rattle.lists.proofs.Bools.{all-below, below-all}
+use Rattle.chains.specs.Chains.{ends, largestOwn}
+use Rattle.chains.specs.Columns.{says, nextBy, levelsTo, levelsBy, endedTo}
 use Rattle.chains.proofs.Largest.{largest-same, largest-own}
 use Rattle.chains.proofs.Raised.{levels-length, levels-at}
 use Rattle.chains.proofs.Says.{says-at}
@@ -28,7 +28,7 @@ use Rattle.tasks.specs.Columns.{rowAt, levelledAt}
 use Rattle.tasks.specs.Dues.{woken, tailed}
 use Rattle.tasks.specs.Known.{waitsState}
 use Rattle.tasks.specs.Fine.{waitingIn}
-use Rattle.tasks.specs.Loans.{levelsIn, fronted, levelIn, ontosIn}
+use Rattle.tasks.specs.Loans.{nextIn, levelsIn, endedIn, fronted, levelIn, ontosIn}
 use Rattle.tasks.proofs.Columns.{Full, past-row}
 use Rattle.tasks.proofs.StateTests.{row-meant, row-onto}
 use Rattle.tasks.proofs.WalkTurns.{columns}
@@ -38,7 +38,7 @@ module _ (ts : Tasks) (full : Full ts) (by : List ℕ) where
   onto s = waitedOn (rowAt ts s .place)
 
   abbrev level : ℕ → ℕ
-  level u = largestOwn (λ s. rowAt ts s .own) (λ s. says by (onto s)) u
+  level u = largestOwn (λ s. rowAt ts s .own) (nextIn ts by) u
 
   onto-past : (i : ℕ) → 16 ≤ i → onto i ≡ 16
   onto-past i h = rw (past-row ts full i h)
@@ -49,13 +49,17 @@ module _ (ts : Tasks) (full : Full ts) (by : List ℕ) where
   all-levels l long at =
       ext-getD 0 l (values level 16) (long ∙ sym (values-many level 16)) (λ u h. at u (omega arith) ∙ sym (value-at level 16 u 0 (omega arith)))
 
+  -- the column of the objects waited on gives the same chains
+  pub next-is : nextBy (ontosIn ts) by ≡ nextIn ts by
+  next-is = λ j s. says by (says-at (values onto 16) onto (λ i l. value-at onto 16 i 0 l) onto-past s j)
+
   levels-are : levelsBy (ts .own) (values onto 16) by ≡ levelsIn ts by
   unfolding rowAt
   levels-are =
       all-levels (levelsBy (ts .own) (values onto 16) by) (levels-length (ts .own) (values onto 16) by (full .owns))
       (λ u h. levels-at (ts .own) (values onto 16) by (full .owns) u h
-      ∙ largest-same (λ s. getD (ts .own) s 0) (λ s. rowAt ts s .own) (nextBy (values onto 16) by) (λ s. says by (onto s)) (λ s l. refl)
-      (λ s. ap (says by) (says-at (values onto 16) onto (λ i l. value-at onto 16 i 0 l) onto-past s)) u)
+      ∙ largest-same (λ s. getD (ts .own) s 0) (λ s. rowAt ts s .own) (nextBy (values onto 16) by) (nextIn ts by) (λ s l. refl)
+      (λ s. ap (λ f. f s) next-is) u)
 
   -- where nobody waits on an object each level is the task's own
   module _ (none : waitingIn ts ≡ 0) where
@@ -72,7 +76,12 @@ module _ (ts : Tasks) (full : Full ts) (by : List ℕ) where
 
     levels-own : ts .own ≡ levelsIn ts by
     unfolding rowAt
-    levels-own = all-levels (ts .own) (full .owns) (λ u h. sym (largest-own (λ s. rowAt ts s .own) (λ s. says by (onto s)) u h (no-link u h)))
+    levels-own = all-levels (ts .own) (full .owns) (λ u h. sym (largest-own (λ s. rowAt ts s .own) (nextIn ts by) u h (no-link u h)))
+
+    -- and every chain ends at once
+    none-ended : true ≡ endedIn ts by
+    unfolding endedIn ends
+    none-ended = sym (below-all 16 _ (λ s l. ap (ends (nextIn ts by) 16) (ap (says by) (no-onto s))))
 
     none-onto : replicate 16 16 ≡ ontosIn ts
     none-onto = ext-getD 16 (replicate 16 16) (values onto 16) (sym (values-many onto 16)) (λ n h. at n (omega arith))
@@ -90,18 +99,24 @@ module _ (ts : Tasks) (full : Full ts) (by : List ℕ) where
         go false q =
             fill-values inv (omega (arith, eqb-false (waitingIn ts) 0 q, e, m)) ∙ ap (λ (f : ℕ → ℕ). values f 16) (λ j x. sym (row-onto ts x) j)
 
+    -- where there is none to walk
+    pub walks-none : n ≡ 0 → (ts .own ≡ levelsIn ts by) × (true ≡ endedIn ts by)
+    walks-none z = let w : waitingIn ts ≡ 0 = omega (arith, e) in (levels-own w, none-ended w)
+
+    walked : (P : ℕ → Type 0) → (waitingIn ts ≡ 0 → P 0) → P 16 → P (min n 16)
+    walked P none all = go (eqb (waitingIn ts) 0) refl
+      where
+        go : (b : Bool) → eqb (waitingIn ts) 0 ≡ b → P (min n 16)
+        go true q = let w = eqb-true (waitingIn ts) 0 q in let z : min n 16 ≡ 0 = omega (arith, w, e) in rw z (none w)
+        go false q = let z : min n 16 ≡ 16 = omega (arith, eqb-false (waitingIn ts) 0 q, e) in rw z all
+
     pub levels-end : levelsTo (ts .own) (ontosIn ts) by (min n 16) ≡ levelsIn ts by
     unfolding levelsBy upTo
-    levels-end = go (eqb (waitingIn ts) 0) refl
-      where
-        go : (b : Bool) → eqb (waitingIn ts) 0 ≡ b → levelsTo (ts .own) (ontosIn ts) by (min n 16) ≡ levelsIn ts by
-        go true q =
-            let w = eqb-true (waitingIn ts) 0 q in
-            let z : min n 16 ≡ 0 = omega (arith, w, e) in
-            rw z (levels-own w)
-        go false q =
-            let z : min n 16 ≡ 16 = omega (arith, eqb-false (waitingIn ts) 0 q, e) in
-            rw z levels-are
+    levels-end = walked (λ m. levelsTo (ts .own) (ontosIn ts) by m ≡ levelsIn ts by) levels-own levels-are
+
+    pub ended-end : endedTo (ontosIn ts) by (min n 16) ≡ endedIn ts by
+    unfolding endedIn allBelow
+    ended-end = walked (λ m. endedTo (ontosIn ts) by m ≡ endedIn ts by) none-ended (ap (λ (f : ℕ → ℕ). allBelow 16 (λ s. ends f 16 (f s))) next-is)
 
 -- one turn of the walk: a row at its level, one that is ready and one that is not
 pub levelled-alike : {s o w own e e′ out : List ℕ} {p p′ : Order} → e ≡ e′ → p ≡ p′ → woken (columns s o w own e out) p ≡ woken (columns s o w own e′ out) p′

@@ -1,6 +1,7 @@
 // The effective priorities, worked out by the chains of waits.
 ghost use Prim.Native.Nat.{_*_, min};
 ghost use mathlib.Core.Path.{_≡_};
+ghost use mathlib.Core.Bool.{_&&_};
 ghost use lib.Dec.{eqb};
 ghost use lib.ListN.{getD};
 ghost use Rattle.lists.specs.Choice.{if_then_else_};
@@ -10,9 +11,10 @@ ghost use Rattle.tasks.specs.Columns.{rowAt};
 ghost use Rattle.tasks.specs.Dues.{woken, tailed};
 ghost use Rattle.tasks.specs.Fine.{waitingIn};
 ghost use Rattle.tasks.specs.Known.{waitsState};
-ghost use Rattle.tasks.specs.Loans.{levelsIn, fronted, levelIn, OntosAre, LevelsAre, Worked};
+ghost use Rattle.tasks.specs.Loans.{levelsIn, endedIn, reachesIn, fronted, levelIn, OntosAre, LevelsAre, Worked};
 use crate::Tasks;
 use crate::Woken;
+use chains::AllLent;
 use numbers::TaskSlot;
 use order::Order;
 
@@ -55,8 +57,8 @@ impl Tasks {
         out
     }
 
-    // The level of each task, where `by` has the holder of each object. Where nobody waits on an object each has its own.
-    fn levels(self, by: [u8; 16], n: usize) -> [u8; 16]
+    // The level of each task, where `by` has the holder of each object, and whether every chain ends. Where nobody waits on an object each has its own.
+    fn levels(self, by: [u8; 16], n: usize) -> AllLent
         requires { ⌜ n ≡ min 16 (16 * waitingIn self) ⌝ }
         ensures { λ r. ⌜ LevelsAre self by r ⌝ }
     {
@@ -77,11 +79,26 @@ impl Tasks {
         ok
     }
 
+    // Each task is at its level, and no chain leads back to where it began. Where nobody waits there is no chain to go along.
     pub fn levels_fine(self, by: [u8; 16]) -> bool
-        ensures { λ r. ⌜ r ≡ allBelow 16 (λ n. eqb (rowAt self n .effective) (getD (levelsIn self by) n 0)) ⌝ }
+        ensures { λ r. ⌜ r ≡ (endedIn self by && allBelow 16 (λ n. eqb (rowAt self n .effective) (getD (levelsIn self by) n 0))) ⌝ }
+    {
+        let own = self.own;
+        let n = lists::bound(self.waiting());
+        if n == 0 {
+            return self.at_levels(own);
+        }
+        let lent = self.levels(by, n);
+        let levels = lent.levels;
+        lists::both(lent.ended, self.at_levels(levels))
+    }
+
+    // Whether the chain from the task h leads to u.
+    pub fn reaches(self, by: [u8; 16], h: TaskSlot, u: TaskSlot) -> bool
+        ensures { λ r. ⌜ r ≡ reachesIn self by (h .0) (u .0) ⌝ }
     {
         let n = lists::bound(self.waiting());
-        self.at_levels(self.levels(by, n))
+        chains::reaches(self.ontos(n), by, h.0, u.slot())
     }
 
     fn levelled(self, o: Order, levels: [u8; 16], r: TaskSlot) -> Woken
@@ -120,7 +137,8 @@ impl Tasks {
         ensures { λ w. ⌜ Worked self o by r w ⌝ }
     {
         let n = lists::bound(self.waiting());
-        let levels = self.levels(by, n);
+        let lent = self.levels(by, n);
+        let levels = lent.levels;
         if self.at_levels(levels) {
             Woken {
                 tasks: self,

@@ -1,9 +1,9 @@
 use borrow.Author.Needs.{needs}
-use Prim.Native.Nat.{ℕ, _+_, _*_, _<_}
+use Prim.Native.Nat.{ℕ, suc, _+_, _*_, _<_}
 use native.Mathlib.Omega.{arith}
 use mathlib.Core.Path.{_≡_, sym, _∙_}
 use denote.Ref.{now}
-use Rattle.chains.proofs.Steps.{lent-past, lent-on, passed-past, passed-on}
+use Rattle.chains.proofs.Steps.{lent-past, lent-on, passed-past, passed-on, ends-past, ends-on, passes-on, passes-none, passes-past}
 use borrow.Fn.Kinds.{In}
 use borrow.Fn.PlainCycle.{Measures, is, falls, and}
 use Rattle.chains.proofs.lend.Reads as lend
@@ -66,9 +66,12 @@ lend-returns : (t : ℕ) → lend-lts.Need-returns (
 ) (lend-at t) lend.Post
 lend-returns t c =
     let a = c .before .before .before .before .before .before .args in
-    c .pass .ensures
-    ∙ rw (c .before .before .before .raise .ensures)
-    (sym (lent-on (now (a .onto)) (now (a .by)) (a .p) (a .left) (a .t) (now (a .levels)) (c .before .before .before .before .before .if1 .taken)))
+    let low = c .before .before .before .before .before .if1 .taken in (
+      c .pass .ensures .0
+          ∙ rw (c .before .before .before .raise .ensures)
+          (sym (lent-on (now (a .onto)) (now (a .by)) (a .p) (a .left) (a .t) (now (a .levels)) low)),
+      c .pass .ensures .1 ∙ sym (ends-on (now (a .onto)) (now (a .by)) (a .left) (a .t) low),
+    )
 
 lend-returns-2 : (t : ℕ) → lend-lts.Need-returns-2 (
   raise-reads.Asked,
@@ -77,14 +80,16 @@ lend-returns-2 : (t : ℕ) → lend-lts.Need-returns-2 (
   pass.Post,
 ) (lend-at t) lend.Post
 lend-returns-2 t c =
-    let a = c .before .args in
-    sym (lent-past (now (a .onto)) (now (a .by)) (a .p) (a .left) (a .t) (now (a .levels)) (c .if1 .left))
+    let a = c .before .args in (
+      sym (lent-past (now (a .onto)) (now (a .by)) (a .p) (a .left) (a .t) (now (a .levels)) (c .if1 .left)),
+      sym (ends-past (now (a .onto)) (now (a .by)) (suc (a .left)) (a .t) (c .if1 .left)),
+    )
 
-pass-element-copy-out-lend : (t : ℕ) → pass-lts.Need-element-copy-out-lend (
+pass-element-copy-out-h : (t : ℕ) → pass-lts.Need-element-copy-out-h (
   lend-below t,
   lend.Post,
 ) (pass-at t) pass.Post
-pass-element-copy-out-lend t c = search needs
+pass-element-copy-out-h t c = search needs
 
 pass-sub-lend : (t : ℕ) → pass-lts.Need-sub-lend (lend-below t, lend.Post) (pass-at t) pass.Post
 pass-sub-lend t c = search needs
@@ -96,17 +101,24 @@ pass-lend-requires t c κs = (omega (arith, c .before .before .before .before .p
 pass-returns : (t : ℕ) → pass-lts.Need-returns (lend-below t, lend.Post) (pass-at t) pass.Post
 pass-returns t c =
     let a = c .before .before .before .before .before .args in
-    c .lend .ensures ∙ sym (passed-on (now (a .onto)) (now (a .by)) (a .p) (a .left) (a .o) (now (a .levels)) (c .before .before .before .if2 .taken) (c .before .before .before .before .if1 .taken))
+    let some = c .before .before .if2 .taken in
+    let low = c .before .before .before .before .if1 .taken in (
+      c .lend .ensures .0 ∙ sym (passed-on (now (a .onto)) (now (a .by)) (a .p) (a .left) (a .o) (now (a .levels)) some low),
+      c .lend .ensures .1 ∙ passes-on (now (a .onto)) (now (a .by)) (a .left) (a .o) some low,
+    )
 
 pass-returns-2 : (t : ℕ) → pass-lts.Need-returns-2 (lend-below t, lend.Post) (pass-at t) pass.Post
 pass-returns-2 t c =
-    let none : c .before .before .args .left ≡ 0 = omega (arith, c .if2 .left) in
-    rw none
+    let a = c .before .before .before .args in
+    let none : a .left ≡ 0 = omega (arith, c .if2 .left) in
+    (rw none, rw none (passes-none (now (a .onto)) (now (a .by)) (a .o) (c .before .before .if1 .taken)))
 
 pass-returns-3 : (t : ℕ) → pass-lts.Need-returns-3 (lend-below t, lend.Post) (pass-at t) pass.Post
 pass-returns-3 t c =
-    let a = c .before .args in
-    sym (passed-past (now (a .onto)) (now (a .by)) (a .p) (a .left) (a .o) (now (a .levels)) (c .if1 .left))
+    let a = c .before .args in (
+      sym (passed-past (now (a .onto)) (now (a .by)) (a .p) (a .left) (a .o) (now (a .levels)) (c .if1 .left)),
+      passes-past (now (a .onto)) (now (a .by)) (a .left) (a .o) (c .if1 .left),
+    )
 
 pub +lend+pass-spec : {M : Type 1} → statement M
 +lend+pass-spec = close μ-lend μ-pass (λ t. lend-lts.spec (
@@ -126,7 +138,7 @@ pub +lend+pass-spec : {M : Type 1} → statement M
     (lend-below t, lend.Post)
     (pass-at t)
     pass.Post
-    (pass-element-copy-out-lend t)
+    (pass-element-copy-out-h t)
     (pass-sub-lend t)
     (pass-lend-requires t)
     (pass-returns t)

@@ -17,14 +17,14 @@ returns c =
     let holdings = c24 .before .holdings in
     let tallied = c24 .before .before .before .tallied in
     let fine = c20 .fine in
-    let levels = c16 .before .levels-fine in
+    let levels = c4 .before .before .levels-fine in
     let k = c24 .before .before .before .before .before .args .self in
     let hs = holdings .result in
     let e : c .both9 .result ≡ quick k (tallied .result .tallies) hs (fine .result) (fine .ensures) (holdings .ensures) (levels .result) (levels .ensures) (tallied .ensures .0)
     (shaped .ensures .1) (shaped .ensures .2) =
-    c .both9 .ensures ∙ rw (shaped .ensures .0, c .before .both8 .ensures, c12 .before .before .both3 .ensures, c12 .before .before .before .both2 .ensures, c16 .both .ensures)
-    (rw (c16 .before .before .before .waits-fine .ensures, c .before .before .before .both7 .ensures, c12 .runs-fine .ensures, c4 .both6 .ensures, c8 .both5 .ensures)
-    (rw (c8 .before .both4 .ensures, tallied .ensures .1, c8 .before .before .zeros .ensures, c4 .before .either .ensures, halves))) in (
+    c .both9 .ensures ∙ rw (shaped .ensures .0, c .before .both8 .ensures, c .before .before .before .both7 .ensures, c4 .both6 .ensures, c4 .before .both5 .ensures)
+    (rw (c16 .before .before .before .waits-fine .ensures, c8 .both4 .ensures, c16 .before .runs-fine .ensures, c8 .before .both3 .ensures)
+    (rw (c12 .before .both2 .ensures, c12 .before .before .both .ensures, tallied .ensures .1, c12 .before .before .before .zeros .ensures, c8 .before .before .either .ensures, halves))) in (
       e ∙ quick-is k _ hs _ (fine .ensures) (holdings .ensures) _ (levels .ensures) (tallied .ensures .0) (shaped .ensures .1) (shaped .ensures .2),
       λ q. stands-for k _ hs _ (fine .ensures) (holdings .ensures) _ (levels .ensures) (tallied .ensures .0) (shaped .ensures .1) (shaped .ensures .2) (sym e ∙ q),
     )

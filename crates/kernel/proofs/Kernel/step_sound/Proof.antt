@@ -13,6 +13,11 @@ use Rattle.kernel.specs.Stands.{shown}
 use Rattle.kernel.proofs.Kernel.step_sound.Statement.{statement}
 use Rattle.kernel.proofs.Kernel.step_sound.Tie as tie
 
+seen-requires : tie.Need-seen-requires
+seen-requires c κs =
+    let o = c .before .before .before in
+    firm (o .args .self) (o .pre .0) (o .pre .1)
+
 returns : tie.Need-returns
 returns c =
     let asked = c .before .before .before .asked in
@@ -61,5 +66,5 @@ returns-2 c =
 pub step-sound-spec : {M : Type 1} → statement M
 step-sound-spec =
     tie.close
-    (tie.spec (λ c κs. search needs) (λ c κs. search needs) (λ c κs. search needs) returns served-requires (λ c κs. search needs) (λ c κs. search needs) (λ c κs. search needs) (λ c κs. search needs)
+    (tie.spec (λ c κs. search needs) seen-requires (λ c κs. search needs) returns served-requires (λ c κs. search needs) (λ c κs. search needs) (λ c κs. search needs) (λ c κs. search needs)
     (λ c κs. search needs) (λ c. search needs) returns-2)

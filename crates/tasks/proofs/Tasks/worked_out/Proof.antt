@@ -13,16 +13,18 @@ use Rattle.tasks.proofs.Tasks.worked_out.Tie as tie
 returns : tie.Need-returns
 unfolding workedIn
 returns c =
-    let a = c .before .before .before .before .before .args in
+    let a = c .before .before .before .before .before .before .args in
+    let L = c .before .before .before .levels .ensures in
     let ls = levelsIn (a .self) (a .by) in
     let e : allBelow 16 (λ n. eqb (rowAt (a .self) n .effective) (getD ls n 0)) ≡ true =
-    rw (← c .before .before .levels .ensures .said) (sym (c .before .at-levels .ensures) ∙ c .if1 .taken) in
-    record { many = c .before .before .levels .ensures .many; said = none-levelled (a .r) ls (a .self) (a .o) e }
+    rw (← L .said) (sym (c .before .at-levels .ensures) ∙ c .if1 .taken) in
+    record { many = L .many; said = none-levelled (a .r) ls (a .self) (a .o) e }
 
 returns-2 : tie.Need-returns-2
 unfolding workedIn
 returns-2 c =
-    record { many = c .before .before .before .levels .ensures .many; said = c .levelled .ensures ∙ rw (c .before .before .before .levels .ensures .said) }
+    let L = c .before .before .before .before .levels .ensures in
+    record { many = L .many; said = c .levelled .ensures ∙ rw (L .said) }
 
 levels-requires : tie.Need-levels-requires
 levels-requires c κs = c .bound .ensures ∙ rw (c .before .waiting .ensures)
