@@ -90,26 +90,31 @@ same-level k t eff e = rw (sym e, eq-eqb (level (k .tasks) t) (level (k .tasks) 
     go true = set-same k t
     go false = set-same k t
 
+-- an existing task with other priorities, the own one in its range, is fine
+pub ranked-fine : {w : Open} (k : State) → Nearly w k → (t : TaskSlot) → Exists (k .tasks) t → (own eff : ℕ) → own ≤ 31
+    → TaskFine w (k .objects) t (record { place = taskAt (k .tasks) t .place; own = own; effective = eff; outcome = taskAt (k .tasks) t .outcome })
+ranked-fine k N t X own eff few =
+    let F = N .tables .tasks t in
+    record {
+      fits = record {
+        waits = F .waits;
+        outcome-range = F .outcome-range;
+        delay-outcome = F .delay-outcome;
+        wait-outcome = F .wait-outcome;
+        free = λ e. absurd (false≢true (sym X ∙ ap isFree e));
+        spent = λ e. absurd (false≢true (sym X ∙ ap isFree e));
+      };
+      range = few;
+      due = N .due t;
+    }
+
 -- that of a task that exists and is not idle
 module _ {w : Open} (k : State) (N : Nearly w k) (t : TaskSlot) (low : t .0 < 16) (eff : ℕ) (X : Exists (k .tasks) t) (B : t .0 ≡ 0 → ⊥) where
   abbrev new : Task
   new = levelled (taskAt (k .tasks) t) eff
 
   new-fine : TaskFine w (k .objects) t new
-  new-fine =
-      let F = N .tables .tasks t in
-      record {
-        fits = record {
-          waits = F .waits;
-          outcome-range = F .outcome-range;
-          delay-outcome = F .delay-outcome;
-          wait-outcome = F .wait-outcome;
-          free = λ e. absurd (false≢true (sym X ∙ ap isFree e));
-          spent = λ e. absurd (false≢true (sym X ∙ ap isFree e));
-        };
-        range = N .range t;
-        due = N .due t;
-      }
+  new-fine = ranked-fine k N t X (taskAt (k .tasks) t .own) eff (N .range t)
 
   idle-new : t .0 ≡ 0 → AsIdle new
   idle-new z = absurd (B z)

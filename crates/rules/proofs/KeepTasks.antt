@@ -15,7 +15,7 @@ use Rattle.slots.specs.Places.{isFree, takesTask, isSuspended, isBlocked, isLis
 use Rattle.slots.specs.Values.{freeTask, spentTask, readyAt, owned, brokenOff, inLine, taskAt}
 use Rattle.rules.specs.Types.{TaskSlot, ObjSlot, Wake, Free, Ready, Delayed, Waiting, Spent, Task, State}
 use Rattle.rules.specs.Tables.{holds, freeSlot, withTask}
-use Rattle.rules.specs.Lines.{toTail, leaves}
+use Rattle.rules.specs.Lines.{level, toTail, leaves}
 use Rattle.rules.specs.Sentences.{Holds, HoldsNothing, AsIdle, TaskFits, Sound}
 use Rattle.rows.specs.Applies.{outOfRange, namesNone, notForIdle, notWithHold, noneFree, notSuspended}
 use Rattle.rules.specs.Refusals.{inUse}
@@ -29,7 +29,7 @@ use Rattle.rules.proofs.KeepNearly.{settled, TaskFine, Nearly, unblocke
 use Rattle.rules.proofs.KeepSlot.{like-before, tail-nearly, tail-listed, leave-nearly, leave-listed, stay-nearly, moved-nearly}
 use Rattle.rules.proofs.KeepChosen.{sound-nearly}
 use Rattle.rules.proofs.KeepHeads.{runs-tail, runs-leave, runs-stay}
-use Rattle.rules.proofs.KeepBlocks.{to-ready, to-wait, arrives-nearly, arrives-runs}
+use Rattle.rules.proofs.KeepBlocks.{to-ready, to-wait, arrives-nearly, arrives-runs, ranked-fine}
 use Rattle.rules.proofs.Keeps.{Keeps, there-low, ready-low, apart, index-most, index-passes}
 
 -- a wake tick that many ticks ahead is none of now
@@ -226,20 +226,7 @@ module _ (k : State) (S : Sound k) (store : ℕ) where
     set-to = owned (taskAt (k .tasks) t) p
 
     set-fine : TaskFine (settled (k .tick)) (k .objects) t set-to
-    set-fine =
-        let F = N .tables .tasks t in
-        record {
-          fits = record {
-            waits = F .waits;
-            outcome-range = F .outcome-range;
-            delay-outcome = F .delay-outcome;
-            wait-outcome = F .wait-outcome;
-            free = λ e. absurd (false≢true (sym exists ∙ ap isFree e));
-            spent = λ e. absurd (false≢true (sym exists ∙ ap isFree e));
-          };
-          range = in-range;
-          due = N .due t;
-        }
+    set-fine = ranked-fine k N t exists p (level (k .tasks) t) in-range
 
     idle-stays : t .0 ≡ 0 → AsIdle set-to
     idle-stays z =
