@@ -1,11 +1,11 @@
-//! The eighteen calls: what each does once it is not turned away.
+//! The nineteen calls: what each does once it is not turned away.
 
-use crate::kernel::{Kernel, Kind, ObjectSlot, Outcome, Queue, Role, Stand, Task, TaskSlot};
+use crate::kernel::{Kernel, Kind, Mutex, ObjectSlot, Outcome, Queue, Role, Stand, Task, TaskSlot};
 use crate::refusals::refusal;
 use crate::store;
 
-/// "Call numbers 1 to 17, arguments in this order"; "call 18, advance: n ticks". Numbers are
-/// as the line has them.
+/// "Call numbers 1 to 17, arguments in this order"; "call 18, advance: n ticks"; "call 19, make
+/// recursive mutex". Numbers are as the line has them.
 #[derive(Clone, Copy, PartialEq, Eq, Debug)]
 pub enum Call<'a> {
     Create { priority: u32 },
@@ -26,6 +26,7 @@ pub enum Call<'a> {
     Give { object: u32 },
     Tick,
     Advance { ticks: u32 },
+    MakeRecursiveMutex,
 }
 
 impl Call<'_> {
@@ -49,6 +50,7 @@ impl Call<'_> {
             Call::Give { .. } => 16,
             Call::Tick => 17,
             Call::Advance { .. } => 18,
+            Call::MakeRecursiveMutex => 19,
         }
     }
 
@@ -153,7 +155,8 @@ fn take_effect(kernel: &mut Kernel, store: &mut [u8], call: &Call) -> Option<u32
             return Some(make(kernel, Kind::Queue(queue)));
         }
         // "lowest free object"
-        Call::MakeMutex => return Some(make(kernel, Kind::Mutex { holder: None })),
+        Call::MakeMutex => return Some(make(kernel, Kind::Mutex(Mutex::free(false)))),
+        Call::MakeRecursiveMutex => return Some(make(kernel, Kind::Mutex(Mutex::free(true)))),
         Call::Remove { object } => remove(kernel, kernel.find_object(object).expect(NAMED)),
         Call::Send { object, item, wait } => {
             let (object, queue) = kernel.find_queue(object).expect(NAMED);
@@ -164,10 +167,13 @@ fn take_effect(kernel: &mut Kernel, store: &mut [u8], call: &Call) -> Option<u32
             receive(kernel, store, object, queue, wait);
         }
         Call::Take { object, wait } => {
-            let (object, holder) = kernel.find_mutex(object).expect(NAMED);
-            take(kernel, object, holder, wait);
+            let (object, mutex) = kernel.find_mutex(object).expect(NAMED);
+            take(kernel, object, mutex, wait);
         }
-        Call::Give { object } => give(kernel, kernel.find_mutex(object).expect(NAMED).0),
+        Call::Give { object } => {
+            let (object, mutex) = kernel.find_mutex(object).expect(NAMED);
+            give(kernel, object, mutex);
+        }
         Call::Tick => tick(kernel),
         Call::Advance { ticks } => advance(kernel, ticks),
     }
@@ -281,20 +287,28 @@ fn receive(kernel: &mut Kernel, store: &mut [u8], object: ObjectSlot, queue: Que
     kernel.object_mut(object).kind = Kind::Queue(queue);
 }
 
-fn take(kernel: &mut Kernel, object: ObjectSlot, holder: Option<TaskSlot>, wait: u32) {
-    match holder {
+fn take(kernel: &mut Kernel, object: ObjectSlot, mutex: Mutex, wait: u32) {
+    let caller = kernel.running;
+    let taken = match mutex.holder {
         // "A free mutex becomes the caller's."
-        None => kernel.object_mut(object).kind = Kind::Mutex { holder: Some(kernel.running) },
+        None => mutex.passed_to(Some(caller)),
+        // "Its holder may take it again".
+        Some(holder) if holder == caller => Mutex { count: mutex.count + 1, ..mutex },
         // "Held by another: the caller waits".
-        Some(_) => kernel.wait_running(object, Role::Taker, wait),
-    }
+        Some(_) => return kernel.wait_running(object, Role::Taker, wait),
+    };
+    kernel.object_mut(object).kind = Kind::Mutex(taken);
 }
 
-/// "The first waiter becomes holder and is made ready, outcome 1; with none, the mutex is
-/// free."
-fn give(kernel: &mut Kernel, object: ObjectSlot) {
-    let holder = kernel.wake_first_waiter(object);
-    kernel.object_mut(object).kind = Kind::Mutex { holder };
+fn give(kernel: &mut Kernel, object: ObjectSlot, mutex: Mutex) {
+    let given = match mutex.count {
+        // "only the last hands it on": "The first waiter becomes holder and is made ready, outcome
+        // 1; with none, the mutex is free."
+        1 => mutex.passed_to(kernel.wake_first_waiter(object)),
+        // "each give takes one off"
+        _ => Mutex { count: mutex.count - 1, ..mutex },
+    };
+    kernel.object_mut(object).kind = Kind::Mutex(given);
 }
 
 fn tick(kernel: &mut Kernel) {

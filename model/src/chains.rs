@@ -1,15 +1,12 @@
 //! Chains: a task that waits on a mutex, the mutex's holder, whom that one waits for, and so on. A
 //! wait on a queue is no link.
 
-use crate::kernel::{Kernel, Kind, Stand, TaskSlot, TASKS};
+use crate::kernel::{Kernel, Stand, TaskSlot, TASKS};
 
 /// The holder of the mutex on which this task waits, if it waits on one.
 pub fn holder_over(kernel: &Kernel, task: TaskSlot) -> Option<TaskSlot> {
     let Stand::Waiting { object, .. } = kernel.task(task).stand else { return None };
-    match kernel.object(object).kind {
-        Kind::Mutex { holder } => holder,
-        _ => None,
-    }
+    kernel.object(object).holder()
 }
 
 /// Whether somebody waits on a mutex that this task holds.

@@ -1,13 +1,13 @@
 //! The self-check: document 01's soundness sentence, with request 1's clauses on uses,
-//! request 3's on the remembered order, request 5's on loans and request 6's on circles, over
-//! the kernel's own structures, and what can be said of one step by looking at the kernel before
-//! and after: the lines, by when each task was last put into one; of an advance, that it is as
-//! many single ticks.
+//! request 3's on the remembered order, request 5's on loans, request 6's on circles and request
+//! 7's on counts, over the kernel's own structures, and what can be said of one step by looking at
+//! the kernel before and after: the lines, by when each task was last put into one; the takes that
+//! are not given back; of an advance, that it is as many single ticks.
 
 use crate::calls::{single_ticks, step, Answer, Call, Named};
 use crate::kernel::{
-    Kernel, Kind, ObjectSlot, Outcome, Role, Stand, Task, TaskSlot, FOR_EVER, IDLE, LAST_USE, MOST_HOLD, MOST_PENDED,
-    PRIORITIES, RETIRED, TASKS,
+    Kernel, Kind, Mutex, ObjectSlot, Outcome, Role, Stand, Task, TaskSlot, FOR_EVER, IDLE, LAST_USE, MOST_HOLD,
+    MOST_PENDED, MOST_TAKES, PRIORITIES, RETIRED, TASKS,
 };
 use crate::loans::{by_search, by_walks};
 use crate::refusals::{refusal, refusal_by_rows, CIRCLE};
@@ -89,7 +89,7 @@ fn check_waiters(kernel: &Kernel) -> Result<(), String> {
                 (Role::Sender, Kind::Queue(queue)) => {
                     must(queue.count == queue.capacity, "senders only on a full one")?
                 }
-                (Role::Taker, Kind::Mutex { holder: Some(holder) }) => {
+                (Role::Taker, Kind::Mutex(Mutex { holder: Some(holder), .. })) => {
                     must(holder != task, "takers only on a mutex held by another")?
                 }
                 _ => must(false, "a waiter fits its object")?,
@@ -141,7 +141,7 @@ fn check_task(kernel: &Kernel, task: TaskSlot) -> Result<(), String> {
 pub fn has_circle(kernel: &Kernel) -> bool {
     let mut pairs: Vec<(TaskSlot, TaskSlot)> = Vec::new();
     for object in &kernel.objects {
-        if let Kind::Mutex { holder: Some(holder) } = object.kind {
+        if let Some(holder) = object.holder() {
             pairs.extend(object.waiters.iter().map(|&waiter| (waiter, holder)));
         }
     }
@@ -171,10 +171,22 @@ fn check_object(kernel: &Kernel, object: ObjectSlot) -> Result<(), String> {
             let places = queue.first < queue.capacity && queue.count <= queue.capacity;
             must(shape && places, "counts and places obey the ranges")
         }
-        Kind::Mutex { holder } => {
-            let exists = holder.is_none_or(|holder| !kernel.task(holder).is_free());
-            must(exists, "holders exist")
+        Kind::Mutex(mutex) => {
+            let exists = mutex.holder.is_none_or(|holder| !kernel.task(holder).is_free());
+            must(exists, "holders exist")?;
+            check_count(mutex)
         }
+    }
+}
+
+/// "up to 255 times in all"; an ordinary one is taken once. Without a holder there is no count.
+fn check_count(mutex: Mutex) -> Result<(), String> {
+    let most = if mutex.recursive { MOST_TAKES } else { 1 };
+    match mutex.holder {
+        Some(_) => {
+            must((1..=most).contains(&mutex.count), "the count of a held mutex is 1 to 255, of an ordinary one 1")
+        }
+        None => must(mutex.count == 0, "a free mutex has no count"),
     }
 }
 
@@ -222,6 +234,7 @@ fn check_step(
     )?;
     must(by_search(after) == by_walks(after, |_| true), "a search and walks find the same loans")?;
     check_uses(before, call, answer, after)?;
+    check_takes(before, call, answer, after)?;
     if let Answer::Made(number) = answer {
         check_made(before, call, number, after)?;
     }
@@ -362,12 +375,47 @@ fn check_uses(before: &Kernel, call: &Call, answer: Answer, after: &Kernel) -> R
     Ok(())
 }
 
+/// Who holds this mutex, once for each take that is not given back.
+fn takes(kernel: &Kernel, object: ObjectSlot) -> Vec<TaskSlot> {
+    match kernel.object(object).kind {
+        Kind::Mutex(Mutex { holder: Some(holder), count, .. }) => vec![holder; count as usize],
+        _ => Vec::new(),
+    }
+}
+
+/// A take that does not wait puts the caller on this list, and a give takes one off and puts on it
+/// who waits no more. A list with two tasks on it would be no mutex's, so "only the last hands it
+/// on". No other call changes it.
+fn check_takes(before: &Kernel, call: &Call, answer: Answer, after: &Kernel) -> Result<(), String> {
+    for object in ObjectSlot::all() {
+        let mut wanted = takes(before, object);
+        if answer == Answer::Done && call.named() == Named::Object(before.object_number(object)) {
+            match call {
+                Call::Take { .. } => wanted.push(before.running),
+                Call::Give { .. } => {
+                    let waits = |task: &&TaskSlot| after.object(object).waiters.contains(task);
+                    wanted.pop();
+                    wanted.extend(before.object(object).waiters.iter().filter(|task| !waits(task)));
+                }
+                _ => {}
+            }
+        }
+        must(takes(after, object) == wanted, "each take puts one on the count, each give takes one off")?;
+        if let (Kind::Mutex(old), Kind::Mutex(new)) = (before.object(object).kind, after.object(object).kind) {
+            must(old.recursive == new.recursive, "a mutex stays of its kind")?;
+        }
+    }
+    Ok(())
+}
+
 /// The new number named nothing, and now names what was made.
 fn check_made(before: &Kernel, call: &Call, number: u32, after: &Kernel) -> Result<(), String> {
+    let is_mutex = |recursive: bool| after.find_mutex(number).is_some_and(|(_, mutex)| mutex == Mutex::free(recursive));
     let is_new = match call {
         Call::Create { .. } => before.find_task(number).is_none() && after.find_task(number).is_some(),
         Call::MakeQueue { .. } => before.find_object(number).is_none() && after.find_queue(number).is_some(),
-        _ => before.find_object(number).is_none() && after.find_mutex(number).is_some(),
+        Call::MakeMutex => before.find_object(number).is_none() && is_mutex(false),
+        _ => before.find_object(number).is_none() && is_mutex(true),
     };
     must(is_new, "made with the new number")
 }

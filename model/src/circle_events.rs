@@ -3,7 +3,7 @@
 
 use crate::chains::{chain, has_waiters, leads_back};
 use crate::coverage::Coverage;
-use crate::kernel::{Kernel, Kind, Stand, TaskSlot, FOR_EVER};
+use crate::kernel::{Kernel, Stand, TaskSlot, FOR_EVER};
 use crate::refusals::CIRCLE;
 
 /// How many tasks would be on the circle that this caller closes.
@@ -13,13 +13,13 @@ fn tasks_on_circle(kernel: &Kernel, holder: TaskSlot, caller: TaskSlot) -> usize
 }
 
 fn mutexes_of(kernel: &Kernel, task: TaskSlot) -> usize {
-    kernel.objects.iter().filter(|object| object.kind == Kind::Mutex { holder: Some(task) }).count()
+    kernel.objects.iter().filter(|object| object.holder() == Some(task)).count()
 }
 
 impl Coverage {
     /// A take of a held mutex that was refused by this row.
     pub fn observe_refused_take(&mut self, kernel: &Kernel, object: u32, wait: u32, row: u8) {
-        let Some((_, Some(holder))) = kernel.find_mutex(object) else { return };
+        let Some(holder) = kernel.find_mutex(object).and_then(|(_, mutex)| mutex.holder) else { return };
         let caller = kernel.running;
         let elsewhere = !leads_back(kernel, holder, caller);
         let links = chain(kernel, holder).len() + 1;

@@ -1,8 +1,10 @@
 //! What a journal exercises: calls, refusals, damage and events inside the kernel.
 
+use crate::again_events::Nesting;
 use crate::calls::{jump, single_ticks, Answer, Call, Named};
 use crate::kernel::{
-    apart, number_of, Kernel, ObjectSlot, Outcome, Role, Stand, TaskSlot, FOR_EVER, IDLE, MOST_ADVANCE, RETIRED, TASKS,
+    apart, number_of, Kernel, ObjectSlot, Outcome, Role, Stand, TaskSlot, FOR_EVER, IDLE, MOST_ADVANCE, OBJECTS,
+    RETIRED, TASKS,
 };
 use crate::refusals::refusal;
 use std::collections::BTreeMap;
@@ -123,9 +125,9 @@ impl Ticks {
 #[derive(Default)]
 pub struct Coverage {
     pub lines: u64,
-    pub accepted: [u64; 19],
-    pub waiting: [u64; 19],
-    pub refused: [u64; 18],
+    pub accepted: [u64; 20],
+    pub waiting: [u64; 20],
+    pub refused: [u64; 19],
     pub refused_by_call: BTreeMap<(usize, u8), u64>,
     pub damaged: BTreeMap<&'static str, u64>,
     pub events: BTreeMap<&'static str, u64>,
@@ -133,6 +135,8 @@ pub struct Coverage {
     began_at: [u32; TASKS],
     /// The caller's and the mutex's number of the last take from each slot that was refused as a circle.
     pub refused_circles: [Option<(u32, u32)>; TASKS],
+    /// What was seen of the mutex in each object slot.
+    pub nesting: [Nesting; OBJECTS],
 }
 
 impl Coverage {
@@ -170,6 +174,7 @@ impl Coverage {
         if let Call::Take { object, wait } = *call {
             self.observe_refused_take(kernel, object, wait, row);
         }
+        self.observe_refused_again(kernel, call, row);
         if let Call::Advance { ticks } = *call {
             let held = kernel.hold > 0;
             self.event_if(row == 4 && ticks == 0, "advance: 0 ticks refused");
@@ -205,6 +210,7 @@ impl Coverage {
     /// Names what an accepted call did, by the kernel before and after.
     pub fn observe(&mut self, before: &Kernel, call: &Call, after: &Kernel) {
         self.observe_loans(before, call, after);
+        self.observe_again(before, call, after);
         let caller = before.running;
         let woken = |outcome: Outcome| {
             TaskSlot::all()
@@ -296,24 +302,32 @@ impl Coverage {
                 self.event_if(moved_in && queue.capacity > 8, "receive: moved in at capacity above 8");
             }
             Call::Take { object, .. } => {
-                self.observe_accepted_take(before, object, after);
-                let (_, holder) = before.find_mutex(object).expect("accepted");
-                if let Some(holder) = holder {
-                    let raised = after.task(holder).effective > before.task(holder).effective;
-                    self.event_if(raised, "take: priority lent");
-                    let ready = before.task(holder).stand == Stand::Ready;
-                    self.event_if(raised && ready, "take: priority lent to a ready holder");
-                    let waits = before.is_blocked(holder);
-                    self.event_if(raised && waits, "take: priority lent to a blocked holder");
-                    self.event_if(raised && !ready && !waits, "take: priority lent to a suspended holder");
-                } else {
-                    self.event_if(before.holds_a_mutex(caller), "take: a second mutex");
+                let (_, mutex) = before.find_mutex(object).expect("accepted");
+                match mutex.holder {
+                    // It is counted by `observe_again`.
+                    Some(holder) if holder == caller => {}
+                    Some(holder) => {
+                        self.observe_accepted_take(before, object, after);
+                        let raised = after.task(holder).effective > before.task(holder).effective;
+                        self.event_if(raised, "take: priority lent");
+                        let ready = before.task(holder).stand == Stand::Ready;
+                        self.event_if(raised && ready, "take: priority lent to a ready holder");
+                        let waits = before.is_blocked(holder);
+                        self.event_if(raised && waits, "take: priority lent to a blocked holder");
+                        self.event_if(raised && !ready && !waits, "take: priority lent to a suspended holder");
+                    }
+                    None => {
+                        self.observe_accepted_take(before, object, after);
+                        self.event_if(before.holds_a_mutex(caller), "take: a second mutex");
+                    }
                 }
             }
             Call::Give { object } => {
-                let (object, _) = before.find_mutex(object).expect("accepted");
-                self.observe_first_waiter(before, object);
-                self.event_if(!before.object(object).waiters.is_empty(), "give: passed to a waiter");
+                let (object, mutex) = before.find_mutex(object).expect("accepted");
+                if mutex.count == 1 {
+                    self.observe_first_waiter(before, object);
+                    self.event_if(!before.object(object).waiters.is_empty(), "give: passed to a waiter");
+                }
             }
             Call::Suspend { task } | Call::Delete { task } => {
                 let task = before.find_task(task).expect("accepted");
@@ -342,7 +356,7 @@ impl Coverage {
                 self.event_if(before.task(made).uses > 0, "create: a slot used again");
                 self.event_if(before.task(made).uses > 255, "create: a use above 255");
             }
-            Call::MakeQueue { .. } | Call::MakeMutex => {
+            Call::MakeQueue { .. } | Call::MakeMutex | Call::MakeRecursiveMutex => {
                 let last = before.objects.iter().rposition(|object| !object.is_free());
                 let made = before.free_object().expect("accepted");
                 self.event_if(Some(made.index()) < last, "make: a slot below the last one");
@@ -440,7 +454,7 @@ impl Coverage {
     }
 
     pub fn report(&self) -> String {
-        const NAMES: [&str; 19] = [
+        const NAMES: [&str; 20] = [
             "-",
             "create",
             "delete",
@@ -460,6 +474,7 @@ impl Coverage {
             "give",
             "tick",
             "advance",
+            "make recursive",
         ];
         let mut text = format!("lines {}\n\naccepted (of these waiting)\n", self.lines);
         for (number, name) in NAMES.iter().enumerate().skip(1) {
@@ -467,7 +482,7 @@ impl Coverage {
             text += &format!("{number:>4} {name:<14}{accepted:>8} {waiting:>8}\n");
         }
         text += &format!("     {:<14}{:>8}\n\nrefused\n", "all", self.accepted.iter().sum::<u64>());
-        for row in 3..=17u8 {
+        for row in 3..=18u8 {
             let by_call: Vec<String> = self
                 .refused_by_call
                 .iter()

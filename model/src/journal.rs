@@ -6,34 +6,36 @@ use crate::chains;
 use crate::coverage::Coverage;
 use crate::damage;
 use crate::kernel::{
-    apart, number_of, Kernel, Kind, ObjectSlot, Stand, TaskSlot, FOR_EVER, IDLE, LAST_USE, MOST_ADVANCE, MOST_HOLD,
-    MOST_PENDED, RETIRED, TASKS,
+    apart, number_of, Kernel, Kind, Mutex, ObjectSlot, Stand, TaskSlot, FOR_EVER, IDLE, LAST_USE, MOST_ADVANCE,
+    MOST_HOLD, MOST_PENDED, RETIRED, TASKS,
 };
 use crate::line::{read_call, ITEM_BYTES};
 use crate::machine::Machine;
 use crate::random::Random;
 use crate::refusals::{refusal, CIRCLE};
+use again::Nest;
 use circles::{held_by_others, links_from, Rest, MOST_LINKS};
 
+mod again;
 mod circles;
 
 /// How often each call is tried, by call number; one row for each mood.
 #[rustfmt::skip]
-const MOODS: [[u32; 19]; 10] = [
-    // cre del sus res set dly yld hld rel mkq mkm rem snd rcv tak giv tick adv
-    [0,  6,  2,  4,  6,  5,  7,  4,  2,  4,  3,  3,  2, 14, 14,  9,  8, 12, 15], // mixed
-    [0,  6,  2,  3,  4,  2, 16,  4,  2,  4,  2,  1,  1,  8,  8,  6,  4, 30, 10], // time
-    [0,  6,  2,  3,  4,  3,  3,  2,  1,  3,  4,  0,  2, 28, 28,  1,  2,  8, 11], // queues
-    [0,  6,  2,  4,  5,  8,  4,  2,  1,  3,  0,  5,  1,  2,  2, 26, 16,  8, 14], // mutexes
-    [0,  4,  2,  4,  4,  5,  6,  1, 12, 12,  2,  2,  1,  8,  8,  5,  5, 24, 10], // holds
-    [0, 12, 12,  8, 10,  6,  4,  2,  1,  3, 10,  8, 14,  8,  8,  6,  5,  6, 12], // slots
-    [0,  8,  1,  2,  4,  6,  4, 16,  1,  3,  1,  2,  1,  4,  4,  6,  6, 24, 11], // crowd
-    [0,  2,  1,  6,  2,  3, 24,  2,  2,  6,  3,  1,  2, 12, 20,  6,  2,  6,  9], // quiet: idle runs often
-    [0,  6,  2,  3,  5,  4, 20,  4,  1,  3,  2,  2,  1,  8,  9,  9,  4,  3, 46], // sleep
-    [0,  9,  1,  2,  4,  6,  9,  6,  1,  3,  2,  2,  1,  7,  7,  9,  7,  3, 46], // sleep in a crowd
+const MOODS: [[u32; 20]; 10] = [
+    // cre del sus res set dly yld hld rel mkq mkm rem snd rcv tak giv tick adv mkr
+    [0,  6,  2,  4,  6,  5,  7,  4,  2,  4,  3,  3,  2, 17, 17,  9,  8, 12, 17,  2], // mixed
+    [0,  6,  2,  3,  4,  2, 16,  4,  2,  4,  2,  1,  1, 10, 10,  6,  4, 30, 12,  1], // time
+    [0,  6,  2,  3,  4,  3,  3,  2,  1,  3,  4,  0,  2, 32, 32,  1,  2,  8, 12,  0], // queues
+    [0,  6,  2,  4,  5,  8,  4,  2,  1,  3,  0,  4,  1,  2,  2, 26, 16,  8, 16,  3], // mutexes
+    [0,  4,  2,  4,  4,  5,  6,  1, 12, 12,  2,  1,  1,  9,  9,  5,  5, 24, 11,  1], // holds
+    [0, 12, 12,  8, 10,  6,  4,  2,  1,  3, 10,  7, 14, 10, 10,  6,  5,  6, 13,  5], // slots
+    [0,  8,  1,  2,  4,  6,  4, 16,  1,  3,  1,  1,  1,  5,  5,  6,  6, 24, 13,  1], // crowd
+    [0,  2,  1,  6,  2,  3, 24,  2,  2,  6,  3,  1,  2, 14, 23,  6,  2,  6, 10,  1], // quiet: idle runs often
+    [0,  6,  2,  3,  5,  4, 20,  4,  1,  3,  2,  1,  1, 10, 11,  9,  4,  3, 64,  1], // sleep
+    [0,  9,  1,  2,  4,  6,  9,  6,  1,  3,  2,  1,  1,  9,  9,  9,  7,  3, 64,  1], // sleep in a crowd
 ];
 
-/// The refusals that are aimed at.
+/// The refusals that are aimed at. The count is full only after 255 takes, which `Nest` makes.
 const AIMED: [u8; 13] = [4, 5, 6, 7, 8, 9, 10, 11, 12, 13, 14, 15, CIRCLE];
 
 /// Calls that can get each refusal that is aimed at.
@@ -45,7 +47,7 @@ const CALLS_OF_ROW: [&[u32]; 18] = [
     &[13],
     &[2, 3, 5, 6, 13, 14, 15],
     &[2, 3, 6, 7, 13, 14, 15, 18],
-    &[1, 10, 11],
+    &[1, 10, 11, 19],
     &[2, 12],
     &[16],
     &[15],
@@ -96,9 +98,11 @@ enum Plan {
     /// Tasks of the first priority each take a mutex, and tasks of the second each wait on one of these up to this tick
     /// or the next, for this many lines; then `Pass` or `Untie`.
     Pair(u32, u32, (u32, u32)),
+    /// One recursive mutex is taken again, waited on and given, for this many lines.
+    Nest(u32, Nest),
     /// Waits that end about when the count returns to 0, for this many lines, then `Lap`.
     Await(u32),
-    /// Advances up to this count, each by a task alone in its line; then `Gather`.
+    /// Advances up to this count, each by a task alone in its line; then `Gather`, or `Pass` over the return to 0.
     Lap(u32),
     /// Sends to this queue until it is full and this many lines more, then `Drain`.
     Fill(ObjectSlot, u32),
@@ -135,6 +139,9 @@ pub struct Author {
     plan: Plan,
     pend_at: u64,
     lap_at: u64,
+    nest_at: u64,
+    /// Whether others are to wait on the mutex whose count was filled last.
+    nest_shared: bool,
     ends_cut: bool,
     coverage: Option<Coverage>,
 }
@@ -147,6 +154,9 @@ impl Author {
             if lines >= 100_000 { lines / 20 + u64::from(random.below((lines / 5) as u32)) } else { u64::MAX };
         // The count's return to 0 needs 65,537 lines more, and comes after them.
         let lap_at = if lines >= 300_000 { lines / 2 + u64::from(random.below((lines / 8) as u32)) } else { u64::MAX };
+        // A full count needs 255 lines and as many to give it back, so a short journal seldom has one.
+        let nest_at = u64::from(random.below((4 * lines).clamp(1, 16_000) as u32));
+        let nest_shared = random.percent(50);
         let ends_cut = random.percent(25);
         Author {
             random,
@@ -160,6 +170,8 @@ impl Author {
             plan: Plan::None,
             pend_at,
             lap_at,
+            nest_at,
+            nest_shared,
             ends_cut,
             coverage: None,
         }
@@ -266,13 +278,13 @@ impl Author {
             self.plan = Plan::Await(60);
         }
         let left = self.lines - self.written;
-        if self.plan == Plan::None && left > 700 && self.random.below(4_500) == 0 {
+        if self.plan == Plan::None && left > 700 && self.random.below(3_500) == 0 {
             self.plan = Plan::Climb(8);
         }
-        if self.plan == Plan::None && self.kernel().hold == 0 && self.random.below(18) == 0 {
+        if self.plan == Plan::None && self.kernel().hold == 0 && self.random.below(14) == 0 {
             self.plan = self.gather_tasks();
         }
-        if self.plan == Plan::None && self.kernel().hold == 0 && self.random.below(28) == 0 {
+        if self.plan == Plan::None && self.kernel().hold == 0 && self.random.below(25) == 0 {
             self.plan = if self.random.percent(25) { self.link_tasks() } else { Plan::Clear(24, TASKS / 2) };
         }
         if self.plan == Plan::None && self.kernel().hold == 0 && self.random.below(120) == 0 {
@@ -283,16 +295,24 @@ impl Author {
         if self.plan == Plan::None && self.kernel().hold == 0 && self.random.below(900) == 0 {
             self.plan = Plan::Clear(60, MOST_LINKS);
         }
-        if self.plan == Plan::None && self.random.below(400) == 0 {
-            self.plan = self.fill_a_queue();
+        if self.plan == Plan::None && self.random.below(140) == 0 {
+            self.plan = self.nest_a_few();
+        }
+        // Long enough for a task to fill the count and give all back; mostly another does so after it.
+        if self.plan == Plan::None && left > 700 && self.written >= self.nest_at {
+            self.nest_at = self.written + u64::from(self.random.between(8_000, 24_000));
+            self.plan = self.nest_all();
         }
         if self.plan == Plan::None && self.random.below(300) == 0 {
+            self.plan = self.fill_a_queue();
+        }
+        if self.plan == Plan::None && self.random.below(240) == 0 {
             let lines = self.random.between(4, 40);
             self.plan = self.renew_a_slot(lines);
         }
         // Long enough for a use above 255.
         if self.plan == Plan::None && left > 2_000 && self.random.below(4_500) == 0 {
-            self.plan = self.renew_a_slot(720);
+            self.plan = self.renew_a_slot(800);
         }
         if let Some(fields) = self.planned_call() {
             return fields;
@@ -366,8 +386,8 @@ impl Author {
 
     /// A plan for one slot: the next to be taken, or any but idle's.
     fn renew_a_slot(&mut self, lines: u32) -> Plan {
-        let next = self.random.percent(50);
-        if self.random.percent(50) {
+        let next = self.random.percent(75);
+        if self.random.percent(45) {
             let slots: Vec<TaskSlot> = TaskSlot::all().filter(|&task| task != IDLE).collect();
             let any = self.random.pick(&slots);
             Plan::RenewTask(self.kernel().free_task().filter(|_| next).unwrap_or(any), lines)
@@ -562,6 +582,7 @@ impl Author {
                 }
                 fields.filter(|fields| often && self.refusal_of(fields).is_none())
             }
+            Plan::Nest(left, nest) => self.nest_call(left, nest),
             Plan::Untie(0) => {
                 self.plan = Plan::None;
                 None
@@ -596,7 +617,7 @@ impl Author {
                 let left = until.wrapping_sub(kernel.tick);
                 // There, or past it by a damaged line.
                 if left == 0 || left > FOR_EVER - MOST_ADVANCE {
-                    self.plan = self.gather_tasks();
+                    self.plan = if self.random.percent(50) { self.pass_to(0) } else { self.gather_tasks() };
                     return None;
                 }
                 Some(match *kernel.running_line() {
@@ -647,12 +668,13 @@ impl Author {
                 self.plan = Plan::RenewObject(object, left - 1);
                 let number = self.kernel().object_number(object);
                 if !self.kernel().object(object).is_free() {
-                    return self.mostly(call(&[12, number]));
+                    let own = self.kernel().object(object).holder() == Some(self.kernel().running);
+                    return self.mostly(call(&[if own { 16 } else { 12 }, number]));
                 }
                 if self.random.percent(20) {
                     return Some(self.freed_call(number, &[12, 13, 14, 15, 16]));
                 }
-                let kind = self.random.pick(&[10, 11]);
+                let kind = self.random.pick(&[10, 10, 11, 19]);
                 let make = self.candidate(kind, 0);
                 self.mostly(make)
             }
@@ -670,6 +692,11 @@ impl Author {
         let (back, elsewhere) = held_by_others(kernel);
         let holds = kernel.holds_a_mutex(caller);
         let lent = chains::has_waiters(kernel, caller);
+        if self.random.percent(10) {
+            if let Some(fields) = self.again_call() {
+                return Some(fields);
+            }
+        }
         let choice = self.random.below(100);
         if choice < 12 || (!holds && choice < 85) {
             return Some(self.take_a_free_one());
@@ -725,13 +752,14 @@ impl Author {
         Some(call(&[number, kernel.task_number(holder)]))
     }
 
-    /// A free mutex is taken; without one, it is made.
-    fn take_a_free_one(&self) -> Fields {
-        let kernel = self.kernel();
-        let is_free = |object: &ObjectSlot| kernel.object(*object).kind == Kind::Mutex { holder: None };
+    /// A free mutex is taken; without one, it is made, of either kind.
+    fn take_a_free_one(&mut self) -> Fields {
+        let kernel = &self.machine.kernel;
+        let is_free =
+            |object: &ObjectSlot| matches!(kernel.object(*object).kind, Kind::Mutex(mutex) if mutex.holder.is_none());
         match ObjectSlot::all().find(is_free) {
             Some(object) => call(&[15, kernel.object_number(object), 0]),
-            None => call(&[11]),
+            None => call(&[self.random.pick(&[11, 19])]),
         }
     }
 
@@ -743,9 +771,8 @@ impl Author {
         let is_of = |task: TaskSlot, own: u32| u32::from(kernel.task(task).own) == own;
         let holders: Vec<TaskSlot> =
             TaskSlot::all().filter(|&task| kernel.holds_a_mutex(task) && is_of(task, low)).collect();
-        let held_by = |holder: TaskSlot| {
-            ObjectSlot::all().find(|&object| kernel.object(object).kind == Kind::Mutex { holder: Some(holder) })
-        };
+        let held_by =
+            |holder: TaskSlot| ObjectSlot::all().find(|&object| kernel.object(object).holder() == Some(holder));
         let unlent: Vec<TaskSlot> =
             holders.iter().copied().filter(|&task| task != caller && !chains::has_waiters(kernel, task)).collect();
         let yields_to =
@@ -824,7 +851,7 @@ impl Author {
     /// The running task gives a mutex, mostly one with waiters.
     fn give_call(&mut self) -> Option<Fields> {
         let kernel = &self.machine.kernel;
-        let own = |object: &ObjectSlot| kernel.object(*object).kind == Kind::Mutex { holder: Some(kernel.running) };
+        let own = |object: &ObjectSlot| kernel.object(*object).holder() == Some(kernel.running);
         let held: Vec<ObjectSlot> = ObjectSlot::all().filter(own).collect();
         let waited_on = held.iter().max_by_key(|object| kernel.object(**object).waiters.len())?;
         let object = if self.random.percent(70) { *waited_on } else { self.random.pick(&held) };
@@ -858,7 +885,11 @@ impl Author {
                 let number = match kernel.object(object).kind {
                     Kind::Queue(queue) if queue.count == queue.capacity => 13,
                     Kind::Queue(queue) if queue.count == 0 => 14,
-                    Kind::Mutex { holder: Some(holder) } if !chains::leads_back(kernel, holder, kernel.running) => 15,
+                    Kind::Mutex(Mutex { holder: Some(holder), .. })
+                        if !chains::leads_back(kernel, holder, kernel.running) =>
+                    {
+                        15
+                    }
                     _ => return None,
                 };
                 Some((number, kernel.object_number(object)))
@@ -947,7 +978,7 @@ impl Author {
 
     /// Any call with wild arguments; often several refusals apply.
     fn faulty_call(&mut self) -> Fields {
-        let number = self.random.between(1, 18);
+        let number = self.random.between(1, 19);
         self.candidate(number, 50)
     }
 
@@ -1069,7 +1100,7 @@ impl Author {
                     (3 | 5, 40..=64) => kernel.holds_a_mutex(task),
                     (2, 40..=64) => !kernel.holds_a_mutex(task) && stand != Stand::Free,
                     (_, 65..=79) => task == kernel.running,
-                    (_, 80..=81) => task == IDLE,
+                    (_, 80..=81) | (5, 82) => task == IDLE,
                     _ => stand != Stand::Free && task != IDLE,
                 }
             })
@@ -1096,13 +1127,14 @@ impl Author {
                     (_, Kind::Free) => false,
                     (12, _) => true,
                     (13 | 14, Kind::Queue(_)) => choice >= 25 || !slot.waiters.is_empty(),
-                    (15, Kind::Mutex { holder }) => match choice {
-                        0..=44 => holder.is_some_and(|holder| holder != caller),
-                        45..=84 => holder.is_none(),
-                        85..=87 => holder == Some(caller),
+                    (15, Kind::Mutex(mutex)) => match choice {
+                        0..=43 => mutex.holder.is_some_and(|holder| holder != caller),
+                        44..=81 => mutex.holder.is_none(),
+                        82..=84 => mutex.recursive && mutex.holder == Some(caller),
+                        85..=87 => mutex.holder == Some(caller),
                         _ => true,
                     },
-                    (16, Kind::Mutex { holder }) => choice >= 90 || holder == Some(caller),
+                    (16, Kind::Mutex(mutex)) => choice >= 90 || mutex.holder == Some(caller),
                     _ => false,
                 }
             })

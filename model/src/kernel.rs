@@ -1,6 +1,6 @@
 //! The kernel value: task slots, object slots, the lines of ready tasks and the order in
 //! which delayed and waiting tasks began. Quoted sentences are document 01's, and those of
-//! requests 1 and 3 to 6 in document 02.
+//! requests 1 and 3 to 7 in document 02.
 
 use crate::loans;
 
@@ -26,6 +26,8 @@ pub const MOST_HOLD: u32 = 255;
 pub const MOST_PENDED: u32 = 65_535;
 /// "advance: n ticks, 1 to 65,535"
 pub const MOST_ADVANCE: u32 = 65_535;
+/// "Its holder may take it again, up to 255 times in all".
+pub const MOST_TAKES: u32 = 255;
 /// "4,294,967,295 means for ever."
 pub const FOR_EVER: u32 = 4_294_967_295;
 
@@ -148,11 +150,31 @@ pub struct Queue {
     pub count: u8,
 }
 
+/// A mutex of either kind. They differ in how often the holder may take it.
+#[derive(Clone, Copy, PartialEq, Eq, Debug)]
+pub struct Mutex {
+    pub recursive: bool,
+    pub holder: Option<TaskSlot>,
+    /// How often the holder has taken it and not given it yet; 0 if nobody holds it.
+    pub count: u32,
+}
+
+impl Mutex {
+    pub const fn free(recursive: bool) -> Mutex {
+        Mutex { recursive, holder: None, count: 0 }
+    }
+
+    /// "hands it on, at count 1, or frees it"
+    pub fn passed_to(self, holder: Option<TaskSlot>) -> Mutex {
+        Mutex { holder, count: u32::from(holder.is_some()), ..self }
+    }
+}
+
 #[derive(Clone, Copy, PartialEq, Eq, Debug)]
 pub enum Kind {
     Free,
     Queue(Queue),
-    Mutex { holder: Option<TaskSlot> },
+    Mutex(Mutex),
 }
 
 /// "each object lists its waiters once, in order of arrival"
@@ -167,6 +189,14 @@ pub struct Object {
 impl Object {
     pub fn is_free(&self) -> bool {
         self.kind == Kind::Free
+    }
+
+    /// Who holds it; nobody if it is no mutex.
+    pub fn holder(&self) -> Option<TaskSlot> {
+        match self.kind {
+            Kind::Mutex(mutex) => mutex.holder,
+            _ => None,
+        }
     }
 }
 
@@ -246,11 +276,11 @@ impl Kernel {
         }
     }
 
-    /// The mutex of this number, and its holder.
-    pub fn find_mutex(&self, number: u32) -> Option<(ObjectSlot, Option<TaskSlot>)> {
+    /// The mutex of this number.
+    pub fn find_mutex(&self, number: u32) -> Option<(ObjectSlot, Mutex)> {
         let object = self.find_object(number)?;
         match self.object(object).kind {
-            Kind::Mutex { holder } => Some((object, holder)),
+            Kind::Mutex(mutex) => Some((object, mutex)),
             _ => None,
         }
     }
@@ -281,7 +311,7 @@ impl Kernel {
     }
 
     pub fn holds_a_mutex(&self, task: TaskSlot) -> bool {
-        self.objects.iter().any(|object| object.kind == Kind::Mutex { holder: Some(task) })
+        self.objects.iter().any(|object| object.holder() == Some(task))
     }
 
     /// Delayed, or waiting on an object.

@@ -1,6 +1,7 @@
-//! A second opinion on the kernel of document 01 and requests 1 and 3 to 6 of document 02, written from these and
+//! A second opinion on the kernel of document 01 and requests 1 and 3 to 7 of document 02, written from these and
 //! the readings in docs/DECISIONS.md.
 
+pub mod again_events;
 pub mod calls;
 pub mod chains;
 pub mod check;

@@ -137,6 +137,7 @@ pub fn read_call<'a>(line: &[u8], item: &'a mut [u8; ITEM_BYTES]) -> Option<Call
         16 => Call::Give { object: r.argument()? },
         17 => Call::Tick,
         18 => Call::Advance { ticks: r.argument()? },
+        19 => Call::MakeRecursiveMutex,
         _ => return None,
     };
     reader.end()?;

@@ -4,7 +4,7 @@
 use crate::calls::{jump, single_ticks, Call};
 use crate::chains::{chain, has_waiters, holder_over};
 use crate::coverage::Coverage;
-use crate::kernel::{Kernel, Kind, ObjectSlot, Stand, TaskSlot};
+use crate::kernel::{Kernel, ObjectSlot, Stand, TaskSlot};
 
 /// A name each for what a tick, a release and an advance do.
 type Names = [&'static str; 3];
@@ -116,12 +116,13 @@ impl Coverage {
         self.observe_shape(before);
         self.observe_running(before, after);
         match *call {
-            Call::Take { object, .. } => {
-                if before.find_mutex(object).expect("accepted").1.is_some() {
-                    self.observe_lending(before, after);
+            Call::Take { .. } if after.is_blocked(before.running) => self.observe_lending(before, after),
+            Call::Give { object } => {
+                let (object, mutex) = before.find_mutex(object).expect("accepted");
+                if mutex.count == 1 {
+                    self.observe_give(before, object, after);
                 }
             }
-            Call::Give { object } => self.observe_give(before, before.find_mutex(object).expect("accepted").0, after),
             Call::SetPriority { task, .. } => {
                 self.observe_own(before, before.find_task(task).expect("accepted"), after);
             }
@@ -190,6 +191,7 @@ impl Coverage {
         self.event_if(by_loan && !raised.is_empty(), "take: by a task with a loan, passed on");
     }
 
+    /// The caller gives a mutex for the last time.
     fn observe_give(&mut self, before: &Kernel, object: ObjectSlot, after: &Kernel) {
         let caller = before.running;
         let own = after.task(caller).own;
@@ -202,7 +204,7 @@ impl Coverage {
             "give: loan ends, another mutex still held",
         );
         self.event_if(before.object(object).waiters.len() > 1, "give: waiters stay");
-        let Kind::Mutex { holder: Some(holder) } = after.object(object).kind else { return };
+        let Some(holder) = after.object(object).holder() else { return };
         self.event_if(has_loan(after, holder), "give: the new holder has a loan");
         self.event_if(has_waiters(before, holder), "give: the new holder has waiters of its own");
         let larger = |other: &TaskSlot| before.task(*other).own > before.task(holder).own;

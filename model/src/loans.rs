@@ -3,7 +3,7 @@
 //! twice: the kernel goes by a search, and the self-check compares it with walks.
 
 use crate::chains::holder_over;
-use crate::kernel::{Kernel, Kind, TaskSlot, TASKS};
+use crate::kernel::{Kernel, TaskSlot, TASKS};
 
 /// A set of task slots, a bit for each.
 type Slots = u16;
@@ -22,7 +22,7 @@ pub fn by_search(kernel: &Kernel) -> [u8; TASKS] {
 fn waiters_of_holders(kernel: &Kernel) -> [Slots; TASKS] {
     let mut waiters = [0; TASKS];
     for object in &kernel.objects {
-        if let Kind::Mutex { holder: Some(holder) } = object.kind {
+        if let Some(holder) = object.holder() {
             for waiter in &object.waiters {
                 waiters[holder.index()] |= 1 << waiter.index();
             }

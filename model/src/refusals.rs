@@ -8,17 +8,19 @@
 use crate::calls::{Call, Named};
 use crate::chains::leads_back;
 use crate::kernel::{
-    Kernel, Kind, ObjectSlot, Stand, TaskSlot, FOR_EVER, IDLE, MOST_ADVANCE, MOST_CAPACITY, MOST_HOLD, MOST_ITEM,
-    MOST_PENDED, MOST_PRODUCT, PRIORITIES,
+    Kernel, Kind, Mutex, ObjectSlot, Stand, TaskSlot, FOR_EVER, IDLE, MOST_ADVANCE, MOST_CAPACITY, MOST_HOLD,
+    MOST_ITEM, MOST_PENDED, MOST_PRODUCT, MOST_TAKES, PRIORITIES,
 };
 use crate::loans::lends;
 use crate::store::STORE_BYTES;
 
 pub const NOT_A_CALL: u8 = 3;
 pub const CIRCLE: u8 = 17;
+pub const COUNT_FULL: u8 = 18;
 
-/// The table's rows in its order, without 1 and 3. "17, circle, which stands directly before 14".
-const ROWS: [u8; 15] = [2, 4, 5, 6, 7, 8, 9, 10, 11, 12, 13, CIRCLE, 14, 15, 16];
+/// The table's rows in its order, without 1 and 3. "17, circle, which stands directly before 14";
+/// "18, count full, directly after 12".
+const ROWS: [u8; 16] = [2, 4, 5, 6, 7, 8, 9, 10, 11, 12, COUNT_FULL, 13, CIRCLE, 14, 15, 16];
 
 fn first_of(rows: &[(u8, bool)]) -> Option<u8> {
     rows.iter().find(|row| row.1).map(|row| row.0)
@@ -68,12 +70,11 @@ pub fn refusal(kernel: &Kernel, store: &[u8], call: &Call) -> Option<u8> {
         Call::MakeQueue { capacity, size } => {
             first_of(&[(4, bad_queue(capacity, size)), (9, kernel.free_object().is_none())])
         }
-        Call::MakeMutex => first_of(&[(9, kernel.free_object().is_none())]),
+        Call::MakeMutex | Call::MakeRecursiveMutex => first_of(&[(9, kernel.free_object().is_none())]),
         Call::Remove { object } => {
             let Some(object) = kernel.find_object(object) else { return Some(5) };
             let object = kernel.object(object);
-            let is_held = matches!(object.kind, Kind::Mutex { holder: Some(_) });
-            first_of(&[(10, is_held || !object.waiters.is_empty())])
+            first_of(&[(10, object.holder().is_some() || !object.waiters.is_empty())])
         }
         Call::Send { object, item, wait } => {
             let Some((_, queue)) = kernel.find_queue(object) else { return Some(5) };
@@ -89,18 +90,21 @@ pub fn refusal(kernel: &Kernel, store: &[u8], call: &Call) -> Option<u8> {
             first_of(&[(7, wait != 0 && idle_calls), (8, wait != 0 && held), (14, wait == 0 && queue.count == 0)])
         }
         Call::Take { object, wait } => {
-            let Some((_, holder)) = kernel.find_mutex(object) else { return Some(5) };
+            let Some((_, mutex)) = kernel.find_mutex(object) else { return Some(5) };
+            let again = mutex.holder == Some(caller);
+            let another = mutex.holder.filter(|&holder| holder != caller);
             first_of(&[
                 (7, idle_calls),
                 (8, wait != 0 && held),
-                (12, holder == Some(caller)),
-                (CIRCLE, holder.is_some_and(|holder| leads_back(kernel, holder, caller))),
-                (14, wait == 0 && holder.is_some()),
+                (12, again && !mutex.recursive),
+                (COUNT_FULL, again && mutex.count == MOST_TAKES),
+                (CIRCLE, another.is_some_and(|holder| leads_back(kernel, holder, caller))),
+                (14, wait == 0 && another.is_some()),
             ])
         }
         Call::Give { object } => {
-            let Some((_, holder)) = kernel.find_mutex(object) else { return Some(5) };
-            first_of(&[(11, holder != Some(caller))])
+            let Some((_, mutex)) = kernel.find_mutex(object) else { return Some(5) };
+            first_of(&[(11, mutex.holder != Some(caller))])
         }
         Call::Tick => first_of(&[(16, held && kernel.pended == MOST_PENDED)]),
         Call::Advance { ticks } => first_of(&[(4, !(1..=MOST_ADVANCE).contains(&ticks)), (8, held)]),
@@ -167,7 +171,7 @@ fn row_applies(row: u8, kernel: &Kernel, store: &[u8], call: &Call) -> bool {
         // "create or make with no free slot"; "9 means no slot that may still be used"
         9 => match *call {
             Call::Create { .. } => kernel.tasks.iter().all(|task| !task.is_free() || task.uses == 65_536),
-            Call::MakeQueue { .. } | Call::MakeMutex => {
+            Call::MakeQueue { .. } | Call::MakeMutex | Call::MakeRecursiveMutex => {
                 kernel.objects.iter().all(|object| !object.is_free() || object.uses == 65_536)
             }
             _ => false,
@@ -177,20 +181,19 @@ fn row_applies(row: u8, kernel: &Kernel, store: &[u8], call: &Call) -> bool {
             Call::Delete { task } => kernel.find_task(task).is_some_and(|task| kernel.holds_a_mutex(task)),
             Call::Remove { object } => kernel.find_object(object).is_some_and(|object| {
                 let object = kernel.object(object);
-                matches!(object.kind, Kind::Mutex { holder: Some(_) }) || !object.waiters.is_empty()
+                object.holder().is_some() || !object.waiters.is_empty()
             }),
             _ => false,
         },
         // "give of a mutex that the caller does not hold"
         11 => match *call {
-            Call::Give { object } => kernel.find_mutex(object).is_some_and(|(_, holder)| holder != Some(caller)),
+            Call::Give { object } => kernel.find_mutex(object).is_some_and(|(_, mutex)| mutex.holder != Some(caller)),
             _ => false,
         },
-        // "take by the holder"
-        12 => match *call {
-            Call::Take { object, .. } => kernel.find_mutex(object).is_some_and(|(_, holder)| holder == Some(caller)),
-            _ => false,
-        },
+        // "take by the holder"; "Ordinary mutexes keep refusal 12"
+        12 => own_take(kernel, call).is_some_and(|mutex| !mutex.recursive),
+        // "up to 255 times in all"
+        COUNT_FULL => own_take(kernel, call).is_some_and(|mutex| mutex.recursive && mutex.count >= 255),
         // "resume of a task not suspended"
         13 => match *call {
             Call::Resume { task } => {
@@ -200,10 +203,11 @@ fn row_applies(row: u8, kernel: &Kernel, store: &[u8], call: &Call) -> bool {
         },
         // "Turn down a take, of any wait, exactly if the chain from that mutex's holder, through
         // mutexes being waited on, leads back to the caller": the holder lends to the caller then.
+        // "its holder's take is no circle"
         CIRCLE => match *call {
             Call::Take { object, .. } => {
-                let holder = kernel.find_mutex(object).and_then(|(_, holder)| holder);
-                holder.is_some_and(|holder| lends(kernel, holder, caller))
+                let holder = kernel.find_mutex(object).and_then(|(_, mutex)| mutex.holder);
+                holder.is_some_and(|holder| holder != caller && lends(kernel, holder, caller))
             }
             _ => false,
         },
@@ -214,7 +218,7 @@ fn row_applies(row: u8, kernel: &Kernel, store: &[u8], call: &Call) -> bool {
             }
             Call::Receive { object, wait: 0 } => kernel.find_queue(object).is_some_and(|(_, queue)| queue.count == 0),
             Call::Take { object, wait: 0 } => {
-                kernel.find_mutex(object).is_some_and(|(_, holder)| holder.is_some_and(|holder| holder != caller))
+                kernel.find_mutex(object).is_some_and(|(_, mutex)| mutex.holder.is_some_and(|holder| holder != caller))
             }
             _ => false,
         },
@@ -243,11 +247,17 @@ fn object_of(kernel: &Kernel, number: u32) -> Option<Kind> {
         .map(|object| kernel.object(object).kind)
 }
 
+/// The mutex that this call takes, if the caller is its holder.
+fn own_take(kernel: &Kernel, call: &Call) -> Option<Mutex> {
+    let Call::Take { object, .. } = *call else { return None };
+    kernel.find_mutex(object).map(|(_, mutex)| mutex).filter(|mutex| mutex.holder == Some(kernel.running))
+}
+
 /// Whether the call is for an object of this kind.
 fn fits(call: &Call, kind: Kind) -> bool {
     match call {
         Call::Send { .. } | Call::Receive { .. } => matches!(kind, Kind::Queue(_)),
-        Call::Take { .. } | Call::Give { .. } => matches!(kind, Kind::Mutex { .. }),
+        Call::Take { .. } | Call::Give { .. } => matches!(kind, Kind::Mutex(_)),
         _ => true,
     }
 }

@@ -68,7 +68,9 @@ fn retire_an_object(text: &mut String) {
     }
     for uses in 0..=LAST_USE {
         let object = number_of(OBJECT_SLOT, uses);
-        call(text, if uses % 2 == 0 { &[10, 2, 1] } else { &[11] });
+        // A queue and a mutex by turns; from one such use to the next the mutex is of the other kind.
+        let mutex = [if (uses / EACH).is_multiple_of(2) { 11 } else { 19 }];
+        call(text, if uses % 2 == 0 { &[10, 2, 1][..] } else { &mutex });
         if uses % EACH < 2 || uses == LAST_USE {
             for wrong in others(uses).map(|wrong| number_of(OBJECT_SLOT, wrong)) {
                 send(text, wrong);
@@ -90,9 +92,11 @@ fn retire_an_object(text: &mut String) {
     }
     // None at once; slot 9 once given up; then none again.
     call(text, &[11]);
+    call(text, &[19]);
     call(text, &[10, 2, 1]);
     call(text, &[12, 9]);
     call(text, &[10, 2, 1]);
     call(text, &[10, 2, 1]);
     call(text, &[11]);
+    call(text, &[19]);
 }

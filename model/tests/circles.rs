@@ -2,11 +2,11 @@
 
 mod common;
 
-use common::{go_on, line_of, object, repeat, session, task};
+use common::{any_held_by, go_on, line_of, object, repeat, session, task};
 use model::calls::{step, Answer, Call};
 use model::check::{has_circle, soundness};
 use model::journal::journal;
-use model::kernel::{Kernel, Kind, ObjectSlot, Outcome, Role, Stand, Task, TaskSlot, FOR_EVER};
+use model::kernel::{Kernel, Kind, Mutex, ObjectSlot, Outcome, Role, Stand, Task, TaskSlot, FOR_EVER};
 use model::line::{read_call, ITEM_BYTES};
 use model::machine::Machine;
 use model::random::Random;
@@ -326,7 +326,7 @@ fn a_take_turned_down_begins_and_lends_nothing() {
 fn waits_for(kernel: &Kernel) -> [[bool; 16]; 16] {
     let mut table = [[false; 16]; 16];
     for mutex in &kernel.objects {
-        if let Kind::Mutex { holder: Some(holder) } = mutex.kind {
+        if let Some(holder) = mutex.holder() {
             for waiter in &mutex.waiters {
                 table[waiter.index()][holder.index()] = true;
             }
@@ -361,8 +361,8 @@ fn exactly_if_on_random_journals() {
             assert!(!has_circle(&machine.kernel) && (0..16).all(|slot| !waits_for(&machine.kernel)[slot][slot]));
             let mut item = [0; ITEM_BYTES];
             let Some(Call::Take { object, .. }) = read_call(line, &mut item) else { continue };
-            let held = before.find_mutex(object).is_some_and(|(_, holder)| holder.is_some());
-            if matches!(answer, Answer::Refused(2..=12)) || !held {
+            let holder = before.find_mutex(object).and_then(|(_, mutex)| mutex.holder);
+            if matches!(answer, Answer::Refused(2..=12)) || holder.is_none_or(|holder| holder == before.running) {
                 assert_ne!(answer, Answer::Refused(17));
                 continue;
             }
@@ -386,13 +386,14 @@ fn tangle(random: &mut Random) -> Kernel {
     }
     for object in ObjectSlot::all() {
         let free = random.percent(10);
-        kernel.object_mut(object).kind = Kind::Mutex { holder: (!free).then(|| random.pick(&tasks)) };
+        let holder = random.pick(&tasks);
+        kernel.object_mut(object).kind =
+            if free { Kind::Mutex(Mutex::free(random.percent(50))) } else { any_held_by(holder, random) };
     }
     let objects: Vec<ObjectSlot> = ObjectSlot::all().collect();
     for _ in 0..40 {
         let (task, mutex) = (random.pick(&tasks[1..]), random.pick(&objects));
-        let held = kernel.object(mutex).kind != Kind::Mutex { holder: None };
-        if kernel.task(task).stand == Stand::Suspended && held {
+        if kernel.task(task).stand == Stand::Suspended && kernel.object(mutex).holder().is_some() {
             kernel.running = task;
             kernel.make_ready(task);
             if would_wait_for_itself(&kernel, mutex) {
@@ -410,29 +411,35 @@ fn tangle(random: &mut Random) -> Kernel {
 }
 
 /// Tangles that no journal reaches in few lines: both readings of the table give 17 exactly if the caller would wait for
-/// itself, with 12 before and 14 after it.
+/// itself, with 12 and 18 before and 14 after it.
 #[test]
 fn exactly_if_on_tangles() {
     let mut random = Random::new(6);
-    let (mut refused, mut others) = (0, 0);
+    let (mut refused, mut others, mut full) = (0, 0, 0);
     for _ in 0..2_000 {
         let kernel = tangle(&mut random);
         assert_eq!(soundness(&kernel), Ok(()));
         for mutex in ObjectSlot::all() {
             let call = Call::Take { object: kernel.object_number(mutex), wait: 0 };
-            let wanted = match kernel.object(mutex).kind {
-                Kind::Mutex { holder: Some(holder) } if holder == kernel.running => Some(12),
-                Kind::Mutex { holder: Some(_) } if would_wait_for_itself(&kernel, mutex) => Some(17),
-                Kind::Mutex { holder: Some(_) } => Some(14),
-                _ => None,
+            let (_, asked) = kernel.find_mutex(kernel.object_number(mutex)).unwrap();
+            let wanted = match asked.holder {
+                None => None,
+                Some(holder) if holder == kernel.running => match (asked.recursive, asked.count) {
+                    (false, _) => Some(12),
+                    (true, 255) => Some(18),
+                    (true, _) => None,
+                },
+                Some(_) if would_wait_for_itself(&kernel, mutex) => Some(17),
+                Some(_) => Some(14),
             };
             assert_eq!(refusal(&kernel, &[0; 9_216], &call), wanted);
             assert_eq!(refusal_by_rows(&kernel, &[0; 9_216], &call), wanted);
             refused += u32::from(wanted == Some(17));
             others += u32::from(wanted == Some(14));
+            full += u32::from(wanted == Some(18));
         }
     }
-    assert!(refused > 3_000 && others > 3_000, "{refused} {others}");
+    assert!(refused > 3_000 && others > 3_000 && full > 150, "{refused} {others} {full}");
 }
 
 /// In a kernel made by hand with a circle the chain of a take must still end, on the circle or before it.

@@ -21,7 +21,7 @@ fn empty_input_answers_nothing() {
 
 #[test]
 fn lines_that_are_no_call() {
-    let lines: [&[u8]; 47] = [
+    let lines: [&[u8]; 52] = [
         b"\n",
         b" \n",
         b"\t\n",
@@ -32,8 +32,13 @@ fn lines_that_are_no_call() {
         b"18\t1\t1\n",
         b"18\tab\n",
         b"18 1\n",
-        b"19\n",
+        b"19\t\n",
         b"19\t1\n",
+        b"19\t1\t1\n",
+        b"019\n",
+        b"19 \n",
+        b"20\n",
+        b"20\t1\n",
         b"99\n",
         b"017\n",
         b"00\n",
@@ -75,6 +80,7 @@ fn lines_that_are_no_call() {
     }
     assert_eq!(answers(b"17"), REFUSED);
     assert_eq!(answers(b"17\n17"), b"ok\t0\t0\nno\t3\t0\n");
+    assert_eq!(answers(b"19\n19"), b"ok\t0\t0\nno\t3\t0\n");
 }
 
 #[test]
@@ -95,7 +101,7 @@ fn answer_lines_of_every_length() {
         (Answer::Made(1_048_575), 1_048_575, b"ok\t1048575\t1048575\n"),
         (Answer::Waiting, 1_000_000, b"wait\t0\t1000000\n"),
         (Answer::Refused(3), 999_999, b"no\t3\t999999\n"),
-        (Answer::Refused(16), 1_048_575, b"no\t16\t1048575\n"),
+        (Answer::Refused(18), 1_048_575, b"no\t18\t1048575\n"),
     ];
     for (answer, running, line) in cases {
         let mut out = b"before".to_vec();
@@ -164,8 +170,8 @@ fn answers_do_not_depend_on_how_the_input_is_cut() {
 
 #[test]
 fn damaged_lines_are_no_calls() {
-    let drafts: [&[&str]; 6] =
-        [&["17"], &["1", "3"], &["5", "1", "2"], &["13", "0", "0a0b", "5"], &["15", "0", "0"], &["18", "7"]];
+    let drafts: [&[&str]; 7] =
+        [&["17"], &["1", "3"], &["5", "1", "2"], &["13", "0", "0a0b", "5"], &["15", "0", "0"], &["18", "7"], &["19"]];
     let mut random = Random::new(1);
     for kind in damage::KINDS {
         for round in 0..500 {

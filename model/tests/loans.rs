@@ -2,12 +2,12 @@
 
 mod common;
 
-use common::{go_on, line_of, object, repeat, session, task};
+use common::{any_held_by, go_on, held_by, line_of, object, repeat, session, task};
 use model::calls::{step, Answer, Call};
 use model::chains::chain;
 use model::check::{has_circle, soundness};
 use model::journal::journal;
-use model::kernel::{Kernel, Kind, ObjectSlot, Outcome, Role, Stand, TaskSlot};
+use model::kernel::{Kernel, ObjectSlot, Outcome, Role, Stand, TaskSlot};
 use model::loans::{by_search, by_walks};
 use model::machine::Machine;
 use model::random::Random;
@@ -55,7 +55,7 @@ fn a_loan_ends_by_timeout_and_the_mutex_stays_held() {
     let mut machine = parlour(100, 2);
     go_on(&mut machine, "17 -> ok 0 1\n17 -> ok 0 3");
     assert_eq!(effective(&machine, [1, 2, 3]), [5, 5, 9]);
-    assert_eq!(machine.kernel.object(object(1)).kind, Kind::Mutex { holder: Some(task(2)) });
+    assert_eq!(machine.kernel.object(object(1)).kind, held_by(2));
     assert_eq!(machine.kernel.task(task(3)).outcome, Outcome::TimeRanOut);
     // The running task was moved, and heads the line of 5; the next to come stands behind it.
     assert_eq!(line_of(&machine.kernel, 5), [1]);
@@ -445,7 +445,7 @@ fn by_rounds(kernel: &Kernel) -> [u8; 16] {
     for _ in 0..16 {
         let last = effective;
         for object in &kernel.objects {
-            if let Kind::Mutex { holder: Some(holder) } = object.kind {
+            if let Some(holder) = object.holder() {
                 let most = object.waiters.iter().map(|waiter| last[waiter.index()]).max().unwrap_or(0);
                 effective[holder.index()] = effective[holder.index()].max(most);
             }
@@ -482,13 +482,13 @@ fn tangle(random: &mut Random) -> Kernel {
         kernel.task_mut(task).stand = Stand::Suspended;
     }
     for object in ObjectSlot::all() {
-        kernel.object_mut(object).kind = Kind::Mutex { holder: Some(random.pick(&tasks)) };
+        kernel.object_mut(object).kind = any_held_by(random.pick(&tasks), random);
     }
     let objects: Vec<ObjectSlot> = ObjectSlot::all().collect();
     let percent = random.pick(&[30, 60, 90, 100]);
     for &task in &tasks {
         let object = random.pick(&objects);
-        if random.percent(percent) && kernel.object(object).kind != (Kind::Mutex { holder: Some(task) }) {
+        if random.percent(percent) && kernel.object(object).holder() != Some(task) {
             kernel.task_mut(task).stand = Stand::Waiting { object, role: Role::Taker, wake: None };
             kernel.object_mut(object).waiters.push(task);
             kernel.began.push(task);

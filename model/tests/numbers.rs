@@ -80,7 +80,9 @@ fn nothing_else_makes_a_use_go_up() {
          2 17 -> no 5 2
          12 17 -> no 5 2
          1 1 -> ok 3 2
-         11 -> ok 2 2",
+         11 -> ok 2 2
+         19 -> ok 3 2
+         18 1 -> ok 0 33",
     );
     assert_eq!(uses(&machine.kernel), before);
 }
@@ -163,7 +165,7 @@ fn the_running_field_has_the_full_number() {
     go_on(
         &mut machine,
         "17 -> ok 0 33
-         19 -> no 3 33
+         20 -> no 3 33
          6 1 -> wait 0 2
          6 1 -> wait 0 0
          17 -> ok 0 33
@@ -278,9 +280,12 @@ fn no_slot_that_may_still_be_used() {
         go_on(&mut machine, &format!("1 0 -> ok {slot} 0\n11 -> ok {slot} 0"));
     }
     // Slot 2 is free, and 9 is given.
-    go_on(&mut machine, "1 0 -> no 9 0\n1 32 -> no 4 0\n11 -> no 9 0\n10 1 1 -> no 9 0\n10 0 1 -> no 4 0");
+    go_on(
+        &mut machine,
+        "1 0 -> no 9 0\n1 32 -> no 4 0\n11 -> no 9 0\n10 1 1 -> no 9 0\n10 0 1 -> no 4 0\n19 -> no 9 0",
+    );
     go_on(&mut machine, "2 15 -> ok 0 0\n12 15 -> ok 0 0\n1 0 -> ok 31 0\n10 1 1 -> ok 31 0");
-    go_on(&mut machine, "1 0 -> no 9 0\n11 -> no 9 0");
+    go_on(&mut machine, "1 0 -> no 9 0\n11 -> no 9 0\n12 31 -> ok 0 0\n19 -> ok 47 0\n19 -> no 9 0");
 }
 
 #[test]
@@ -296,7 +301,7 @@ fn all_slots_retired() {
         let number = 1_048_560 + slot;
         go_on(&mut machine, &format!("11 -> ok {number} 0\n12 {number} -> ok 0 0"));
     }
-    go_on(&mut machine, "1 0 -> no 9 0\n11 -> no 9 0\n10 1 1 -> no 9 0\n7 -> ok 0 0\n17 -> ok 0 0");
+    go_on(&mut machine, "1 0 -> no 9 0\n11 -> no 9 0\n10 1 1 -> no 9 0\n19 -> no 9 0\n7 -> ok 0 0\n17 -> ok 0 0");
     assert!(machine.kernel.tasks[1..].iter().all(|slot| slot.is_free() && slot.uses == 65_536));
     assert!(machine.kernel.objects.iter().all(|slot| slot.is_free() && slot.uses == 65_536));
 }
@@ -336,8 +341,9 @@ fn the_journal_that_retires_slots() {
     // 65,536 times in and out, twice; 14 and 15 others; two used again. Nothing but 5 and 9 is refused.
     assert!(count("ok\t") > 4 * 65_536 + 14 + 15 + 2 * 2);
     assert!(count("no\t5\t") > 40_000);
-    assert_eq!(count("no\t9\t"), 6);
+    assert_eq!(count("no\t9\t"), 8);
     assert_eq!(count("ok\t") + count("no\t5\t") + count("no\t9\t"), lines);
     assert_eq!((count("ok\t1048561\t1048561"), count("ok\t1048575\t")), (1, 1));
-    assert!(answers.ends_with("no\t9\t2\nno\t9\t2\nok\t0\t2\nok\t25\t2\nno\t9\t2\nno\t9\t2\n"));
+    let none = "no\t9\t2\n".repeat(3);
+    assert!(answers.ends_with(&format!("{none}ok\t0\t2\nok\t25\t2\n{none}")));
 }

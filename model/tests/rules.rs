@@ -2,9 +2,9 @@
 
 mod common;
 
-use common::{go_on, line_of, object, repeat, session, slip, task};
+use common::{go_on, held_by, line_of, object, repeat, session, slip, task};
 use model::calls::{step, Answer, Call};
-use model::kernel::{Kernel, Kind, Outcome, Stand};
+use model::kernel::{Kernel, Outcome, Stand};
 use model::machine::Machine;
 
 #[test]
@@ -14,6 +14,7 @@ fn a_wrong_store_is_refused_on_every_call() {
         let mut store = vec![0; length];
         assert_eq!(step(&mut kernel, &mut store, &Call::Yield), Answer::Refused(2));
         assert_eq!(step(&mut kernel, &mut store, &Call::Create { priority: 99 }), Answer::Refused(2));
+        assert_eq!(step(&mut kernel, &mut store, &Call::MakeRecursiveMutex), Answer::Refused(2));
     }
     assert_eq!(kernel, Kernel::fresh());
 }
@@ -218,7 +219,7 @@ fn the_next_task_in_a_slot_holds_nothing() {
          16 0 -> no 11 17
          15 0 0 -> ok 0 17",
     );
-    assert_eq!(machine.kernel.object(object(0)).kind, Kind::Mutex { holder: Some(task(1)) });
+    assert_eq!(machine.kernel.object(object(0)).kind, held_by(1));
 }
 
 #[test]

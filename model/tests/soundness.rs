@@ -2,9 +2,9 @@
 
 mod common;
 
-use common::{object, order_of, session, task};
+use common::{held_by, object, order_of, session, task};
 use model::check::soundness;
-use model::kernel::{Kernel, Kind, Outcome, Queue, Role, Stand};
+use model::kernel::{Kernel, Kind, Mutex, Outcome, Queue, Role, Stand};
 
 /// Task 1 (priority 3, holds mutex 0) runs; task 2 (5) waits on it; task 3 (4) is ready;
 /// task 4 (9) is delayed; task 5 waits on the empty queue 1; task 6 is suspended; task 7 waits behind task 5.
@@ -44,12 +44,18 @@ const ORDER_ONCE: &str = "the order has each of them once";
 const ORDER_ELSE: &str = "the order has no one else";
 const ORDER_AGREES: &str = "the order agrees with each object's list";
 const CIRCLE: &str = "there is no circle";
+const COUNT: &str = "the count of a held mutex is 1 to 255, of an ordinary one 1";
+const NO_COUNT: &str = "a free mutex has no count";
 const LOANS: &str = "effective is what the rule of loans says";
 const MOST: &str = "a use is at most 65,536";
 const MOST_TAKEN: &str = "in a taken slot 65,535";
 
 fn queue(capacity: u8, size: u8, first: u8, count: u8) -> Kind {
     Kind::Queue(Queue { capacity, size, first, count })
+}
+
+fn mutex(recursive: bool, holder: Option<usize>, count: u32) -> Kind {
+    Kind::Mutex(Mutex { recursive, holder: holder.map(task), count })
 }
 
 #[test]
@@ -70,6 +76,17 @@ fn the_largest_uses_are_sound() {
     assert_eq!(soundness(&kernel), Ok(()));
 }
 
+#[test]
+fn every_count_from_1_to_255_is_sound() {
+    for count in 1..=255 {
+        let mut kernel = busy();
+        kernel.objects[0].kind = mutex(true, Some(1), count);
+        kernel.objects[2].kind = mutex(true, Some(6), count);
+        kernel.objects[3].kind = mutex(true, None, 0);
+        assert_eq!(soundness(&kernel), Ok(()), "{count}");
+    }
+}
+
 /// The lists of objects say nothing on a delayed task, nor on waiters of two objects.
 #[test]
 fn the_order_of_others_is_free() {
@@ -84,7 +101,7 @@ fn the_order_of_others_is_free() {
 /// Task 6 (9) waits on mutex 2, which task 2 holds: its loan goes to task 2, and along the chain to task 1.
 fn chained() -> Kernel {
     let mut kernel = busy();
-    kernel.objects[2].kind = Kind::Mutex { holder: Some(task(2)) };
+    kernel.objects[2].kind = held_by(2);
     kernel.objects[2].waiters.push(task(6));
     kernel.tasks[6].stand = Stand::Waiting { object: object(2), role: Role::Taker, wake: None };
     kernel.began.push(task(6));
@@ -126,7 +143,7 @@ fn a_circle_is_not_sound() {
     }
     // Tasks 1, 2 and 6: task 1 waits on mutex 3, which task 6 holds.
     let mut kernel = chained();
-    kernel.objects[3].kind = Kind::Mutex { holder: Some(task(6)) };
+    kernel.objects[3].kind = held_by(6);
     assert_eq!(soundness(&kernel), Ok(()));
     assert_eq!(soundness(&closed(kernel, 3)), Err(CIRCLE.to_string()));
 }
@@ -135,7 +152,7 @@ fn a_circle_is_not_sound() {
 fn what_is_no_circle_is_sound() {
     // Task 1 waits on mutex 3, and its holder, task 3, waits for nobody, is suspended, or waits on queue 1.
     let mut kernel = chained();
-    kernel.objects[3].kind = Kind::Mutex { holder: Some(task(3)) };
+    kernel.objects[3].kind = held_by(3);
     let mut kernel = closed(kernel, 3);
     kernel.set_effective(task(3), 9);
     assert_eq!(soundness(&kernel), Ok(()));
@@ -151,13 +168,13 @@ fn what_is_no_circle_is_sound() {
 
 #[test]
 fn each_breach_is_found() {
-    let breaches: [Breach; 57] = [
+    let breaches: [Breach; 70] = [
         ("idle suspended", IDLE, |k| {
             k.leave_line(task(0));
             k.tasks[0].stand = Stand::Suspended;
         }),
         ("idle raised", IDLE, |k| k.set_effective(task(0), 1)),
-        ("idle holds", "idle never waits or holds", |k| k.objects[2].kind = Kind::Mutex { holder: Some(task(0)) }),
+        ("idle holds", "idle never waits or holds", |k| k.objects[2].kind = held_by(0)),
         ("ready task in no line", ONCE, |k| k.leave_line(task(3))),
         ("ready task twice", ONCE, |k| k.lines[4].push(task(3))),
         ("ready task in another line", "in the line of its effective priority", |k| k.tasks[3].effective = 6),
@@ -175,11 +192,11 @@ fn each_breach_is_found() {
             k.tasks[5].stand = Stand::Waiting { object: object(1), role: Role::Sender, wake: None }
         }),
         ("taker on a free mutex", "a waiter fits its object", |k| {
-            k.objects[0].kind = Kind::Mutex { holder: None };
+            k.objects[0].kind = Kind::Mutex(Mutex::free(false));
             k.tasks[1].own = 5;
         }),
         ("taker is the holder", "takers only on a mutex held by another", |k| {
-            k.objects[0].kind = Kind::Mutex { holder: Some(task(2)) };
+            k.objects[0].kind = held_by(2);
             k.tasks[1].own = 5;
         }),
         ("waiter listed twice", "each object lists its waiters once", |k| k.objects[0].waiters.push(task(2))),
@@ -205,13 +222,34 @@ fn each_breach_is_found() {
         ("effective below own", LOANS, |k| k.tasks[6].own = 10),
         ("loan without a mutex", LOANS, |k| k.tasks[6].own = 1),
         ("loan of nobody", LOANS, |k| {
-            k.objects[2].kind = Kind::Mutex { holder: Some(task(6)) };
+            k.objects[2].kind = held_by(6);
             k.tasks[6].effective = 10;
         }),
         ("loan too large", LOANS, |k| k.set_effective(task(1), 6)),
         ("loan too small", LOANS, |k| (k.tasks[2].own, k.tasks[2].effective) = (6, 6)),
         ("loan of a waiter on a queue", LOANS, |k| (k.tasks[5].own, k.tasks[5].effective) = (3, 9)),
-        ("holder does not exist", "holders exist", |k| k.objects[2].kind = Kind::Mutex { holder: Some(task(9)) }),
+        ("holder does not exist", "holders exist", |k| k.objects[2].kind = held_by(9)),
+        ("held at count 0", COUNT, |k| k.objects[0].kind = mutex(true, Some(1), 0)),
+        ("held at count 0, nobody waits", COUNT, |k| k.objects[2].kind = mutex(true, Some(6), 0)),
+        ("held at count 256", COUNT, |k| k.objects[0].kind = mutex(true, Some(1), 256)),
+        ("held at count 256, nobody waits", COUNT, |k| k.objects[2].kind = mutex(true, Some(6), 256)),
+        ("ordinary mutex at count 0", COUNT, |k| k.objects[0].kind = mutex(false, Some(1), 0)),
+        ("ordinary mutex at count 2", COUNT, |k| k.objects[0].kind = mutex(false, Some(1), 2)),
+        ("count 1 of nobody", NO_COUNT, |k| k.objects[2].kind = mutex(true, None, 1)),
+        ("count 255 of nobody", NO_COUNT, |k| k.objects[2].kind = mutex(true, None, 255)),
+        ("count of nobody, ordinary mutex", NO_COUNT, |k| k.objects[2].kind = mutex(false, None, 1)),
+        ("taker on a free recursive mutex", "a waiter fits its object", |k| {
+            k.objects[0].kind = mutex(true, None, 0);
+            k.tasks[1].own = 5;
+        }),
+        ("taker is the holder of a recursive mutex", "takers only on a mutex held by another", |k| {
+            k.objects[0].kind = mutex(true, Some(2), 2);
+            k.tasks[1].own = 5;
+        }),
+        ("idle holds a recursive mutex", "idle never waits or holds", |k| k.objects[2].kind = mutex(true, Some(0), 2)),
+        ("holder of a recursive mutex does not exist", "holders exist", |k| {
+            k.objects[2].kind = mutex(true, Some(9), 2)
+        }),
         ("wake tick is the count", "no wake tick of a delayed or waiting task equals the tick count", |k| k.tick = 7),
         ("priority out of range", RANGES, |k| (k.tasks[6].own, k.tasks[6].effective) = (32, 32)),
         ("first out of range", RANGES, |k| k.objects[1].kind = queue(2, 1, 2, 0)),

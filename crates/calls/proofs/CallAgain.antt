@@ -11,7 +11,7 @@ use lib.Seq.{sets, length-sets}
 use borrow.Author.Tests.{eqb-true, leb-true}
 use Rattle.lists.specs.Lists.{any, index, every, allBelow}
 use Rattle.lists.proofs.Bools.{at, all-below, or-second}
-use Rattle.calls.specs.Types.{Call, Create, Delete, Suspend, Resume, SetPriority, Delay, Yield, Hold, Release, MakeQueue, MakeMutex, Remove, Send, Receive, Take, Give, Tick, Advance}
+use Rattle.calls.specs.Types.{Call, Create, Delete, Suspend, Resume, SetPriority, Delay, Yield, Hold, Release, MakeQueue, MakeMutex, Remove, Send, Receive, Take, Give, Tick, Advance, MakeRecursive}
 use Rattle.calls.specs.Types.{Uses, Names, Shape, Frame, Asked}
 use Rattle.calls.specs.Table.{called, word, entries, callOf}
 use Rattle.calls.specs.Behind.{asked}
@@ -46,19 +46,19 @@ module _ {A : Type 0} (f : Call → A) (g : List ℕ → Shape → A)
 -- ---- the number
 
 -- a number past the table is no call's
-pub known-below : (n : ℕ) → shapeOf n .known ≡ true → n < 19
+pub known-below : (n : ℕ) → shapeOf n .known ≡ true → n < 20
 unfolding shapeOf index any
 known-below n k =
-    ⊎-elim (λ (l : n < 19). l)
-    (λ (l : 19 ≤ n). absurd (false≢true (sym (ap (λ (s : Shape). s .known) (List·getD-eq-default shapes unknown {n = n} l)) ∙ k)))
-    (below-or n 19)
+    ⊎-elim (λ (l : n < 20). l)
+    (λ (l : 20 ≤ n). absurd (false≢true (sym (ap (λ (s : Shape). s .known) (List·getD-eq-default shapes unknown {n = n} l)) ∙ k)))
+    (below-or n 20)
 
 -- the number of a shape that is known is the call's
 pub row-number : (n : ℕ) (ws : List ℕ) → shapeOf n .known ≡ true → called (callOf n ws) .number ≡ n
 unfolding shapeOf callOf allBelow index any
 row-number n ws k =
     let t : (not (shapeOf n .known) || eqb (numbered n) n) ≡ true =
-    all-below 19 (λ m. not (shapeOf m .known) || eqb (numbered m) m) refl n (known-below n k) in
+    all-below 20 (λ m. not (shapeOf m .known) || eqb (numbered m) m) refl n (known-below n k) in
     sym (List·getD-map (λ c. called c .number) (entries ws) n Tick)
     ∙ eqb-true (numbered n) n (or-second (not (shapeOf n .known)) (eqb (numbered n) n) t (rw k refl))
   where
@@ -116,6 +116,7 @@ call-again (Take o w) = again _ _ _ refl refl refl
 call-again (Give o) = again _ _ _ refl refl refl
 call-again Tick = again _ _ _ refl refl refl
 call-again (Advance n) = again _ _ _ refl refl refl
+call-again MakeRecursive = again _ _ _ refl refl refl
 
 pub frame-five : (c : Call) → length (frameOf c .words) ≡ 5
 frame-five c = length-sets noWords 0 (numbersIn (fieldsOf c))

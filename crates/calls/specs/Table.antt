@@ -1,9 +1,9 @@
--- The table of calls: "Call numbers 1 to 17, arguments in this order"; and "call 18, advance: n ticks".
+-- The table of calls: "Call numbers 1 to 17, arguments in this order"; "call 18, advance: n ticks", "call 19, make recursive mutex".
 use Prim.Native.Nat.{ℕ}
 use mathlib.Core.List.{List, [], _∷_}
 use lib.ListN.{getD}
 use Rattle.calls.specs.Types.{TaskNo, ObjNo, Call, Create, Delete, Suspend, Resume, SetPriority, Delay, Yield, Hold, Release}
-use Rattle.calls.specs.Types.{MakeQueue, MakeMutex, Remove, Send, Receive, Take, Give, Tick, Advance}
+use Rattle.calls.specs.Types.{MakeQueue, MakeMutex, Remove, Send, Receive, Take, Give, Tick, Advance, MakeRecursive}
 use Rattle.calls.specs.Named.{taskOf, objectOf}
 
 -- an argument, and what it stands for; the bytes of an item are lent beside the call
@@ -40,6 +40,7 @@ called (Take o w) = entry 15 (aMutex o ∷ aWait w ∷ [])
 called (Give o) = entry 16 (aMutex o ∷ [])
 called Tick = entry 17 []
 called (Advance n) = entry 18 (someTicks n ∷ [])
+called MakeRecursive = entry 19 []
 
 -- a word of a call, and 0 past the last
 abbrev pub word : List ℕ → ℕ → ℕ
@@ -67,6 +68,7 @@ calls ws =
     ∷ Give (objectOf (word ws 0))
     ∷ Tick
     ∷ Advance (word ws 0)
+    ∷ MakeRecursive
     ∷ []
 
 -- all rows, by number; no call has the number 0

@@ -1,4 +1,4 @@
-// What is asked of the kernel, and what it answers: two kinds of number, the 18 calls, the four answers.
+// What is asked of the kernel, and what it answers: two kinds of number, the 19 calls, the four answers.
 mod behind;
 mod door;
 mod named;
@@ -19,7 +19,7 @@ pub struct Uses {
     pub objects: [u16; 16],
 }
 
-// The 18 calls. The bytes of a sent item are lent beside the call.
+// The 19 calls. The bytes of a sent item are lent beside the call.
 pub enum Call {
     Create(u32),
     Delete(TaskNo),
@@ -39,6 +39,7 @@ pub enum Call {
     Give(ObjNo),
     Tick,
     Advance(u32),
+    MakeRecursive,
 }
 
 pub enum Answer {

@@ -31,6 +31,7 @@ impl Call {
             16 => Call::Give(ObjNo(a)),
             17 => Call::Tick,
             18 => Call::Advance(a),
+            19 => Call::MakeRecursive,
             _ => Call::Tick,
         }
     }

@@ -43,6 +43,7 @@ impl Call {
             Call::Give(o) => Frame::of(16, Names::Mutex, o.0, 0),
             Call::Tick => Frame::of(17, Names::Nothing, 0, 0),
             Call::Advance(n) => Frame::of(18, Names::Nothing, n, 0),
+            Call::MakeRecursive => Frame::of(19, Names::Nothing, 0, 0),
         }
     }
 }
@@ -66,7 +67,7 @@ impl Shape {
         ensures { λ r. ⌜ r ≡ shapeOf number ⌝ }
     {
         match number {
-            7..=9 | 11 | 17 => Shape::plain(0),
+            7..=9 | 11 | 17 | 19 => Shape::plain(0),
             1..=4 | 6 | 12 | 16 | 18 => Shape::plain(1),
             5 | 10 | 14..=15 => Shape::plain(2),
             13 => Shape {

@@ -26,6 +26,8 @@ use Rattle.rules.proofs.SoundSays.{sound-says}
 use Rattle.kernel.proofs.Shown.{shown-of}
 use Rattle.promises.proofs.Gate.{both-sides-of-the-gate}
 use Rattle.promises.proofs.TurnedAway.{decided}
+use Rattle.promises.proofs.WholeRound.{whole-round}
+use Rattle.histories.proofs.Counted.{program-counts}
 use Rattle.promises.proofs.Advances.{advance-is-ticks, advance-refused, sleeps-so}
 use Rattle.promises.proofs.Lendings.{only-the-rule}
 use Rattle.promises.proofs.Circles.{chain-ends}
@@ -37,10 +39,11 @@ use Rattle.histories.proofs.NeverAgain.{never-again-task, never-again-object, m
 use Rattle.histories.proofs.EarlierSteps.{each-began}
 use Rattle.histories.proofs.EarlierWakes.{woken-in-order}
 use Rattle.claims.specs.Types.{Call, Read}
-use Rattle.claims.specs.Claims.{Code, Values, Refused, Ruled, Journalled, Kept, NeverAgain, EarlierFirst, Sleeping, Lending, NoStandstill, Claims}
+use Rattle.claims.specs.Claims.{Code, Values, Refused, Ruled, Journalled, Kept, NeverAgain, EarlierFirst, Sleeping, Lending, NoStandstill, TakenAgain, Claims}
 use Rattle.claims.proofs.Values.{test-says, says-test, full-stands}
 use Rattle.claims.proofs.Exact.{step-exactly, accepted-so, unsound-stays}
 use Rattle.claims.proofs.Lending.{rule-of-value, afresh-of-value, step-none-lent}
+use Rattle.claims.proofs.Recursion.{ordinary-on, makes-on, takes-on, gives-on, ordinary-stays, calls-count, calls-give, session-counts}
 use Rattle.claims.proofs.Standstill.{take-exactly, calls-make-none, lines-make-none, session-makes-none, circle-not-sound}
 use Rattle.claims.proofs.Unique.{line-so}
 use Rattle.claims.proofs.Fitting.{total}
@@ -148,6 +151,21 @@ no-standstill =
       chain-ends = λ k e. chain-ends (shown k) (sound-says (shown k) e);
     }
 
+taken-again : TakenAgain
+taken-again =
+    record {
+      makes = λ k e item s z r after g. makes-on k e item s r after z g;
+      takes = λ k e n c w H item s z r after g. takes-on k e item s r after z n c w H g;
+      gives = λ k e n c H item s z r after g. gives-on k e item s r after z n c H g;
+      counted = calls-count;
+      lines-counted = program-counts;
+      session-counted = λ ts p f c. session-counts ts p c;
+      gives-by-history = calls-give;
+      whole-round = whole-round;
+      ordinary = λ k e n w H item s z r after g. ordinary-stays k e item s r after z n w H g;
+      as-ordinary = λ k e c item s r after g. ordinary-on k e item s r after c g;
+    }
+
 pub claims : Claims
 claims =
     record {
@@ -163,4 +181,5 @@ claims =
       sleeping = sleeping;
       lending = lending;
       no-standstill = no-standstill;
+      taken-again = taken-again;
     }

@@ -5,5 +5,6 @@ pub mod Runs
 pub mod Fitting
 pub mod Reaching
 pub mod Standstill
+pub mod Recursion
 pub mod Lending
 pub mod Claimed

@@ -40,16 +40,19 @@ use Rattle.promises.specs.ByLines.{LineSteps, ProgramAnswers}
 use Rattle.promises.specs.Turns.{Turn, cameIn}
 use Rattle.promises.specs.Reached.{programCalls}
 use Rattle.promises.specs.Circles.{CirclesExactly, ChainEnds}
+use Rattle.promises.specs.Recursive.{MakesRecursive, HasOf, Has, TakesAgain, KeepsTwelve, GivesBack, AsOrdinary}
+use Rattle.promises.specs.WholeRound.{wholeRound}
 use Rattle.promises.specs.Lending.{RuleHolds, Afresh, SameLoans, SameLevels, NotSlow}
-use Rattle.promises.specs.Advance.{singly, atFirst, AsTicks, AdvanceRefused, SleepsSo, FewWakings}
+use Rattle.promises.specs.Advance.{singly, doneWith, AsTicks, AdvanceRefused, SleepsSo, FewWakings}
 use Rattle.histories.specs.ByFullNumber.{Numbered}
 use Rattle.histories.specs.Given.{LentByRule}
 use Rattle.histories.specs.Uses.{UsesCount}
+use Rattle.histories.specs.Counted.{CountsTakes, GivesByHistory}
 use Rattle.histories.specs.Earlier.{EachBegan, Earlier, WokenInOrder}
 use Rattle.histories.specs.Again.{namesTask, namesObject, momentFrom, madeTask, madeObject}
-use Rattle.claims.specs.Types.{TaskNo, Call, Take, Advance, Answer, Asked, Read, Says, Written, Count, State, Kernel, Sleep, Step, Session, Served}
+use Rattle.claims.specs.Types.{TaskNo, Call, Take, Give, Advance, MakeRecursive, Answer, Asked, Ordinary, Read, Says, Written, Count, State, Kernel, Sleep, Step, Session, Served}
 use Rattle.claims.specs.Values.{SoundValue, Full, Stands}
-use Rattle.claims.specs.Exact.{ValueRefused, ValueAccepted, tableFor, ValueExactly}
+use Rattle.claims.specs.Exact.{shownStep, ValueRefused, ValueAccepted, tableFor, ValueExactly}
 use Rattle.claims.specs.Runs.{Called, Port, servedTo, Turned, freshPort, portOutcome, CameTo}
 
 -- one value fits, and no second
@@ -172,7 +175,7 @@ pub record EarlierFirst : Type 0 where
 -- and not held, whatever the store; and what the board's answer is worth, of every kernel value.
 pub record Sleeping : Type 0 where
   pub advance : (k : Kernel) → sound (shown k) ≡ true → shown k .hold ≡ 0 → (item store : List ℕ) (n : ℕ) → 1 ≤ n → n ≤ 65535 → (r : Step) (after : List ℕ)
-      → Steps k (Advance n) item store r after → Is k (singly n (atFirst (shown k) store)) r after
+      → Steps k (Advance n) item store r after → Is k (singly n (doneWith (shown k) store)) r after
   pub as-ticks : (k : Kernel) → sound (shown k) ≡ true → shown k .hold ≡ 0 → (item store : List ℕ) (n : ℕ) → 1 ≤ n → n ≤ 65535 → AsTicks (shown k) item store n
   pub refused : (k : Kernel) → sound (shown k) ≡ true → (item store : List ℕ) (n : ℕ) → length store ≡ 9216 → AdvanceRefused (shown k) item store n
   pub sleeps : (k : Kernel) → SleepsSo (shown k)
@@ -199,7 +202,8 @@ pub record Lending : Type 0 where
 -- "Do not let two tasks wait on each other. At one parlour both sat still until someone pulled the plug."
 pub record NoStandstill : Type 0 where
   -- "exactly if the chain from that mutex's holder, through mutexes being waited on, leads back to the caller": where no row before 17 applies, a take is refused 17 exactly if
-  -- that is so, and exactly if accepting it would have made a circle; the kernel, were it not held, would not have been sound for just that reason
+  -- that is so and the holder is another, since of a recursive mutex "its holder's take is no circle", and exactly if accepting it would have made a circle; the kernel, were it
+  -- not held, would not have been sound for just that reason
   pub exactly : (k : Kernel) → sound (shown k) ≡ true → (n : ObjNo) (w : ℕ) (item store : List ℕ) (r : Step) (after : List ℕ) → Steps k (Take n w) item store r after
       → CirclesExactly (shown k) n (tableFor k (Take n w) item store) (said (r .answer))
   -- "From a fresh kernel no circle can then arise": of whatever length, after any calls, refused ones among them, after every line of every journal, and at any time of a session
@@ -210,6 +214,35 @@ pub record NoStandstill : Type 0 where
   pub not-sound : (k : Kernel) (t : TaskSlot) → Circle (asRows (k .core) (k .uses) .tasks) (asRows (k .core) (k .uses) .objects) t → sound (shown k) ≡ false
   -- so nobody waits round a circle: in a sound kernel every chain of waits ends at a task that is there and waits on no mutex
   pub chain-ends : (k : Kernel) → sound (shown k) ≡ true → (t : TaskSlot) → Exists (shown k .tasks) t → ChainEnds (shown k) t
+
+-- "A task may take its own mutex again. The calibration routine calls the meter routine, and both take." Of each kernel value that is sound, and of what a step of the code shows.
+pub record TakenAgain : Type 0 where
+  -- "Add call 19, make recursive mutex": as 11, and nobody's
+  pub makes : (k : Kernel) → sound (shown k) ≡ true → (item store : List ℕ) → length store ≡ 9216 → (r : Step) (after : List ℕ) → Steps k MakeRecursive item store r after
+      → MakesRecursive (shown k) store (shownStep r after)
+  -- where the caller has it c times: "Its holder may take it again, up to 255 times in all": the count goes up, and nothing else changes; at 255 it is refused 18; with a hold it may
+  -- be taken with wait 0 alone
+  pub takes : (k : Kernel) → sound (shown k) ≡ true → (n : ObjNo) (c w : ℕ) → Has (shown k) n c → (item store : List ℕ) → length store ≡ 9216
+      → (r : Step) (after : List ℕ) → Steps k (Take n w) item store r after → TakesAgain (shown k) n c w store (shownStep r after)
+  -- "each give takes one off; only the last hands it on, at count 1, or frees it": any other changes nothing but the count, and the last does exactly that
+  pub gives : (k : Kernel) → sound (shown k) ≡ true → (n : ObjNo) (c : ℕ) → Has (shown k) n c → (item store : List ℕ) → length store ≡ 9216
+      → (r : Step) (after : List ℕ) → Steps k (Give n) item store r after → GivesBack (shown k) n c store (shownStep r after)
+  -- over any history from the fresh kernel the count is the number of accepted takes since it became the holder's less the accepted gives: after any calls, refused ones among
+  -- them, after every line of every journal, and at any time of a session
+  pub counted : (ms : List CallMade) (k : Kernel) → Called (kernelOf fresh) ms k → CountsTakes ms (shown k)
+  pub lines-counted : (ls : List (List ℕ)) → CountsTakes (programCalls ls) (answering fresh (replicate 9216 0) ls .kernel)
+  pub session-counted : (ts : List Turn) (p : Port) → Turned freshPort ts p → (c : CameTo ts p) → CountsTakes (programCalls (linesOf (c .taken))) (shown (p .session .kernel))
+  -- and a give frees it or hands it on exactly if that number is 1
+  pub gives-by-history : (ms : List CallMade) (k : Kernel) → Called (kernelOf fresh) ms k → (n : ObjNo) (c : ℕ) → Has (shown k) n c → (item store : List ℕ) → length store ≡ 9216
+      → (r : Step) (after : List ℕ) → Steps k (Give n) item store r after → GivesByHistory ms (shown k) n store (shownStep r after)
+  -- 255 takes, the 256th refused 18, 255 gives, and the same by whoever waited
+  pub whole-round : ran wholeRound ≡ wholeRound .expected
+  -- "Ordinary mutexes keep refusal 12"
+  pub ordinary : (k : Kernel) → sound (shown k) ≡ true → (n : ObjNo) (w : ℕ) → HasOf (shown k) n Ordinary → (item store : List ℕ) → length store ≡ 9216
+      → (r : Step) (after : List ℕ) → Steps k (Take n w) item store r after → KeepsTwelve (shown k) w store (shownStep r after)
+  -- and every call but those takes and gives does of a recursive one what it does of an ordinary one
+  pub as-ordinary : (k : Kernel) → sound (shown k) ≡ true → (c : Call) (item store : List ℕ) (r : Step) (after : List ℕ) → Steps k c item store r after
+      → AsOrdinary (shown k) c item store (shownStep r after)
 
 pub record Claims : Type 2 where
   pub code : Code
@@ -224,3 +257,4 @@ pub record Claims : Type 2 where
   pub sleeping : Sleeping
   pub lending : Lending
   pub no-standstill : NoStandstill
+  pub taken-again : TakenAgain

@@ -9,10 +9,14 @@ use Rattle.calls.specs.Said.{says, said, refused}
 use Rattle.rules.specs.Tables.{withUses}
 use Rattle.rules.specs.Lines.{chosen}
 use Rattle.rows.specs.Applies.{Row}
-use Rattle.rules.specs.Steps.{answered, stored, usesAfter, after as afterCall}
+use Rattle.rules.specs.Steps.{Stepped, answered, stored, usesAfter, after as afterCall}
 use Rattle.kernel.specs.Stands.{kernelOf, shown}
 use Rattle.promises.specs.TurnedAway.{wholeTable, First, None}
 use Rattle.claims.specs.Types.{Call, Kernel, Step}
+
+-- what a step shows: the state of its kernel value, what it answers, and the store
+abbrev pub shownStep : Step → List ℕ → Stepped
+shownStep r after = record { kernel = shown (r .kernel); answer = said (r .answer); store = after }
 
 -- r and the store `after` are a refusal n: it carries its number, and the kernel value and all lent bytes stay
 pub record ValueRefused (k : Kernel) (s : List ℕ) (n : ℕ) (r : Step) (after : List ℕ) : Type 0 where

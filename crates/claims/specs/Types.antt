@@ -2,9 +2,10 @@
 pub use Rattle.numbers.specs.declared.TaskSlot.{TaskSlot}
 pub use Rattle.calls.specs.declared.TaskNo.{TaskNo}
 pub use Rattle.calls.specs.declared.Call.{Call}
-pub use Rattle.calls.specs.declared.Call.the-variants.{Take, Advance}
+pub use Rattle.calls.specs.declared.Call.the-variants.{Take, Give, Advance, MakeRecursive}
 pub use Rattle.calls.specs.declared.Answer.{Answer}
 pub use Rattle.calls.specs.declared.Asked.{Asked}
+pub use Rattle.slots.specs.declared.Sort.the-variants.{Ordinary}
 pub use Rattle.journal.specs.declared.Read.{Read}
 pub use Rattle.journal.specs.declared.Reading.the-variants.{Says}
 pub use Rattle.journal.specs.declared.Written.{Written}

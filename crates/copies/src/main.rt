@@ -82,6 +82,7 @@ fn plain() {
     copy(Call::Release, 64);
     copy(Call::MakeMutex, 64);
     copy(Call::Tick, 64);
+    copy(Call::MakeRecursive, 64);
 }
 
 // The others, with n for each number.

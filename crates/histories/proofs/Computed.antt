@@ -15,7 +15,7 @@ use Rattle.rules.specs.Parts.{itemAt}
 use Rattle.rules.specs.Queues.{outlet, sent, storeSent, received, storeReceived}
 use Rattle.rules.specs.Lines.{line, those, begun, highest, leader, first, chosen, toTail, toHead, leaves}
 use Rattle.rules.specs.Loans.{ruled, moved, movedIf, prioritized, relevelled, workedOut, newPriority}
-use Rattle.rows.specs.Applies.{outOfRange, namesNone, wrongSize, notForIdle, notWithHold, noneFree, notHis, hisAlready, notSuspended, mustWait, noDepth}
+use Rattle.rows.specs.Applies.{outOfRange, namesNone, wrongSize, notForIdle, notWithHold, noneFree, notHis, hisAlready, countFull, notSuspended, mustWait, noDepth}
 use Rattle.chains.specs.Chains.{within}
 use Rattle.rules.specs.Circles.{leadsTo, closesCircle, noCircle}
 use Rattle.rules.specs.Refusals.{heldOrWaited, inUse}
@@ -68,7 +68,7 @@ unfolding trace shownAfter chainOfThree firstGive setWithLoan timeRunsOut twoLoa
     givenTo lastGivenTo every allBelow foldl upTo index any kept asked ordered without count tidy putAt created deleted suspended
     resumed yielded delayed queueMade mutexMade removed taken given effect after itemAt outlet sent storeSent received storeReceived line those begun
     highest leader first chosen toTail toHead leaves values goesOn raised levels ruled moved movedIf prioritized relevelled workedOut newPriority outOfRange namesNone wrongSize notForIdle
-    notWithHold noneFree heldOrWaited inUse notHis hisAlready notSuspended closesCircle leadsTo noCircle within mustWait noDepth noTick table laterRow refusal noHigher runsFine tablesFine
+    notWithHold noneFree heldOrWaited inUse notHis hisAlready countFull notSuspended closesCircle leadsTo noCircle within mustWait noDepth noTick table laterRow refusal noHigher runsFine tablesFine
     levelsFine listingFine clockFine usesFine sound stored answered usesAfter accepted step fresh freshUses taskAt kindAt holds freeSlot freeObject
     wokenIfDue wakes countedOn oneTick turned ticked ticks released held arrives waitFor
 tales-fit = record {
@@ -104,7 +104,7 @@ pub again-fits : AgainFits
 unfolding trace usedAgain givenTo every allBelow foldl upTo index any kept asked ordered without count tidy putAt created deleted suspended
     resumed yielded delayed queueMade mutexMade removed taken given effect after itemAt outlet sent storeSent received storeReceived line those begun
     highest leader first chosen toTail toHead leaves values goesOn raised levels ruled moved movedIf prioritized relevelled workedOut newPriority outOfRange namesNone wrongSize notForIdle
-    notWithHold noneFree heldOrWaited inUse notHis hisAlready notSuspended closesCircle leadsTo noCircle within mustWait noDepth noTick table laterRow refusal noHigher runsFine tablesFine
+    notWithHold noneFree heldOrWaited inUse notHis hisAlready countFull notSuspended closesCircle leadsTo noCircle within mustWait noDepth noTick table laterRow refusal noHigher runsFine tablesFine
     levelsFine listingFine clockFine usesFine sound stored answered usesAfter accepted step fresh freshUses taskAt kindAt holds freeSlot freeObject
     wokenIfDue wakes countedOn oneTick turned ticked ticks released held arrives waitFor
 again-fits = record {
@@ -139,7 +139,7 @@ unfolding trace asTheSlots againstTheSlots longerFirst waiterFirst delayFirst de
     every allBelow foldl upTo index any kept asked ordered without count tidy putAt created deleted suspended
     resumed yielded delayed queueMade mutexMade removed taken given effect after itemAt outlet sent storeSent received storeReceived line those begun
     highest leader first chosen toTail toHead leaves values goesOn raised levels ruled moved movedIf prioritized relevelled workedOut newPriority outOfRange namesNone wrongSize notForIdle
-    notWithHold noneFree heldOrWaited inUse notHis hisAlready notSuspended closesCircle leadsTo noCircle within mustWait noDepth noTick table laterRow refusal noHigher runsFine tablesFine
+    notWithHold noneFree heldOrWaited inUse notHis hisAlready countFull notSuspended closesCircle leadsTo noCircle within mustWait noDepth noTick table laterRow refusal noHigher runsFine tablesFine
     levelsFine listingFine clockFine usesFine sound stored answered usesAfter accepted step fresh freshUses taskAt kindAt holds freeSlot freeObject
     wokenIfDue wakes countedOn oneTick turned ticked ticks released held arrives waitFor
 meters-fit = record {
@@ -160,7 +160,7 @@ pub fifteen-wake : wakings true 16 (reached (map unlent eachItsOwnTick)) ≡ 15
 unfolding wakings trace eachItsOwnTick advanced every allBelow foldl upTo index any kept asked ordered without count tidy putAt created deleted suspended
     resumed yielded delayed queueMade mutexMade removed taken given effect after itemAt outlet sent storeSent received storeReceived line those begun
     highest leader first chosen toTail toHead leaves values goesOn raised levels ruled moved movedIf prioritized relevelled workedOut newPriority outOfRange namesNone wrongSize notForIdle
-    notWithHold noneFree heldOrWaited inUse notHis hisAlready notSuspended closesCircle leadsTo noCircle within mustWait noDepth noTick table laterRow refusal noHigher runsFine tablesFine
+    notWithHold noneFree heldOrWaited inUse notHis hisAlready countFull notSuspended closesCircle leadsTo noCircle within mustWait noDepth noTick table laterRow refusal noHigher runsFine tablesFine
     levelsFine listingFine clockFine usesFine sound stored answered usesAfter accepted step fresh freshUses taskAt kindAt holds freeSlot freeObject
     wokenIfDue wakes countedOn oneTick turned ticked ticks released held arrives waitFor
 fifteen-wake = refl

@@ -42,7 +42,7 @@ use Rattle.promises.specs.Turns.{Turn, afterTurns, atStart}
 use Rattle.promises.specs.Reached.{programCalls}
 use Rattle.promises.proofs.Reaches.{program-reached, session-so-far}
 use Rattle.histories.specs.Types.{TaskNo, TaskSlot, Task, State}
-use Rattle.histories.specs.Types.{Call, Create, Delete, Suspend, Resume, SetPriority, Delay, Yield, Hold, Release, MakeQueue, MakeMutex, Remove, Send, Receive, Take, Give, Tick, Advance}
+use Rattle.histories.specs.Types.{Call, Create, Delete, Suspend, Resume, SetPriority, Delay, Yield, Hold, Release, MakeQueue, MakeMutex, Remove, Send, Receive, Take, Give, Tick, Advance, MakeRecursive}
 use Rattle.histories.specs.Moments.{onto, moments, isRefusal}
 use Rattle.histories.specs.Again.{namesTask, isMade}
 use Rattle.histories.specs.ByFullNumber.{slotOf}
@@ -172,6 +172,7 @@ module _ (k : State) (S : Sound k) (i : ℕ) (t : TaskSlot) (n : ℕ) (low : t .
   call-gives x (Take o w) P f = quiet-gives (Take o w) refl (effect-stays k S i (Take o w) refl P .tasks t) f
   call-gives x (Give o) P f = quiet-gives (Give o) refl (effect-stays k S i (Give o) refl P .tasks t) f
   call-gives x Tick P f = quiet-gives Tick refl (effect-stays k S i Tick refl P .tasks t) f
+  call-gives x MakeRecursive P f = quiet-gives MakeRecursive refl refl f
   call-gives x (Advance d) P f = quiet-gives (Advance d) refl (effect-stays k S i (Advance d) refl P .tasks t) f
 
 -- ── a moment

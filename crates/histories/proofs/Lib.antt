@@ -2,6 +2,7 @@ pub mod Computed
 pub mod Lives
 pub mod NeverAgain
 pub mod UseCounts
+pub mod Counted
 pub mod EarlierSteps
 pub mod EarlierWakes
 pub mod ByFullNumber

@@ -34,8 +34,8 @@ use Rattle.rules.proofs.KeepObjects.{object-low}
 use Rattle.rules.proofs.KeepUses.{up-other}
 use Rattle.rules.proofs.KeepTaken.{stands, standsAs, there-stands, used-stands, Stays, effect-stays, worked-stays}
 use Rattle.rules.proofs.TickJumps.{chosen-only}
-use Rattle.histories.specs.Types.{TaskSlot, ObjSlot, Place, Free, Ready, Delayed, Waiting, Suspended, Spent, Task, Ring, Nobody, Kind, Unused, SpentObject, Queue, Mutex, Object, State}
-use Rattle.histories.specs.Types.{Call, Create, Delete, Suspend, Resume, SetPriority, Delay, Yield, Hold, Release, MakeQueue, MakeMutex, Remove, Send, Receive, Take, Give, Tick, Advance}
+use Rattle.histories.specs.Types.{TaskSlot, ObjSlot, Place, Free, Ready, Delayed, Waiting, Suspended, Spent, Task, Ring, Nobody, Ordinary, Recursive, Kind, Unused, SpentObject, Queue, Mutex, Object, State}
+use Rattle.histories.specs.Types.{Call, Create, Delete, Suspend, Resume, SetPriority, Delay, Yield, Hold, Release, MakeQueue, MakeMutex, Remove, Send, Receive, Take, Give, Tick, Advance, MakeRecursive}
 
 -- of a slot where nothing, something, or nothing ever after stands
 abbrev pub lifeIn : ℕ → ℕ → ℕ
@@ -107,7 +107,7 @@ takes-object : (x : Kind) → takesObject x ≡ true → standsAs x ≡ 0
 takes-object Unused e = refl
 takes-object SpentObject e = absurd (false≢true e)
 takes-object (Queue q) e = absurd (false≢true e)
-takes-object (Mutex h) e = absurd (false≢true e)
+takes-object (Mutex s h) e = absurd (false≢true e)
 
 -- a number of a slot tells the slot and the use
 pub number-slot : (s u : ℕ) → s < 16 → (s + 16 * u) % 16 ≡ s
@@ -168,6 +168,13 @@ module _ (k : State) (S : Sound k) (n : ℕ) where
         go : (b : Bool) → eqb s (slot .0) ≡ b → Becomes false (standsIn false k s) (keptUse false k s) (standsAs (kindAt (kinds (k .objects) slot y) (object s))) (keptUse false k s)
         go true q = rw (eqb-true s (slot .0) q) (now-taken refl slot-stands slot-now refl)
         go false q = as-it-was refl (ap standsAs (kind-other (k .objects) slot y (object s) (eqb-false s (slot .0) q))) refl
+
+    make-takes : (after : ℕ → ℕ) → after (freeObject (k .objects)) ≡ lifeIn (standsAs (kindAt (kinds (k .objects) slot y) slot)) (useIn (k .uses .objects) (freeObject (k .objects)))
+        → Takes (lifeOf false k) after (numberIn (k .uses .objects) (freeObject (k .objects)))
+    make-takes after q =
+        takes-number (lifeOf false k) after (k .uses .objects) (freeObject (k .objects)) slot-low
+        (ap (λ i. lifeIn i (useIn (k .uses .objects) (freeObject (k .objects)))) slot-stands)
+        (q ∙ ap (λ i. lifeIn i (useIn (k .uses .objects) (freeObject (k .objects)))) slot-now)
 
   -- ── the slot that is given up
   module _ (t : TaskSlot) (there : isFree (taskAt (k .tasks) t .place) ≡ false) where
@@ -266,7 +273,7 @@ effect-becomes k S n Release P b s = left-alone k _ _ _ (effect-stays k S n Rele
 effect-becomes k S n (MakeQueue c z) P true s = as-it-was refl refl refl
 effect-becomes k S n (MakeQueue c z) P false s = make-becomes k S n (P .slot) (Queue (ring c z)) refl s
 effect-becomes k S n MakeMutex P true s = as-it-was refl refl refl
-effect-becomes k S n MakeMutex P false s = make-becomes k S n (P .slot) (Mutex Nobody) refl s
+effect-becomes k S n MakeMutex P false s = make-becomes k S n (P .slot) (Mutex Ordinary Nobody) refl s
 effect-becomes k S n (Remove o) P true s = as-it-was refl refl refl
 effect-becomes k S n (Remove o) P false s = remove-becomes k S n (objSlot (k .uses) o) (P .named) s
 effect-becomes k S n (Send o w) P b s = left-alone k _ _ _ (effect-stays k S n (Send o w) refl P) refl refl refl b s
@@ -274,6 +281,8 @@ effect-becomes k S n (Receive o w) P b s = left-alone k _ _ _ (effect-stays k S 
 effect-becomes k S n (Take o w) P b s = left-alone k _ _ _ (effect-stays k S n (Take o w) refl P) refl refl refl b s
 effect-becomes k S n (Give o) P b s = left-alone k _ _ _ (effect-stays k S n (Give o) refl P) refl refl refl b s
 effect-becomes k S n Tick P b s = left-alone k _ _ _ (effect-stays k S n Tick refl P) refl refl refl b s
+effect-becomes k S n MakeRecursive P true s = as-it-was refl refl refl
+effect-becomes k S n MakeRecursive P false s = make-becomes k S n (P .slot) (Mutex (Recursive 0) Nobody) refl s
 effect-becomes k S n (Advance d) P b s = left-alone k _ _ _ (effect-stays k S n (Advance d) refl P) refl refl refl b s
 
 pub effect-grows : (k : State) → Sound k → (n : ℕ) (c : Call) → Passed k (asked (k .uses) c) n → Grows k (next k c)
@@ -291,14 +300,9 @@ effect-takes k S n (Create p) P x =
     takes-number (lifeOf true k) (lifeOf true (next k (Create p))) (k .uses .tasks) (freeSlot (k .tasks)) (new-low k S n (P .slot))
     (ap (λ i. lifeIn i (useIn (k .uses .tasks) (freeSlot (k .tasks)))) (new-stands k S n (P .slot)))
     (ap (λ i. lifeIn i (useIn (k .uses .tasks) (freeSlot (k .tasks)))) (now-stands k S n (P .slot) p))
-effect-takes k S n (MakeQueue c z) P x =
-    takes-number (lifeOf false k) (lifeOf false (next k (MakeQueue c z))) (k .uses .objects) (freeObject (k .objects)) (slot-low k S n (P .slot) (Queue (ring c z)) refl)
-    (ap (λ i. lifeIn i (useIn (k .uses .objects) (freeObject (k .objects)))) (slot-stands k S n (P .slot) (Queue (ring c z)) refl))
-    (ap (λ i. lifeIn i (useIn (k .uses .objects) (freeObject (k .objects)))) (slot-now k S n (P .slot) (Queue (ring c z)) refl))
-effect-takes k S n MakeMutex P x =
-    takes-number (lifeOf false k) (lifeOf false (next k MakeMutex)) (k .uses .objects) (freeObject (k .objects)) (slot-low k S n (P .slot) (Mutex Nobody) refl)
-    (ap (λ i. lifeIn i (useIn (k .uses .objects) (freeObject (k .objects)))) (slot-stands k S n (P .slot) (Mutex Nobody) refl))
-    (ap (λ i. lifeIn i (useIn (k .uses .objects) (freeObject (k .objects)))) (slot-now k S n (P .slot) (Mutex Nobody) refl))
+effect-takes k S n (MakeQueue c z) P x = make-takes k S n (P .slot) (Queue (ring c z)) refl (lifeOf false (next k (MakeQueue c z))) refl
+effect-takes k S n MakeMutex P x = make-takes k S n (P .slot) (Mutex Ordinary Nobody) refl (lifeOf false (next k MakeMutex)) refl
+effect-takes k S n MakeRecursive P x = make-takes k S n (P .slot) (Mutex (Recursive 0) Nobody) refl (lifeOf false (next k MakeRecursive)) refl
 effect-takes k S n (Delete t) P x = absurd (false≢true x)
 effect-takes k S n (Suspend t) P x = absurd (false≢true x)
 effect-takes k S n (Resume t) P x = absurd (false≢true x)

@@ -1,7 +1,7 @@
 -- Over any history from the fresh kernel a number that was given up names nothing ever after, and no number is made twice.
 use Prim.Native.Nat.{ℕ, suc, _*_, _/_, _%_, _≤_}
 use mathlib.Core.Path.{_≡_, refl, sym, ap, subst, _∙_}
-use mathlib.Core.Bool.{Bool, true, false, not, _&&_, _||_, false≢true}
+use mathlib.Core.Bool.{Bool, true, false, not, _&&_, false≢true}
 use mathlib.Core.List.{List, [], _∷_, _++_}
 use native.Mathlib.Omega.{arith}
 use lib.Dec.{eqb}
@@ -21,7 +21,7 @@ use Rattle.slots.specs.Values.{taskAt}
 use Rattle.slots.specs.Kinds.{kindAt}
 use Rattle.rules.specs.Tables.{fresh}
 use Rattle.rules.specs.Sound.{sound}
-use Rattle.rows.specs.Asking.{is, makes}
+use Rattle.rows.specs.Asking.{is, makesObject, makes}
 use Rattle.rules.specs.Refusals.{newSlot, laterRow, refusal}
 use Rattle.rules.specs.Effects.{effect}
 use Rattle.rules.specs.Steps.{Stepped, newNumber, answered, usesAfter, after as worked, accepted, turnedAway, steppedBy, step}
@@ -138,20 +138,19 @@ task-taken k e m n h =
     let y = and-right (is 1 (asked (k .uses) (m .call))) (answersMade (momentFrom k m) n) h in
     subst (λ b. Takes (lifeOf b k) (lifeOf b (stepMade k [] m .kernel)) n) x (step-takes k e m n (or-left (is 1 (asked (k .uses) (m .call))) _ x) y)
 
-no-create : (a : Asked) → (is 10 a || is 11 a) ≡ true → is 1 a ≡ false
-no-create a x = go (is 1 a) refl (is 10 a) refl x
+no-create : (a : Asked) → makesObject a ≡ true → is 1 a ≡ false
+no-create a x = go (is 1 a) refl x
   where
-    go : (b : Bool) → is 1 a ≡ b → (c : Bool) → is 10 a ≡ c → (c || is 11 a) ≡ true → b ≡ false
-    go false p c q y = refl
-    go true p true q y = absurd (omega (arith, eqb-true (a .number) 1 p, eqb-true (a .number) 10 q))
-    go true p false q y = absurd (omega (arith, eqb-true (a .number) 1 p, eqb-true (a .number) 11 y))
+    go : (b : Bool) → is 1 a ≡ b → makesObject a ≡ true → b ≡ false
+    go false p y = refl
+    go true p y = absurd (false≢true (rw (eqb-true (a .number) 1 p) at y))
 
 object-taken : (k : State) → sound k ≡ true → (m : CallMade) (n : ℕ) → madeObject (momentFrom k m) n ≡ true → Takes (lifeOf false k) (lifeOf false (stepMade k [] m .kernel)) n
 object-taken k e m n h =
     let a = asked (k .uses) (m .call) in
-    let x = and-left (is 10 a || is 11 a) (answersMade (momentFrom k m) n) h in
-    let y = and-right (is 10 a || is 11 a) (answersMade (momentFrom k m) n) h in
-    subst (λ b. Takes (lifeOf b k) (lifeOf b (stepMade k [] m .kernel)) n) (no-create a x) (step-takes k e m n (or-right (is 1 a) (is 10 a || is 11 a) x) y)
+    let x = and-left (makesObject a) (answersMade (momentFrom k m) n) h in
+    let y = and-right (makesObject a) (answersMade (momentFrom k m) n) h in
+    subst (λ b. Takes (lifeOf b k) (lifeOf b (stepMade k [] m .kernel)) n) (no-create a x) (step-takes k e m n (or-right (is 1 a) (makesObject a) x) y)
 
 -- ── of tasks and of objects alike
 module _ (b : Bool) (names : State → ℕ → Bool) (made : State → CallMade → ℕ → Bool)

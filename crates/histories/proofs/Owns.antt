@@ -19,15 +19,16 @@ use Rattle.rules.specs.Waits.{later, wakeOf, arrives, waitFor}
 use Rattle.rules.specs.Ticks.{countedOn, oneTick, turned, ticked, ticks, released, advanced, held}
 use Rattle.rules.specs.Rings.{oneLess}
 use Rattle.rules.specs.Queues.{sentBy, sent, sentTo, refilledBy, received, receivedFrom}
-use Rattle.rules.specs.Effects.{suspended, resumed, yielded, delayed, queueMade, mutexMade, removed, takenFrom, taken, handedTo, given, effect}
+use Rattle.rules.specs.Effects.{suspended, resumed, yielded, delayed, queueMade, mutexMade, removed, taken, given, effect}
 use Rattle.rules.proofs.TableSlots.{by-kind}
+use Rattle.rules.proofs.MutexCases.{by-take, by-give}
 use Rattle.rules.proofs.TableWithin.{by-outlet}
 use Rattle.rules.proofs.KeepSlot.{like-before}
 use Rattle.rules.proofs.LoanWorks.{worked-own}
 use Rattle.rules.proofs.KeepTicks.{count-woke}
 use Rattle.rules.proofs.TickJumps.{turned-only, turn-only}
 use Rattle.histories.specs.Types.{TaskSlot, ObjSlot, Place, Ready, Delayed, Waiting, Task, Ring, WaitersOf, State}
-use Rattle.histories.specs.Types.{Call, Create, Delete, Suspend, Resume, SetPriority, Delay, Yield, Hold, Release, MakeQueue, MakeMutex, Remove, Send, Receive, Take, Give, Tick, Advance}
+use Rattle.histories.specs.Types.{Call, Create, Delete, Suspend, Resume, SetPriority, Delay, Yield, Hold, Release, MakeQueue, MakeMutex, Remove, Send, Receive, Take, Give, Tick, Advance, MakeRecursive}
 
 abbrev pub SameOwns : State → State → Type 0
 SameOwns k j = (t : TaskSlot) → taskAt (j .tasks) t .own ≡ taskAt (k .tasks) t .own
@@ -100,22 +101,16 @@ module _ (k : State) where
       go false (t ∷ l) = arrives-owns t Ready 1
 
   send-owns : (o : ObjSlot) (w : ℕ) → SameOwns k (sentTo k o (kindAt (k .objects) o) w)
-  send-owns o w = by-kind (kindAt (k .objects) o) (λ x. SameOwns k (sentTo k o x w)) (λ t. refl) (λ t. refl) (λ q e. sent-owns o q w) (λ e t. refl) (λ h e t. refl)
+  send-owns o w = by-kind (kindAt (k .objects) o) (λ x. SameOwns k (sentTo k o x w)) (λ t. refl) (λ t. refl) (λ q e. sent-owns o q w) (λ s h e t. refl)
 
   receive-owns : (o : ObjSlot) (w : ℕ) → SameOwns k (receivedFrom k o (kindAt (k .objects) o) w)
-  receive-owns o w = by-kind (kindAt (k .objects) o) (λ x. SameOwns k (receivedFrom k o x w)) (λ t. refl) (λ t. refl) (λ q e. received-owns o q w) (λ e t. refl) (λ h e t. refl)
+  receive-owns o w = by-kind (kindAt (k .objects) o) (λ x. SameOwns k (receivedFrom k o x w)) (λ t. refl) (λ t. refl) (λ q e. received-owns o q w) (λ s h e t. refl)
 
   taken-owns : (o : ObjSlot) (w : ℕ) → SameOwns k (taken k o w)
-  unfolding taken
-  taken-owns o w = by-kind (kindAt (k .objects) o) (λ x. SameOwns k (takenFrom k o x w)) (λ t. refl) (λ t. refl) (λ q e t. refl) (λ e t. refl) (λ h e. wait-owns o w)
+  taken-owns o w = by-take k o (SameOwns k) w (λ m t. refl) (λ s e t. refl) (λ s e t. refl) (λ s h e d. wait-owns o w)
 
   given-owns : (o : ObjSlot) → SameOwns k (given k o)
-  unfolding given
-  given-owns o = go (first k (WaitersOf o))
-    where
-      go : (l : List TaskSlot) → SameOwns k (handedTo k o l)
-      go [] = λ t. refl
-      go (t ∷ l) = arrives-owns t Ready 1
+  given-owns o = by-give k o (SameOwns k) (λ m t. refl) (λ s h e m t. refl) (λ s h e m q t. refl) (λ s h e m u l q. arrives-owns u Ready 1)
 
 -- ── every call
 abbrev pub changesOwns : Asked → Bool
@@ -141,3 +136,4 @@ effect-owns k (Take o w) e = taken-owns k (objSlot (k .uses) o) w
 effect-owns k (Give o) e = given-owns k (objSlot (k .uses) o)
 effect-owns k Tick e = ticked-owns k
 effect-owns k (Advance d) e = ticks-own true d k
+effect-owns k MakeRecursive e = λ t. refl

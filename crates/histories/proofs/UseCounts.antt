@@ -50,9 +50,9 @@ object-by : (x : Kind) (u : ℕ) → useOf (isUnused x) (takesObject x) u ≡ us
 object-by Unused u = refl
 object-by SpentObject u = refl
 object-by (Queue q) u = refl
-object-by (Mutex h) u = refl
+object-by (Mutex s h) u = refl
 
-abbrev one : Bool → ℕ
+abbrev pub one : Bool → ℕ
 one b = if b then 1 else 0
 
 becomes-use : (g : Bool) (st u st' u' : ℕ) → Becomes g st u st' u' → useBy st' u' ≡ one g + useBy st u
@@ -83,7 +83,7 @@ record Counts (k : State) (past : List (Moment CallMade)) : Type 0 where
   fine : sound k ≡ true
   used : (b : Bool) (s : ℕ) → useAt b k s ≡ times (gives b s) past
 
-same-all : {A : Type 0} (m n : ℕ) (x : A) → getD (replicate m x) n x ≡ x
+pub same-all : {A : Type 0} (m n : ℕ) (x : A) → getD (replicate m x) n x ≡ x
 same-all zero n x = refl
 same-all (suc m) zero x = refl
 same-all (suc m) (suc n) x = same-all m n x
@@ -97,7 +97,7 @@ starts = record { fine = fresh-sound; used = none }
     none true (suc s) = rw (same-all 15 s freeTask, same-all {A = ℕ} 15 s 0)
     none false s = rw (same-all 16 s unused, same-all {A = ℕ} 16 s 0)
 
-times-more : (p : Moment CallMade → Bool) (m : Moment CallMade) (ms : List (Moment CallMade)) → times p (m ∷ ms) ≡ one (p m) + times p ms
+pub times-more : (p : Moment CallMade → Bool) (m : Moment CallMade) (ms : List (Moment CallMade)) → times p (m ∷ ms) ≡ one (p m) + times p ms
 unfolding kept
 times-more p m ms = go (p m)
   where

@@ -1,6 +1,6 @@
 -- "A number that was given up names nothing ever after", and no number is made twice: what a number names, and which number a call made.
 use Prim.Native.Nat.{ℕ}
-use mathlib.Core.Bool.{Bool, true, false, not, _&&_, _||_}
+use mathlib.Core.Bool.{Bool, true, false, not, _&&_}
 use mathlib.Core.List.{List, [], _∷_, map}
 use lib.Dec.{eqb}
 use Rattle.calls.specs.Named.{taskOf, objectOf}
@@ -8,7 +8,7 @@ use Rattle.calls.specs.Door.{taskSlot, objSlot}
 use Rattle.calls.specs.Behind.{asked}
 use Rattle.calls.specs.Said.{Word, done, made, waiting, refused}
 use Rattle.slots.specs.Kinds.{isUnused, kindAt}
-use Rattle.rows.specs.Asking.{is}
+use Rattle.rows.specs.Asking.{is, makesObject}
 use Rattle.rules.specs.Tables.{fresh}
 use Rattle.rules.specs.Trace.{Moment, trace, momentOf, CallMade, stepMade}
 use Rattle.histories.specs.Types.{State, Call, Create, Delete, MakeMutex, Remove}
@@ -35,12 +35,12 @@ isMade refused = false
 abbrev pub answersMade : Moment CallMade → ℕ → Bool
 answersMade m n = isMade (m .gave .answer .word) && eqb (m .gave .answer .number) n
 
--- a create, a make queue or make mutex, that answered made n
+-- a create, or a make of a queue or of a mutex of either sort, that answered made n
 abbrev pub madeTask : Moment CallMade → ℕ → Bool
 madeTask m n = is 1 (asked (m .before .uses) (m .made .call)) && answersMade m n
 
 abbrev pub madeObject : Moment CallMade → ℕ → Bool
-madeObject m n = (is 10 (asked (m .before .uses) (m .made .call)) || is 11 (asked (m .before .uses) (m .made .call))) && answersMade m n
+madeObject m n = let a = asked (m .before .uses) (m .made .call) in makesObject a && answersMade m n
 
 -- ── a history: a task and a mutex, each given up, and each slot used again
 unfoldable pub usedAgain : List Call

@@ -5,5 +5,6 @@ pub mod ByFullNumber
 pub mod Given
 pub mod Tales
 pub mod Uses
+pub mod Counted
 pub mod Earlier
 pub mod Meters

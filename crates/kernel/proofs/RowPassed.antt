@@ -8,16 +8,16 @@ use Rattle.slots.specs.Kinds.{kindAt}
 use Rattle.rules.specs.State.{State}
 use Rattle.rules.specs.Tables.{freeSlot, freeObject}
 use Rattle.rows.specs.declared.Seen.{Seen}
-use Rattle.rows.specs.Asking.{makes}
+use Rattle.rows.specs.Asking.{is, makesObject, makes}
 use Rattle.rules.specs.Refusals.{newSlot}
-use Rattle.rows.specs.Applies.{sizeDiffers, firstRow, table}
+use Rattle.rows.specs.Applies.{sizeDiffers, takesFull, firstRow, table}
 use Rattle.rules.specs.Refusals.{seen, laterRow}
-use Rattle.rules.proofs.RowPasses.{Passed, passed, InRange, in-range-of, send-sized, hold-fits, release-fits, tick-fits, advance-free}
+use Rattle.rules.proofs.RowPasses.{Passed, passed, InRange, in-range-of, send-sized, take-fits, hold-fits, release-fits, tick-fits, advance-free}
 use Rattle.rules.proofs.KeepTicks.{sound-unheld}
 use Rattle.kernel.specs.Types.{Core}
 use Rattle.kernel.specs.Stands.{shownCore}
 use Rattle.kernel.specs.Does.{Reads, Firm, Turning}
-use Rattle.kernel.proofs.Stands.{same-hold, same-pended}
+use Rattle.kernel.proofs.Stands.{same-running, same-hold, same-pended}
 
 -- what was seen is what the table looks at, and has the new slot
 module _ (s : State) (a : Asked) (x : Seen) (e : x ≡ seen s a) where
@@ -41,6 +41,9 @@ module _ (k : Core) (F : Firm k) (a : Asked) (item store : ℕ) (e : laterRow (s
   pub right-size : a .number ≡ 13 → sizeDiffers item (kindAt (shownCore k .objects) (a .object)) ≡ false
   right-size n = send-sized (shownCore k) a item store n e
 
+  pub may-take : a .number ≡ 15 → takesFull (k .running) (kindAt (shownCore k .objects) (a .object)) ≡ false
+  may-take n = ap (λ t. takesFull t (kindAt (shownCore k .objects) (a .object))) (same-running k (shownCore k) (F .stands)) ∙ take-fits (shownCore k) a n (P .not-full)
+
   pub may-hold : a .number ≡ 8 → eqb (k .hold) 255 ≡ false
   may-hold n = rw (same-hold k (shownCore k) (F .stands)) (hold-fits (shownCore k) a n (P .deep))
 
@@ -61,8 +64,5 @@ module _ {k : Core} {n : ℕ} (a : Asked) (f : makes a ≡ true → Reads k (λ 
   pub task-slot : a .number ≡ 1 → Reads k (λ s. freeSlot (s .tasks)) n
   task-slot e s h = let m : makes a ≡ true = rw e in rw e at (f m s h)
 
-  pub queue-slot : a .number ≡ 10 → Reads k (λ s. freeObject (s .objects)) n
-  queue-slot e s h = let m : makes a ≡ true = rw e in rw e at (f m s h)
-
-  pub mutex-slot : a .number ≡ 11 → Reads k (λ s. freeObject (s .objects)) n
-  mutex-slot e s h = let m : makes a ≡ true = rw e in rw e at (f m s h)
+  pub object-slot : makesObject a ≡ true → is 1 a ≡ false → Reads k (λ s. freeObject (s .objects)) n
+  object-slot m e s h = let o : makes a ≡ true = rw (e, m) in rw e at (f o s h)

@@ -33,8 +33,8 @@ use Rattle.slots.specs.declared.Task.{Task}
 use Rattle.slots.specs.Who.{AllReady}
 use Rattle.slots.specs.Places.{isReady, waitedOn}
 use Rattle.slots.specs.Values.{freeTask, taskAt, inLine}
-use Rattle.slots.specs.Kinds.{kindAt, marksOf}
-use Rattle.slots.specs.SoundSlots.{idleFine, standsFine, remembersFine, ordersFine, mayWait, mayWaitOn, waitsFine, prioritiesFine, holderSlot, freeHolds, notDue, ringInRange, outcomeFine, freshIfFree}
+use Rattle.slots.specs.Kinds.{hands, kindAt, marksOf}
+use Rattle.slots.specs.SoundSlots.{idleFine, standsFine, remembersFine, ordersFine, mayWait, mayWaitOn, waitsFine, prioritiesFine, holderSlot, freeHolds, notDue, kindInRange, outcomeFine, freshIfFree}
 use Rattle.slots.proofs.Marks.{marks-hold}
 use Rattle.slots.proofs.Holders.{holders-exist}
 use Rattle.tasks.specs.declared.Tasks.{Tasks}
@@ -307,7 +307,7 @@ module _ (k : Core) (stands : List ℕ) (hs : Holdings) (fine : Bool) (F : Fine 
     idles : idleAlone (getD (hs .held) 0 false) (rowAt ts 0) ≡ true
     idles = and-left (idleAlone (getD (hs .held) 0 false) (rowAt ts 0)) _ all-rows
 
-    ranges-at : (n : ℕ) → n < 16 → (ringInRange (kindIn (k .objects) n) && holderSlot (kindIn (k .objects) n)) ≡ true
+    ranges-at : (n : ℕ) → n < 16 → (kindInRange (kindIn (k .objects) n) && holderSlot (hands (kindIn (k .objects) n))) ≡ true
     ranges-at n l = ranges-of (k .objects) n (all-below 16 (fineAt (k .objects)) kinds n l)
 
     tables-so : TablesTested (s .tasks) (s .objects)
@@ -319,9 +319,9 @@ module _ (k : Core) (stands : List ℕ) (hs : Holdings) (fine : Bool) (F : Fine 
               ∙ all-below 16 (waitsAt ts (hs .open) (hs .taken) (hs .holder)) (and-left waits _ (and-right fine _ tables)) n l));
           idle-holds = rw (← holding-at 0 (omega arith)) (and-right (idleFine (rowAt ts 0)) _ idles);
           holders = sym (holders-exist (s .tasks) (s .objects) (F .many) (H .many))
-              ∙ and-intro _ _ (below-all 16 _ (λ n l. rw (kind n l) (and-right (ringInRange (kindIn (k .objects) n)) _ (ranges-at n l))))
+              ∙ and-intro _ _ (below-all 16 _ (λ n l. rw (kind n l) (and-right (kindInRange (kindIn (k .objects) n)) _ (ranges-at n l))))
               (below-all 16 _ (λ n l. rw (← marked n) (alone n l .free)));
-          rings = below-all 16 _ (λ n l. rw (kind n l) (and-left (ringInRange (kindIn (k .objects) n)) _ (ranges-at n l)));
+          ranges = below-all 16 _ (λ n l. rw (kind n l) (and-left (kindInRange (kindIn (k .objects) n)) _ (ranges-at n l)));
           outcomes = below-all 16 _ (λ n l. alone n l .outcome);
           fresh = below-all 16 _ (λ n l. alone n l .fresh);
         }
@@ -377,7 +377,7 @@ module _ (k : Core) (stands : List ℕ) (hs : Holdings) (fine : Bool) (F : Fine 
             (and-left (canonical ts) (canonicalKinds (k .objects)) p) n l
 
         slotted : Bool
-        slotted = allBelow 16 (λ n. holderSlot (kindAt (s .objects) (object n)))
+        slotted = allBelow 16 (λ n. holderSlot (hands (kindAt (s .objects) (object n))))
 
         unheld : Bool
         unheld = allBelow 16 (λ n. freeHolds (getD (marksOf (s .objects)) n false) (taskAt (s .tasks) (task n) .place))
@@ -416,7 +416,7 @@ module _ (k : Core) (stands : List ℕ) (hs : Holdings) (fine : Bool) (F : Fine 
         each-kind : (n : ℕ) → n < 16 → fineAt (k .objects) n ≡ true
         each-kind n l =
             fine-of (k .objects) n (and-right (canonical ts) (canonicalKinds (k .objects)) p) l
-            (rw (← kind n l) (and-intro (ringInRange (slotKind (s .objects) n)) (holderSlot (slotKind (s .objects) n)) (all-below 16 _ (T .rings) n l)
+            (rw (← kind n l) (and-intro (kindInRange (slotKind (s .objects) n)) (holderSlot (hands (slotKind (s .objects) n))) (all-below 16 _ (T .ranges) n l)
             (all-below 16 _ (and-left slotted unheld halves) n l)))
 
   pub quick-is : quick ≡ sound (shownCore k)

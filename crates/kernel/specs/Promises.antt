@@ -20,7 +20,7 @@ pub record Is (k : Kernel) (d : Stepped) (r : Step) (s : List ℕ) : Type 0 wher
   pub answer : said (r .answer) ≡ d .answer
   pub store : s ≡ d .store
 
--- the step of a sound kernel: rows 2 to 17 of the table decide
+-- the step of a sound kernel: rows 2 to 18 of the table decide
 abbrev pub SoundSteps : Kernel → Asked → List ℕ → List ℕ → Step → List ℕ → Type 0
 SoundSteps k a item s r after = Is k (steppedBy (laterRow (shown k) a (length item) (length s)) (shown k) a item s) r after
 

@@ -1,4 +1,4 @@
-// The 18 calls, accepted: each does its row of the call table.
+// The 19 calls, accepted: each does its row of the call table.
 ghost use mathlib.Core.Path.{_≡_};
 ghost use mathlib.Core.Bool.{_&&_, true, false};
 ghost use lib.Dec.{eqb, ltb};
@@ -8,11 +8,12 @@ ghost use Rattle.rules.specs.Tables.{freeSlot, freeObject};
 ghost use Rattle.lists.specs.Choice.{if_then_else_};
 ghost use Rattle.rows.specs.Asking.{is, makes};
 ghost use Rattle.rules.specs.Refusals.{newSlot};
-ghost use Rattle.rows.specs.Applies.{sizeDiffers};
+ghost use Rattle.rows.specs.Applies.{sizeDiffers, takesFull};
+ghost use Rattle.slots.specs.declared.Kind.the-variants.{Mutex};
 ghost use Rattle.rules.specs.Refusals.{laterRow};
 ghost use Rattle.rules.specs.Ticks.{ticked, held, released, advanced};
 ghost use Rattle.rules.specs.Queues.{sentTo, receivedFrom, storeSentTo, storeReceivedFrom};
-ghost use Rattle.rules.specs.Effects.{created, deleted, suspended, resumed, delayed, queueMade, mutexMade, removed, taken, given, effect};
+ghost use Rattle.rules.specs.Effects.{created, deleted, suspended, resumed, delayed, queueMade, mutexMade, removed, takenFrom, taken, givenBack, given, effect};
 ghost use Rattle.rules.specs.Steps.{stored};
 ghost use Rattle.kernel.specs.Stands.{shownCore};
 ghost use Rattle.kernel.specs.Does.{Reads, Does, Firm, Turning, Reckons};
@@ -25,6 +26,7 @@ use slots::Holder;
 use slots::Kind;
 use slots::Place;
 use slots::Ring;
+use slots::Sort;
 use slots::Task;
 
 // How many ticks pass.
@@ -138,11 +140,11 @@ impl Core {
         self.with_object(ObjSlot::of(n), Kind::Queue(q))
     }
 
-    fn make_mutex(self, n: u8) -> Core
+    fn make_mutex(self, n: u8, m: Sort) -> Core
         requires { ⌜ Reads self (λ s. freeObject (s .objects)) n ⌝ }
-        ensures { λ r. ⌜ Does self mutexMade r ⌝ }
+        ensures { λ r. ⌜ Does self (λ s. mutexMade s m) r ⌝ }
     {
-        self.with_object(ObjSlot::of(n), Kind::Mutex(Holder::Nobody))
+        self.with_object(ObjSlot::of(n), Kind::Mutex(m, Holder::Nobody))
     }
 
     fn send(self, o: ObjSlot, w: u32, item: &[u8], store: &mut [u8]) -> Core
@@ -154,7 +156,7 @@ impl Core {
             Kind::Unused => self,
             Kind::Spent => self,
             Kind::Queue(q) => self.send_to(o, q, w, item, store),
-            Kind::Mutex(_) => self,
+            Kind::Mutex(_, _) => self,
         }
     }
 
@@ -166,33 +168,61 @@ impl Core {
             Kind::Unused => self,
             Kind::Spent => self,
             Kind::Queue(q) => self.receive_from(o, q, w, store),
-            Kind::Mutex(_) => self,
+            Kind::Mutex(_, _) => self,
         }
     }
 
-    fn take(self, o: ObjSlot, w: u32) -> Core
-        ensures { λ r. ⌜ Does self (λ s. taken s o w) r ⌝ }
+    // Who has it takes it once more; where another has it the caller waits; a free one is the caller's.
+    fn take_mutex(self, o: ObjSlot, m: Sort, h: Holder, w: u32) -> Core
+        requires { ⌜ takesFull (self .running) (Mutex m h) ≡ false ⌝ }
+        ensures { λ r. ⌜ Does self (λ s. takenFrom s o (Mutex m h) w) r ⌝ }
     {
         let u = self.running;
+        if h.is_by(u) {
+            return self.with_object(o, Kind::Mutex(m.counting(m.count() + 1), h));
+        }
+        if h.is_taken() {
+            return self.wait_for(o, w);
+        }
+        self.with_object(o, Kind::Mutex(m.counting(1), Holder::By(u)))
+    }
+
+    fn take(self, o: ObjSlot, w: u32) -> Core
+        requires { ⌜ Firm self × (takesFull (self .running) (kindAt (shownCore self .objects) o) ≡ false) ⌝ }
+        ensures { λ r. ⌜ Does self (λ s. taken s o w) r ⌝ }
+    {
         match self.kind(o) {
             Kind::Unused => self,
             Kind::Spent => self,
             Kind::Queue(_) => self,
-            Kind::Mutex(h) => match h {
-                Holder::Nobody => self.with_object(o, Kind::Mutex(Holder::By(u))),
-                Holder::By(_) => self.wait_for(o, w),
-            },
+            Kind::Mutex(m, h) => self.take_mutex(o, m, h, w),
         }
     }
 
-    // The mutex goes to the first waiter, or is free.
+    // One off the count, which only a recursive one has; given for the last time, the mutex is free, and then the first waiter's.
+    fn give_back(self, o: ObjSlot, m: Sort, h: Holder) -> Core
+        ensures { λ r. ⌜ Does self (λ s. givenBack s o (Mutex m h)) r ⌝ }
+    {
+        let n = m.count();
+        if 1 < n {
+            return self.with_object(o, Kind::Mutex(Sort::Recursive(n - 1), h));
+        }
+        let free = self.with_object(o, Kind::Mutex(m.counting(0), Holder::Nobody));
+        match free.first_waiter(o) {
+            Found::NoOne => free,
+            Found::Someone(t) => free.arrives(t, Place::Ready, 1)
+                .with_object(o, Kind::Mutex(m.counting(1), Holder::By(t))),
+        }
+    }
+
     fn give(self, o: ObjSlot) -> Core
         ensures { λ r. ⌜ Does self (λ s. given s o) r ⌝ }
     {
-        match self.first_waiter(o) {
-            Found::NoOne => self.with_object(o, Kind::Mutex(Holder::Nobody)),
-            Found::Someone(t) => self.arrives(t, Place::Ready, 1)
-                .with_object(o, Kind::Mutex(Holder::By(t))),
+        match self.kind(o) {
+            Kind::Unused => self,
+            Kind::Spent => self,
+            Kind::Queue(_) => self,
+            Kind::Mutex(m, h) => self.give_back(o, m, h),
         }
     }
 
@@ -224,13 +254,14 @@ impl Core {
             8 => self.hold_deeper(),
             9 | 18 => self.time_passes(a),
             10 => self.make_queue(n, a.capacity as u8, a.size as u8),
-            11 => self.make_mutex(n),
+            11 => self.make_mutex(n, Sort::Ordinary),
             12 => self.remove(a.object, a.last),
             13 => self.send(a.object, a.wait, item, store),
             14 => self.receive(a.object, a.wait, store),
             15 => self.take(a.object, a.wait),
             16 => self.give(a.object),
             17 => self.tick_on(),
+            19 => self.make_mutex(n, Sort::Recursive(0)),
             _ => self,
         }
     }

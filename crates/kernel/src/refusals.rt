@@ -54,7 +54,7 @@ impl Core {
             Kind::Unused => false,
             Kind::Spent => false,
             Kind::Queue(_) => false,
-            Kind::Mutex(h) => match h {
+            Kind::Mutex(_, h) => match h {
                 Holder::Nobody => false,
                 Holder::By(t) => {
                     let by = self.objects.holders();
@@ -64,13 +64,17 @@ impl Core {
         }
     }
 
-    // A take that would close a circle. Of a mutex that nobody holds there is no chain to follow.
+    // A take that would close a circle. Of a mutex that nobody holds, or that the caller takes again, there is no chain to follow.
     fn closes_circle(self, a: Asked) -> bool
         requires { ⌜ Firm self ⌝ }
         ensures { λ r. ⌜ Reads self (λ s. closesCircle s a) r ⌝ }
     {
         if a.number == 15 {
-            return self.leads_back(self.kind(a.object));
+            let x = self.kind(a.object);
+            if x.recursive_by(self.running) {
+                return false;
+            }
+            return self.leads_back(x);
         }
         false
     }

@@ -10,6 +10,7 @@ use lib.Seq.{ext-getD}
 use borrow.Author.Tests.{eqb-true, eqb-false, ne-eqb, le-leb, lt-leb}
 use Rattle.lists.specs.Choice.{if_then_else_}
 use Rattle.lists.specs.Lists.{allBelow, upTo}
+use Rattle.lists.proofs.Tests.{by-six}
 use Rattle.lists.proofs.Loops.{Upto, next, ended}
 use Rattle.lists.proofs.Bools.{and-left, all-below, below-all, all-same}
 use Rattle.numbers.specs.declared.TaskSlot.{TaskSlot}
@@ -20,26 +21,51 @@ use Rattle.slots.specs.SoundSlots.{mayWait, mayWaitOn, ringFine}
 use Rattle.objects.specs.declared.Objects.{Objects}
 use Rattle.objects.specs.Columns.{six, ring, noRing, known, cellsAt, kindOf, kindIn, rowsOf, holdersIn, canonical}
 use Rattle.objects.specs.Fine.{rangesFine, fineAt, rowFine, openAt, takenAt, holdingIn, Each}
-use Rattle.objects.proofs.Columns.{Full, by-state, held-kind, row-at, rows-many}
+use Rattle.objects.proofs.Columns.{Full, held-kind, row-at, rows-many}
 
 -- where nobody holds the holder's number is 0, which is in its range
 module _ (c z f k h : ℕ) where
-  low : (a b : Bool) → ((a && eqb h 0) && (b && ltb h 16)) ≡ ((a && eqb h 0) && (b && true))
-  low a b = go a (eqb h 0) refl
+  in-slots : (P : Bool → Bool → Type 0) → P true true → P false (ltb h 16) → P (eqb h 0) (ltb h 16)
+  in-slots P a b = go (eqb h 0) refl
     where
-      go : (x y : Bool) → eqb h 0 ≡ y → ((x && y) && (b && ltb h 16)) ≡ ((x && y) && (b && true))
-      go false y e = refl
-      go true false e = refl
-      go true true e = rw (eqb-true h 0 e)
+      go : (y : Bool) → eqb h 0 ≡ y → P y (ltb h 16)
+      go true e = rw (eqb-true h 0 e) a
+      go false e = b
+
+  -- nobody holds it: nothing but a ring is asked of a queue, nothing of a count but that it is 0
+  free-row : (a m : Bool) → (a && (m && (eqb h 0 && ltb h 16))) ≡ ((a && (m && eqb h 0)) && true)
+  free-row true true = in-slots (λ y l. (y && l) ≡ (y && true)) refl refl
+  free-row true false = refl
+  free-row false m = refl
+
+  ring-row : (a : Bool) → (eqb h 0 && (a && ltb h 16)) ≡ (eqb h 0 && (a && true))
+  ring-row a = in-slots (λ y l. (y && (a && l)) ≡ (y && (a && true))) refl refl
+
+  none-row : (a m : Bool) → (a && (m && (eqb h 0 && ltb h 16))) ≡ ((a && eqb h 0) && (m && true))
+  none-row true true = in-slots (λ y l. (y && l) ≡ (y && true)) refl refl
+  none-row true false = in-slots (λ y l. false ≡ (y && false)) refl refl
+  none-row false m = refl
+
+  -- somebody holds it
+  once-row : (a m l : Bool) → (a && (m && l)) ≡ ((a && (m && true)) && l)
+  once-row true true l = refl
+  once-row true false l = refl
+  once-row false m l = refl
+
+  again-row : (a m l : Bool) → (a && (m && l)) ≡ ((a && true) && (m && l))
+  again-row true m l = refl
+  again-row false m l = refl
 
   row-is : (s : ℕ) → rowFine (six s c z f k h) ≡ (known (six s c z f k h) && rangesFine (kindOf (six s c z f k h)))
   unfolding rowFine kindOf
-  row-is zero = low (noRing c z f k) true
-  row-is (suc zero) = low true (ringFine (ring c z f k))
-  row-is (suc (suc zero)) = low (noRing c z f k) true
-  row-is (suc (suc (suc zero))) = low (noRing c z f k) true
-  row-is (suc (suc (suc (suc zero)))) = refl
-  row-is (suc (suc (suc (suc (suc n))))) = rw (lt-leb (suc (suc (suc (suc (suc n))))) 4 (omega arith))
+  row-is zero = free-row (noRing c z f) (eqb k 0)
+  row-is (suc zero) = ring-row (ringFine (ring c z f k))
+  row-is (suc (suc zero)) = free-row (noRing c z f) (eqb k 0)
+  row-is (suc (suc (suc zero))) = free-row (noRing c z f) (eqb k 0)
+  row-is (suc (suc (suc (suc zero)))) = none-row (noRing c z f) (eqb k 0)
+  row-is (suc (suc (suc (suc (suc zero))))) = once-row (noRing c z f) (eqb k 0) (ltb h 16)
+  row-is (suc (suc (suc (suc (suc (suc zero)))))) = again-row (noRing c z f) (leb 1 k && leb k 255) (ltb h 16)
+  row-is (suc (suc (suc (suc (suc (suc (suc n))))))) = rw (lt-leb (suc (suc (suc (suc (suc (suc (suc n))))))) 6 (omega arith))
 
 fine-is : (os : Objects) (n : ℕ) → rowFine (cellsAt os n) ≡ fineAt os n
 unfolding kindIn
@@ -49,16 +75,16 @@ pub fines-are : (os : Objects) → allBelow 16 (λ n. rowFine (cellsAt os n)) �
 fines-are os = all-same 16 (λ n. rowFine (cellsAt os n)) (fineAt os) (λ n l. fine-is os n)
 
 -- who holds
-holder-is : (os : Objects) (n : ℕ) → holderOf (kindIn os n) .0 ≡ (if leb 4 (getD (os .state) n 0) then getD (os .holder) n 0 else 16)
+holder-is : (os : Objects) (n : ℕ) → holderOf (kindIn os n) .0 ≡ (if leb 5 (getD (os .state) n 0) then getD (os .holder) n 0 else 16)
 unfolding kindIn kindOf
 holder-is os n =
-    by-state
+    by-six
     (λ s. holderOf (kindOf (six s (getD (os .capacity) n 0) (getD (os .size) n 0) (getD (os .first) n 0) (getD (os .count) n 0) (getD (os .holder) n 0))) .0
-    ≡ (if leb 4 s then getD (os .holder) n 0 else 16))
-    refl refl refl refl (λ s l. rw (held-kind os n s l, le-leb 4 s l)) (getD (os .state) n 0)
+    ≡ (if leb 5 s then getD (os .holder) n 0 else 16))
+    refl refl refl refl refl refl (λ s l. rw (held-kind os n s l, le-leb 5 s (omega (arith, l)))) (getD (os .state) n 0)
 
 abbrev pub holding : List ℕ → List ℕ → ℕ → ℕ
-holding states holders i = if leb 4 (getD states i 0) then getD holders i 0 else 16
+holding states holders i = if leb 5 (getD states i 0) then getD holders i 0 else 16
 
 -- the marks of the rows, in numbers
 abbrev pub marking : List ℕ → List ℕ → List Bool → ℕ → List Bool
@@ -79,7 +105,7 @@ marks-are os f = by-rows mark (marking (os .state) (os .holder)) (rowsOf os) unu
     same c i h = ap (λ (m : ℕ). set c m true) (sym (holder-is os i) ∙ sym (ap (λ x. holderOf x .0) (row-at os i (rw (← rows-many os) h))))
 
 -- where nobody holds, nothing is marked
-none-marked : (states holders : List ℕ) (n : ℕ) → ((i : ℕ) → i < n → leb 4 (getD states i 0) ≡ false) → upTo (marking states holders) n (replicate 16 false) ≡ replicate 16 false
+none-marked : (states holders : List ℕ) (n : ℕ) → ((i : ℕ) → i < n → leb 5 (getD states i 0) ≡ false) → upTo (marking states holders) n (replicate 16 false) ≡ replicate 16 false
 unfolding upTo
 none-marked states holders zero f = refl
 none-marked states holders (suc n) f = ap (λ (c : List Bool). marking states holders c n) (none-marked states holders n (λ i l. f i (omega arith))) ∙ rw (f n (omega arith))
@@ -102,10 +128,10 @@ marks-end os f {c} {i} inv e = go (eqb (holdingIn os) 0) refl
 pub wait-is : (os : Objects) (t : TaskSlot) (n : ℕ) → (openAt os n || (takenAt os n && not (eqb (getD (os .holder) n 0) (t .0)))) ≡ mayWait t (kindIn os n)
 unfolding kindIn kindOf
 wait-is os t n =
-    by-state
-    (λ s. ((eqb s 1 && (eqb (getD (os .count) n 0) 0 || eqb (getD (os .count) n 0) (getD (os .capacity) n 0))) || (leb 4 s && not (eqb (getD (os .holder) n 0) (t .0))))
+    by-six
+    (λ s. ((eqb s 1 && (eqb (getD (os .count) n 0) 0 || eqb (getD (os .count) n 0) (getD (os .capacity) n 0))) || (leb 5 s && not (eqb (getD (os .holder) n 0) (t .0))))
     ≡ mayWait t (kindOf (six s (getD (os .capacity) n 0) (getD (os .size) n 0) (getD (os .first) n 0) (getD (os .count) n 0) (getD (os .holder) n 0))))
-    refl (or-false _) refl refl (λ s l. rw (held-kind os n s l, le-leb 4 s l, ne-eqb s 1 (λ e. omega arith))) (getD (os .state) n 0)
+    refl (or-false _) refl refl refl refl (λ s l. rw (held-kind os n s l, le-leb 5 s (omega (arith, l)), ne-eqb s 1 (λ e. omega arith))) (getD (os .state) n 0)
 
 pub waits-is : (os : Objects) (t : TaskSlot) {opens takes : List Bool} (n : ℕ) → Each (openAt os) opens → Each (takenAt os) takes → n < 16
     → mayWaitOn opens takes (os .holder) t n ≡ mayWait t (kindIn os n)

@@ -13,28 +13,20 @@ use Rattle.slots.specs.declared.Object.{Object}
 use Rattle.slots.specs.Kinds.{unused}
 use Rattle.objects.specs.declared.Objects.{Objects}
 use Rattle.objects.specs.declared.Cells.{Cells}
-use Rattle.objects.specs.Columns.{six, cellsOf, kindOf, objectsOf, kindIn, rowsOf, noRing, known, cellsAt, canonical}
+use Rattle.objects.specs.Columns.{six, bare, cellsOf, kindOf, objectsOf, kindIn, rowsOf, noRing, known, cellsAt, canonical}
 use Rattle.objects.proofs.Columns.{Full, rows-many, row-at}
 
--- no ring and no holder; no ring
-bare-back : (s c z f k h : ℕ) → (noRing c z f k && eqb h 0) ≡ true
-    → _≡_ {A = Cells} (record { state = s; capacity = 0; size = 0; first = 0; count = 0; holder = 0 })
-    (record { state = s; capacity = c; size = z; first = f; count = k; holder = h })
-bare-back s c z f k h e =
-    let r = and-left (noRing c z f k) (eqb h 0) e in
-    let r₁ = and-right (eqb c 0) _ r in
-    let r₂ = and-right (eqb z 0) _ r₁ in
-    rw (eqb-true c 0 (and-left (eqb c 0) _ r), eqb-true z 0 (and-left (eqb z 0) _ r₁), eqb-true f 0 (and-left (eqb f 0) _ r₂))
-    (rw (eqb-true k 0 (and-right (eqb f 0) _ r₂), eqb-true h 0 (and-right (noRing c z f k) _ e)))
+-- no ring, with any count and holder
+no-ring-back : (s c z f k h : ℕ) → noRing c z f ≡ true → six s 0 0 0 k h ≡ six s c z f k h
+no-ring-back s c z f k h e =
+    let r = and-right (eqb c 0) _ e in
+    rw (eqb-true c 0 (and-left (eqb c 0) _ e), eqb-true z 0 (and-left (eqb z 0) _ r), eqb-true f 0 (and-right (eqb z 0) _ r))
 
-held-back : (c z f k h : ℕ) → (noRing c z f k && true) ≡ true
-    → _≡_ {A = Cells} (record { state = 4; capacity = 0; size = 0; first = 0; count = 0; holder = h })
-    (record { state = 4; capacity = c; size = z; first = f; count = k; holder = h })
-held-back c z f k h e =
-    let r = and-left (noRing c z f k) true e in
-    let r₁ = and-right (eqb c 0) _ r in
-    let r₂ = and-right (eqb z 0) _ r₁ in
-    rw (eqb-true c 0 (and-left (eqb c 0) _ r), eqb-true z 0 (and-left (eqb z 0) _ r₁), eqb-true f 0 (and-left (eqb f 0) _ r₂), eqb-true k 0 (and-right (eqb f 0) _ r₂))
+-- a number that is not used is 0
+bare-back : (s c z f k h : ℕ) → (noRing c z f && (eqb k 0 && eqb h 0)) ≡ true → bare s 0 0 ≡ six s c z f k h
+bare-back s c z f k h e =
+    let r = and-right (noRing c z f) _ e in
+    rw (eqb-true k 0 (and-left (eqb k 0) _ r), eqb-true h 0 (and-right (eqb k 0) _ r)) (no-ring-back s c z f 0 0 (and-left (noRing c z f) _ e))
 
 cells-back : (s c z f k h : ℕ) → known (six s c z f k h) ≡ true → cellsOf (kindOf (six s c z f k h)) ≡ six s c z f k h
 unfolding kindOf
@@ -42,8 +34,12 @@ cells-back zero c z f k h e = bare-back 0 c z f k h e
 cells-back (suc zero) c z f k h e = rw (eqb-true h 0 e)
 cells-back (suc (suc zero)) c z f k h e = bare-back 2 c z f k h e
 cells-back (suc (suc (suc zero))) c z f k h e = bare-back 3 c z f k h e
-cells-back (suc (suc (suc (suc zero)))) c z f k h e = held-back c z f k h e
-cells-back (suc (suc (suc (suc (suc n))))) c z f k h e = absurd (omega (arith, leb-true (suc (suc (suc (suc (suc n))))) 4 (and-left (leb (suc (suc (suc (suc (suc n))))) 4) _ e)))
+cells-back (suc (suc (suc (suc zero)))) c z f k h e = rw (eqb-true h 0 (and-right (noRing c z f) _ e)) (no-ring-back 4 c z f k 0 (and-left (noRing c z f) _ e))
+cells-back (suc (suc (suc (suc (suc zero))))) c z f k h e =
+    rw (eqb-true k 0 (and-left (eqb k 0) _ (and-right (noRing c z f) _ e))) (no-ring-back 5 c z f 0 h (and-left (noRing c z f) _ e))
+cells-back (suc (suc (suc (suc (suc (suc zero)))))) c z f k h e = no-ring-back 6 c z f k h (and-left (noRing c z f) _ e)
+cells-back (suc (suc (suc (suc (suc (suc (suc n))))))) c z f k h e =
+    absurd (omega (arith, leb-true (suc (suc (suc (suc (suc (suc (suc n))))))) 6 (and-left (leb (suc (suc (suc (suc (suc (suc (suc n))))))) 6) _ e)))
 
 module _ (os : Objects) (full : Full os) where
   -- a column is what the rows say of it

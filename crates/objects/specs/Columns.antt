@@ -10,6 +10,8 @@ use Rattle.lists.specs.Lists.{any, index, allBelow, values}
 use Rattle.numbers.specs.Numbers.{task}
 use Rattle.numbers.specs.declared.TaskSlot.{TaskSlot}
 use Rattle.slots.specs.declared.Holder.the-variants.{Nobody, By}
+use Rattle.slots.specs.declared.Sort.{Sort}
+use Rattle.slots.specs.declared.Sort.the-variants.{Ordinary, Recursive}
 use Rattle.slots.specs.declared.Kind.{Kind}
 use Rattle.slots.specs.declared.Kind.the-variants.{Unused, Spent as SpentObject, Queue, Mutex}
 use Rattle.slots.specs.declared.Ring.{Ring}
@@ -24,25 +26,33 @@ six s c z f k h = record { state = s; capacity = c; size = z; first = f; count =
 abbrev pub ring : ℕ → ℕ → ℕ → ℕ → Ring
 ring c z f k = record { capacity = c; size = z; first = f; count = k }
 
-abbrev pub bare : ℕ → ℕ → Cells
-bare s h = six s 0 0 0 0 h
+-- one that has no ring
+abbrev pub bare : ℕ → ℕ → ℕ → Cells
+bare s k h = six s 0 0 0 k h
+
+-- a mutex, in one state or another by its sort
+abbrev pub mutexCells : Sort → ℕ → ℕ → ℕ → Cells
+mutexCells Ordinary a b h = bare a 0 h
+mutexCells (Recursive n) a b h = bare b n h
 
 -- an object in numbers: "a number that a state does not use is 0"
 abbrev pub cellsOf : Kind → Cells
-cellsOf Unused = bare 0 0
-cellsOf SpentObject = bare 3 0
+cellsOf Unused = bare 0 0 0
+cellsOf SpentObject = bare 3 0 0
 cellsOf (Queue q) = six 1 (q .capacity) (q .size) (q .first) (q .count) 0
-cellsOf (Mutex Nobody) = bare 2 0
-cellsOf (Mutex (By t)) = bare 4 (t .0)
+cellsOf (Mutex s Nobody) = mutexCells s 2 4 0
+cellsOf (Mutex s (By t)) = mutexCells s 5 6 (t .0)
 
 -- and back
 unfoldable pub kindOf : Cells → Kind
 kindOf c =
     if eqb (c .state) 0 then Unused
     else if eqb (c .state) 1 then Queue (ring (c .capacity) (c .size) (c .first) (c .count))
-    else if eqb (c .state) 2 then Mutex Nobody
+    else if eqb (c .state) 2 then Mutex Ordinary Nobody
     else if eqb (c .state) 3 then SpentObject
-    else Mutex (By (task (c .holder)))
+    else if eqb (c .state) 4 then Mutex (Recursive (c .count)) Nobody
+    else if eqb (c .state) 5 then Mutex Ordinary (By (task (c .holder)))
+    else Mutex (Recursive (c .count)) (By (task (c .holder)))
 
 -- the columns that stand for a list of objects
 unfoldable pub objectsOf : List Object → Objects
@@ -108,14 +118,19 @@ unfoldable pub unusedIn : Objects → ℕ
 unusedIn os = index (λ (x : Object). takesObject (x .kind)) (rowsOf os)
 
 -- "a number that a state does not use is 0"
-abbrev pub noRing : ℕ → ℕ → ℕ → ℕ → Bool
-noRing c z f k = eqb c 0 && (eqb z 0 && (eqb f 0 && eqb k 0))
+abbrev pub noRing : ℕ → ℕ → ℕ → Bool
+noRing c z f = eqb c 0 && (eqb z 0 && eqb f 0)
+
+-- a queue and a recursive mutex count
+abbrev pub counts : ℕ → Bool
+counts s = eqb s 1 || (eqb s 4 || eqb s 6)
 
 abbrev pub known : Cells → Bool
 known c =
-    leb (c .state) 4
-    && ((eqb (c .state) 1 || noRing (c .capacity) (c .size) (c .first) (c .count))
-    && (eqb (c .state) 4 || eqb (c .holder) 0))
+    leb (c .state) 6
+    && ((eqb (c .state) 1 || noRing (c .capacity) (c .size) (c .first))
+    && ((counts (c .state) || eqb (c .count) 0)
+    && (leb 5 (c .state) || eqb (c .holder) 0)))
 
 unfoldable pub canonical : Objects → Bool
 canonical os = allBelow 16 (λ i. known (cellsAt os i))

@@ -5,7 +5,7 @@ ghost use Rattle.lists.specs.Choice.{if_then_else_};
 ghost use Rattle.lists.specs.Lists.{allBelow};
 ghost use Rattle.slots.specs.SoundSlots.{ringFine};
 ghost use Rattle.objects.specs.Columns.{HoldersAre, ring, six};
-ghost use Rattle.objects.specs.Fine.{rowFine, fineAt, openAt, takenAt, holdingIn, Each, MarksAre, HoldingsAre};
+ghost use Rattle.objects.specs.Fine.{countRight, rowFine, fineAt, openAt, takenAt, holdingIn, Each, MarksAre, HoldingsAre};
 use crate::Holdings;
 use crate::Marks;
 use crate::Objects;
@@ -19,22 +19,32 @@ fn ring_fine(c: u8, z: u8, f: u8, k: u8) -> bool
     lists::both(few, lists::both(small, places))
 }
 
+// A queue's count is asked with its ring. Only a held recursive mutex has another than 0.
+fn count_right(s: u8, k: u8) -> bool
+    ensures { λ r. ⌜ r ≡ countRight s k ⌝ }
+{
+    if s == 6 {
+        return 1 <= k;
+    }
+    lists::either(s == 1, k == 0)
+}
+
 fn row_fine(s: u8, c: u8, z: u8, f: u8, k: u8, h: u8) -> bool
     ensures { λ r. ⌜ r ≡ rowFine (six s c z f k h) ⌝ }
 {
-    let few = lists::both(f == 0, k == 0);
-    let none = lists::both(c == 0, lists::both(z == 0, few));
+    let none = lists::both(c == 0, lists::both(z == 0, f == 0));
     let rings = lists::either(s == 1, none);
-    let known = lists::both(s <= 4, lists::both(rings, lists::either(s == 4, h == 0)));
-    let ranges = lists::either(s != 1, ring_fine(c, z, f, k));
-    lists::both(known, lists::both(ranges, h < 16))
+    let holds = lists::either(5 <= s, h == 0);
+    let ranges = lists::both(lists::either(s != 1, ring_fine(c, z, f, k)), h < 16);
+    let counts = lists::both(count_right(s, k), lists::both(holds, ranges));
+    lists::both(s <= 6, lists::both(rings, counts))
 }
 
 // Who holds it; 16 where nobody does.
 fn holder(s: u8, h: u8) -> u8
-    ensures { λ r. ⌜ r ≡ if leb 4 s then h else 16 ⌝ }
+    ensures { λ r. ⌜ r ≡ if leb 5 s then h else 16 ⌝ }
 {
-    if 4 <= s { h } else { 16 }
+    if 5 <= s { h } else { 16 }
 }
 
 impl Objects {
@@ -72,7 +82,7 @@ impl Objects {
         let mut n = 0u8;
         let mut i = 0usize;
         while i < 16 {
-            n += lists::one_if(4 <= state[i]);
+            n += lists::one_if(5 <= state[i]);
             i += 1;
         }
         n
@@ -125,7 +135,7 @@ impl Objects {
         let mut out = [false; 16];
         let mut i = 0usize;
         while i < 16 {
-            out[i] = 4 <= state[i];
+            out[i] = 5 <= state[i];
             i += 1;
         }
         out

@@ -11,7 +11,7 @@ use Rattle.lists.specs.Choice.{if_then_else_}
 use Rattle.lists.specs.Lists.{upTo}
 use Rattle.lists.proofs.Loops.{some-more}
 use Rattle.calls.specs.Behind.{asked}
-use Rattle.rows.specs.Applies.{outOfRange, namesNone, wrongSize, notForIdle, notWithHold, noneFree, notHis, hisAlready, notSuspended, mustWait, noDepth, noTick, table}
+use Rattle.rows.specs.Applies.{outOfRange, namesNone, wrongSize, notForIdle, notWithHold, noneFree, notHis, hisAlready, countFull, notSuspended, mustWait, noDepth, noTick, table}
 use Rattle.slots.specs.Values.{taskAt}
 use Rattle.rules.specs.Tables.{withUses, withHold}
 use Rattle.rules.specs.Lines.{chosen}
@@ -35,16 +35,16 @@ use Rattle.rules.proofs.LineTurns.{chosen-again}
 use Rattle.rules.proofs.TickSleeps.{ticks-uses, ticks-ready, none-sooner, none-ever, never-due, someone-then}
 use Rattle.promises.specs.Types.{Asked, Call, Advance, Tick, Ready, State}
 use Rattle.promises.proofs.AlikeSteps.{not-refused}
-use Rattle.promises.specs.Advance.{singly, atFirst, AsTicks, AdvanceRefused, SleepsSo}
+use Rattle.promises.specs.Advance.{singly, doneWith, AsTicks, AdvanceRefused, SleepsSo}
 
 -- ── which row applies
 module _ (k : State) (item store : ℕ) (whole : store ≡ 9216) where
   tick-passes : k .hold ≡ 0 → laterRow k (asked (k .uses) Tick) item store ≡ 0
-  unfolding asked laterRow table outOfRange namesNone wrongSize notForIdle notWithHold noneFree inUse notHis hisAlready notSuspended closesCircle mustWait noDepth noTick
+  unfolding asked laterRow table outOfRange namesNone wrongSize notForIdle notWithHold noneFree inUse notHis hisAlready countFull notSuspended closesCircle mustWait noDepth noTick
   tick-passes z = rw (z, whole)
 
   advance-passes : k .hold ≡ 0 → (n : ℕ) → 1 ≤ n → n ≤ 65535 → laterRow k (asked (k .uses) (Advance n)) item store ≡ 0
-  unfolding asked laterRow table outOfRange namesNone wrongSize notForIdle notWithHold noneFree inUse notHis hisAlready notSuspended closesCircle mustWait noDepth noTick
+  unfolding asked laterRow table outOfRange namesNone wrongSize notForIdle notWithHold noneFree inUse notHis hisAlready countFull notSuspended closesCircle mustWait noDepth noTick
   advance-passes z n l m = rw (z, whole, lt-leb 4294967295 n (omega arith), le-ltb n 1 l, le-ltb 65535 n m)
 
   too-many : (n : ℕ) (b : Bool) → leb 4294967295 n ≡ b → 65535 < n → laterRow k (asked (k .uses) (Advance n)) item store ≡ 4
@@ -73,23 +73,23 @@ module _ (k : State) (s : List ℕ) (e : sound k ≡ true) (z : k .hold ≡ 0) (
   still : (n : ℕ) → taskAt (ticks true n k .tasks) (k .running) .place ≡ Ready
   still n = ticks-ready true n k (k .running) (sound-says k e .running .runs .ready)
 
-  advance-step : (item : List ℕ) (n : ℕ) → 1 ≤ n → n ≤ 65535 → step k (Advance n) item s ≡ atFirst (ticks true n k) s
+  advance-step : (item : List ℕ) (n : ℕ) → 1 ≤ n → n ≤ 65535 → step k (Advance n) item s ≡ doneWith (ticks true n k) s
   unfolding step refusal accepted after answered stored usesAfter effect advanced asked
   advance-step item n l m =
       rw (e, advance-passes k (length item) (length s) whole z n l m, worked-still (ticks true n k) (advanced-reckoned k (sound-says k e) n))
       (rw (chosen-again (ticks true n k) (ticks-unheld n k U), still n)
-      (ap (λ us. atFirst (withUses (ticks true n k) us) s) (sym (ticks-uses true n k))))
+      (ap (λ us. doneWith (withUses (ticks true n k) us) s) (sym (ticks-uses true n k))))
 
-  tick-step : step k Tick [] s ≡ atFirst (turnedIf true (oneTick k)) s
+  tick-step : step k Tick [] s ≡ doneWith (turnedIf true (oneTick k)) s
   unfolding step refusal accepted after answered stored usesAfter effect asked ticks upTo
   tick-step =
       rw (e, tick-passes k 0 (length s) whole z, worked-still (ticked k) (ticked-reckoned k (sound-says k e)), ticked-free k z, still 1)
-      (ap (λ us. atFirst (withUses (turnedIf true (oneTick k)) us) s) (sym (ticks-uses true 1 k)))
+      (ap (λ us. doneWith (withUses (turnedIf true (oneTick k)) us) s) (sym (ticks-uses true 1 k)))
 
 -- so n ticks are
 module _ (k : State) (s : List ℕ) (e : sound k ≡ true) (z : k .hold ≡ 0) (whole : length s ≡ 9216) where
   record Singly (n : ℕ) : Type 0 where
-    is : singly n (atFirst k s) ≡ atFirst (ticks true n k) s
+    is : singly n (doneWith k s) ≡ doneWith (ticks true n k) s
     sound-then : sound (ticks true n k) ≡ true
 
   singly-is : (n : ℕ) → Singly n
@@ -106,7 +106,7 @@ module _ (k : State) (s : List ℕ) (e : sound k ≡ true) (z : k .hold ≡ 0) (
 
 -- ── with a store of another length, or a kernel that is not sound, nothing changes
 module _ (k : State) (s : List ℕ) (m : ℕ) (no : (c : Call) (item : List ℕ) → step k c item s ≡ turnedAway k m s) where
-  pub none-changed : (n : ℕ) → singly (suc n) (atFirst k s) ≡ turnedAway k m s
+  pub none-changed : (n : ℕ) → singly (suc n) (doneWith k s) ≡ turnedAway k m s
   unfolding singly upTo
   none-changed zero = no Tick []
   none-changed (suc n) = ap (λ (d : Stepped). step (d .kernel) Tick [] (d .store)) (none-changed n) ∙ no Tick []
@@ -121,16 +121,16 @@ turned-away-1 k s e c item = rw e
 
 -- ── "the result must equal n single ticks one by one"
 module _ (k : State) (item : List ℕ) (e : sound k ≡ true) (z : k .hold ≡ 0) where
-  same-step : (s : List ℕ) (n : ℕ) → 1 ≤ n → n ≤ 65535 → step k (Advance n) item s ≡ singly n (atFirst k s)
+  same-step : (s : List ℕ) (n : ℕ) → 1 ≤ n → n ≤ 65535 → step k (Advance n) item s ≡ singly n (doneWith k s)
   same-step s n l m = go (eqb (length s) 9216) refl n l m
     where
-      go : (b : Bool) → eqb (length s) 9216 ≡ b → (n : ℕ) → 1 ≤ n → n ≤ 65535 → step k (Advance n) item s ≡ singly n (atFirst k s)
+      go : (b : Bool) → eqb (length s) 9216 ≡ b → (n : ℕ) → 1 ≤ n → n ≤ 65535 → step k (Advance n) item s ≡ singly n (doneWith k s)
       go b q zero l m = absurd (omega arith)
       go true q (suc i) l m = let w = eqb-true (length s) 9216 q in advance-step k s e z w item (suc i) l m ∙ sym (singly-is k s e z w (suc i) .is)
       go false q (suc i) l m = turned-away-2 k s e q (Advance (suc i)) item ∙ sym (none-changed k s 2 (turned-away-2 k s e q) i)
 
 -- what the answer was does not tell in the next step
-from-there : (d : Stepped) (n : ℕ) → singly (suc n) (atFirst (d .kernel) (d .store)) ≡ singly (suc n) d
+from-there : (d : Stepped) (n : ℕ) → singly (suc n) (doneWith (d .kernel) (d .store)) ≡ singly (suc n) d
 unfolding singly upTo
 from-there d zero = refl
 from-there d (suc n) = ap (λ (x : Stepped). step (x .kernel) Tick [] (x .store)) (from-there d n)
@@ -152,14 +152,14 @@ module _ (k : State) (item s : List ℕ) (e : sound k ≡ true) (z : k .hold ≡
       same-step (d .kernel) item (step-kept k (Advance a) item s e) (still-free a p (omega arith)) (d .store) (suc b) q (omega arith)
       ∙ from-there d b
       ∙ ap (singly (suc b)) (same-step k item e z s a p (omega arith))
-      ∙ sym (some-more (λ (x : Stepped). step (x .kernel) Tick [] (x .store)) (atFirst k s) a (suc b) n r)
+      ∙ sym (some-more (λ (x : Stepped). step (x .kernel) Tick [] (x .store)) (doneWith k s) a (suc b) n r)
       ∙ sym (same-step k item e z s n (omega arith) m)
 
 pub advance-is-ticks : (k : State) → sound k ≡ true → k .hold ≡ 0 → (item s : List ℕ) (n : ℕ) → 1 ≤ n → n ≤ 65535 → AsTicks k item s n
 advance-is-ticks k e z item s n l m = record { same = same-step k item e z s n l m; prefix = λ a b p q r. in-two k item s e z a b n p q m r }
 
 -- ── how long the board may sleep
-at-first : (k : State) (s : List ℕ) → singly 0 (atFirst k s) .kernel .tasks ≡ k .tasks
+at-first : (k : State) (s : List ℕ) → singly 0 (doneWith k s) .kernel .tasks ≡ k .tasks
 unfolding singly upTo
 at-first k s = refl
 
@@ -188,12 +188,12 @@ pended-step k s h = go (eqb no 0) refl
         record { tasks = ap (λ (i : State). chosen i .tasks) e ∙ chosen-only j .tasks; hold = rw (e, chosen-only j .hold) h; store = refl }
     go false q = record { tasks = refl; hold = h; store = refl }
 
-pends : (k : State) (s : List ℕ) → 0 < k .hold → (n : ℕ) → Pends k s (singly n (atFirst k s))
+pends : (k : State) (s : List ℕ) → 0 < k .hold → (n : ℕ) → Pends k s (singly n (doneWith k s))
 unfolding singly upTo
 pends k s h zero = record { tasks = refl; hold = h; store = refl }
 pends k s h (suc n) =
     let p = pends k s h n in
-    let d = singly n (atFirst k s) in
+    let d = singly n (doneWith k s) in
     let q = pended-step (d .kernel) (d .store) (p .hold) in
     record { tasks = q .tasks ∙ p .tasks; hold = q .hold; store = q .store ∙ p .store }
 
@@ -202,10 +202,10 @@ abbrev Quiet : State → ℕ → Type 0
 Quiet k n = sound k ≡ true → k .hold ≡ 0 → ticks true n k .tasks ≡ k .tasks
 
 module _ (k : State) (s : List ℕ) where
-  singly-quiet : (n : ℕ) → Quiet k n → singly n (atFirst k s) .kernel .tasks ≡ k .tasks
+  singly-quiet : (n : ℕ) → Quiet k n → singly n (doneWith k s) .kernel .tasks ≡ k .tasks
   singly-quiet n f = go (sound k) refl (eqb (k .hold) 0) refl (eqb (length s) 9216) refl n f
     where
-      go : (a : Bool) → sound k ≡ a → (b : Bool) → eqb (k .hold) 0 ≡ b → (c : Bool) → eqb (length s) 9216 ≡ c → (m : ℕ) → Quiet k m → singly m (atFirst k s) .kernel .tasks ≡ k .tasks
+      go : (a : Bool) → sound k ≡ a → (b : Bool) → eqb (k .hold) 0 ≡ b → (c : Bool) → eqb (length s) 9216 ≡ c → (m : ℕ) → Quiet k m → singly m (doneWith k s) .kernel .tasks ≡ k .tasks
       go true e true z true w m g =
           let y = eqb-true (k .hold) 0 z in
           ap (λ (d : Stepped). d .kernel .tasks) (singly-is k s e y (eqb-true (length s) 9216 w) m .is) ∙ g e y

@@ -18,14 +18,16 @@ use Rattle.slots.specs.declared.Place.{Place}
 use Rattle.slots.specs.declared.Place.the-variants.{Free, Ready, Delayed, Waiting}
 use Rattle.slots.specs.declared.Task.{Task}
 use Rattle.slots.specs.declared.Ring.{Ring}
+use Rattle.slots.specs.declared.Holder.{Holder}
 use Rattle.slots.specs.declared.Holder.the-variants.{Nobody, By}
+use Rattle.slots.specs.declared.Sort.{Sort}
 use Rattle.slots.specs.declared.Kind.{Kind}
 use Rattle.slots.specs.declared.Kind.the-variants.{Unused, Queue, Mutex}
 use Rattle.slots.specs.Who.{Who, AllReady, WaitersOf}
 use Rattle.slots.specs.Places.{isReady, isListed, wakesAt, outcomeDue}
 use Rattle.slots.specs.Values.{freeTask, spentTask, readyAt, placed, owned, levelled, brokenOff, taskAt}
 use Rattle.rules.specs.State.{State}
-use Rattle.slots.specs.Kinds.{kindAt}
+use Rattle.slots.specs.Kinds.{countOf, counting, kindAt}
 use Rattle.rules.specs.Tables.{freeSlot, freeObject, withTask, withObject, withOrder, withRunning, withHold}
 use Rattle.rules.specs.Lines.{begun, level, first, runsIf, chosen, toTail, toHead, leaves}
 use Rattle.rules.specs.Sound.{noHigher}
@@ -34,7 +36,7 @@ use Rattle.rules.specs.Loans.{moved, movedIf, prioritized, ruled, relevelled, w
 use Rattle.rules.specs.Ticks.{wokenIfDue, wakes, countedOn, oneTick, turned, ticked, ticks, released, held, advanced}
 use Rattle.rules.specs.Rings.{oneLess, oneMore}
 use Rattle.rules.specs.Queues.{outlet, outletFor, sentBy, sent, refilledBy, received, sentTo, receivedFrom}
-use Rattle.rules.specs.Effects.{created, deleted, suspended, resumed, yielded, delayed, queueMade, mutexMade, removed, takenFrom, taken, handedTo, given}
+use Rattle.rules.specs.Effects.{created, deleted, suspended, resumed, yielded, delayed, queueMade, mutexMade, removed, takenFrom, taken, handedTo, givenBack, given}
 use Rattle.rules.proofs.TableSlots.{past-tasks}
 use Rattle.rules.proofs.LoanWorks.{upToSlot}
 use Rattle.rules.proofs.TableWithin.{first-within, first-single, by-outlet}
@@ -172,9 +174,9 @@ pub queue-made-too : {k j : State} (c s : ℕ) → Twins k j → Twins (queueMad
 unfolding queueMade
 queue-made-too {k} c s w = twice (λ z. queueMade z c s) w (λ m v. object-too (object (freeObject (k .objects))) (Queue (record { capacity = c; size = s; first = 0; count = 0 })) v)
 
-pub mutex-made-too : {k j : State} → Twins k j → Twins (mutexMade k) (mutexMade j)
+pub mutex-made-too : {k j : State} (s : Sort) → Twins k j → Twins (mutexMade k s) (mutexMade j s)
 unfolding mutexMade
-mutex-made-too {k} w = twice (λ z. mutexMade z) w (λ m v. object-too (object (freeObject (k .objects))) (Mutex Nobody) v)
+mutex-made-too {k} s w = twice (λ z. mutexMade z s) w (λ m v. object-too (object (freeObject (k .objects))) (Mutex s Nobody) v)
 
 pub removed-too : {k j : State} (o : ObjSlot) (last : Bool) → Twins k j → Twins (removed k o last) (removed j o last)
 unfolding removed
@@ -284,29 +286,47 @@ pub sent-to-too : {k j : State} (o : ObjSlot) (x : Kind) (n : ℕ) → Twins k j
 sent-to-too o Unused n w = w
 sent-to-too o SpentObject n w = w
 sent-to-too o (Queue q) n w = sent-too o q n w
-sent-to-too o (Mutex h) n w = w
+sent-to-too o (Mutex s h) n w = w
 
 pub received-from-too : {k j : State} (o : ObjSlot) (x : Kind) (n : ℕ) → Twins k j → Twins (receivedFrom k o x n) (receivedFrom j o x n)
 received-from-too o Unused n w = w
 received-from-too o SpentObject n w = w
 received-from-too o (Queue q) n w = received-too o q n w
-received-from-too o (Mutex h) n w = w
+received-from-too o (Mutex s h) n w = w
 
 pub taken-too : {k j : State} (o : ObjSlot) (n : ℕ) → Twins k j → Twins (taken k o n) (taken j o n)
 unfolding taken
 taken-too {k} o n w = twice (λ z. taken z o n) w (λ m v. go m v (kindAt (k .objects) o))
   where
+    held : (m : Order) → Twins k (withOrder k m) → (s : Sort) (h : TaskSlot) (b : Bool)
+        → Twins (if b then withObject k o (Mutex (counting s (countOf s + 1)) (By h)) else waitFor k o n)
+        (if b then withObject (withOrder k m) o (Mutex (counting s (countOf s + 1)) (By h)) else waitFor (withOrder k m) o n)
+    held m v s h true = object-too o (Mutex (counting s (countOf s + 1)) (By h)) v
+    held m v s h false = wait-too o n v
+
     go : (m : Order) → Twins k (withOrder k m) → (x : Kind) → Twins (takenFrom k o x n) (takenFrom (withOrder k m) o x n)
     go m v Unused = v
     go m v SpentObject = v
     go m v (Queue q) = v
-    go m v (Mutex Nobody) = object-too o (Mutex (By (k .running))) v
-    go m v (Mutex (By h)) = wait-too o n v
+    go m v (Mutex s Nobody) = object-too o (Mutex (counting s 1) (By (k .running))) v
+    go m v (Mutex s (By h)) = held m v s h (sameTask h (k .running))
 
 pub given-too : {k j : State} (o : ObjSlot) → Twins k j → Twins (given k o) (given j o)
 unfolding given
-given-too {k} o w = twice (λ z. given z o) w (λ m v. rw (← first-same k m (v .alike) (WaitersOf o)) (go m v (first k (WaitersOf o)) refl))
+given-too {k} o w = twice (λ z. given z o) w (λ m v. back m v (kindAt (k .objects) o))
   where
-    go : (m : Order) → Twins k (withOrder k m) → (f : List TaskSlot) → first k (WaitersOf o) ≡ f → Twins (handedTo k o f) (handedTo (withOrder k m) o f)
-    go m v [] e = object-too o (Mutex Nobody) v
-    go m v (t ∷ r) e = object-too o (Mutex (By t)) (arrives-too t Ready 1 (first-low k (WaitersOf o) t r (v .slots) e) v)
+    go : (m : Order) → Twins k (withOrder k m) → (s : Sort) (f : List TaskSlot) → first k (WaitersOf o) ≡ f → Twins (handedTo k o s f) (handedTo (withOrder k m) o s f)
+    go m v s [] e = object-too o (Mutex (counting s 0) Nobody) v
+    go m v s (t ∷ r) e = object-too o (Mutex (counting s 1) (By t)) (arrives-too t Ready 1 (first-low k (WaitersOf o) t r (v .slots) e) v)
+
+    last : (m : Order) → Twins k (withOrder k m) → (s : Sort) (h : Holder) (b : Bool)
+        → Twins (if b then withObject k o (Mutex (counting s (countOf s - 1)) h) else handedTo k o s (first k (WaitersOf o)))
+        (if b then withObject (withOrder k m) o (Mutex (counting s (countOf s - 1)) h) else handedTo (withOrder k m) o s (first (withOrder k m) (WaitersOf o)))
+    last m v s h true = object-too o (Mutex (counting s (countOf s - 1)) h) v
+    last m v s h false = rw (← first-same k m (v .alike) (WaitersOf o)) (go m v s (first k (WaitersOf o)) refl)
+
+    back : (m : Order) → Twins k (withOrder k m) → (x : Kind) → Twins (givenBack k o x) (givenBack (withOrder k m) o x)
+    back m v Unused = v
+    back m v SpentObject = v
+    back m v (Queue q) = v
+    back m v (Mutex s h) = last m v s h (ltb 1 (countOf s))

@@ -72,4 +72,4 @@ create-low k p item store h e = go (eqb (freeSlot (k .tasks)) 16) refl (clear (t
 pub resume-low : (k : State) (t : TaskSlot) (last : Bool) (item store : ℕ) → length (k .tasks) ≤ 16 → laterRow k (onTask 4 t last 0) item store ≡ 0 → t .0 < 16
 unfolding laterRow table notSuspended every
 resume-low k t last item store h e = slot-low isSuspended refl (k .tasks) t h
-    (on (isSuspended (taskAt (k .tasks) t .place)) (clear (table (seen k (onTask 4 t last 0)) (onTask 4 t last 0) item store) refl e 10))
+    (on (isSuspended (taskAt (k .tasks) t .place)) (clear (table (seen k (onTask 4 t last 0)) (onTask 4 t last 0) item store) refl e 11))

@@ -10,12 +10,13 @@ use borrow.Author.Tests.{eqb-true}
 use Rattle.lists.specs.Choice.{if_then_else_}
 use Rattle.numbers.specs.declared.ObjSlot.{ObjSlot}
 use Rattle.calls.specs.declared.Call.{Call}
-use Rattle.calls.specs.declared.Call.the-variants.{Create, Delete, Suspend, Resume, SetPriority, Delay, Yield, Hold, Release, MakeQueue, MakeMutex, Remove, Send, Receive, Take, Give, Tick, Advance}
+use Rattle.calls.specs.declared.Call.the-variants.{Create, Delete, Suspend, Resume, SetPriority, Delay, Yield, Hold, Release, MakeQueue, MakeMutex, Remove, Send, Receive, Take, Give, Tick, Advance, MakeRecursive}
 use Rattle.calls.specs.declared.Uses.{Uses}
 use Rattle.calls.specs.declared.Asked.{Asked}
 use Rattle.calls.specs.Door.{lastIn, taskSlot, objSlot}
 use Rattle.calls.specs.Behind.{asked}
 use Rattle.order.specs.declared.Order.{Order}
+use Rattle.slots.specs.declared.Sort.the-variants.{Ordinary, Recursive}
 use Rattle.slots.specs.declared.Kind.{Kind}
 use Rattle.slots.specs.declared.Kind.the-variants.{Unused, Queue, Mutex}
 use Rattle.slots.specs.Who.{WaitersOf}
@@ -51,7 +52,7 @@ effect-too k j Yield item store e w = yielded-too w
 effect-too k j Hold item store e w = held-too w
 effect-too k j Release item store e w = released-too w
 effect-too k j (MakeQueue c z) item store e w = queue-made-too c z w
-effect-too k j MakeMutex item store e w = mutex-made-too w
+effect-too k j MakeMutex item store e w = mutex-made-too Ordinary w
 effect-too k j (Remove o) item store e w = removed-too (objSlot (k .uses) o) (lastIn (k .uses .objects) (objSlot (k .uses) o .0)) w
 effect-too k j (Send o n) item store e w = twice (λ z. sentTo z (objSlot (k .uses) o) (kindAt (z .objects) (objSlot (k .uses) o)) n) w
     (λ m v. sent-to-too (objSlot (k .uses) o) (kindAt (k .objects) (objSlot (k .uses) o)) n v)
@@ -61,6 +62,7 @@ effect-too k j (Take o n) item store e w = taken-too (objSlot (k .uses) o) n w
 effect-too k j (Give o) item store e w = given-too (objSlot (k .uses) o) w
 effect-too k j Tick item store e w = ticked-too w
 effect-too k j (Advance n) item store e w = advanced-too n w
+effect-too k j MakeRecursive item store e w = mutex-made-too (Recursive 0) w
 
 uses-too : {k j : State} {us vs : Uses} → Alike k j → us ≡ vs → Alike (withUses k us) (withUses j vs)
 uses-too a e =
@@ -82,14 +84,14 @@ unfolding storeSent
 sent-store-too k m a o Unused item s = refl
 sent-store-too k m a o SpentObject item s = refl
 sent-store-too k m a o (Queue q) item s = rw (← outlet-same k m a o q) (ap (λ n. putAt n item s) (by-outlet k o q (λ x. placeBy k o q x ≡ placeBy (withOrder k m) o q x) (λ t e. refl) refl refl))
-sent-store-too k m a o (Mutex h) item s = refl
+sent-store-too k m a o (Mutex x h) item s = refl
 
 received-store-too : (k : State) (m : Order) → Alike k (withOrder k m) → (o : ObjSlot) (x : Kind) (s : List ℕ) → storeReceivedFrom k o x s ≡ storeReceivedFrom (withOrder k m) o x s
 unfolding storeReceived
 received-store-too k m a o Unused s = refl
 received-store-too k m a o SpentObject s = refl
 received-store-too k m a o (Queue q) s = rw (← first-same k m a (WaitersOf o))
-received-store-too k m a o (Mutex h) s = refl
+received-store-too k m a o (Mutex x h) s = refl
 
 stored-too : (k j : State) (a : Asked) (item s : List ℕ) → Twins k j → stored k a item s ≡ stored j a item s
 unfolding stored

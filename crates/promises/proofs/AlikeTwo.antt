@@ -26,7 +26,7 @@ use Rattle.rules.specs.Waits.{arrives}
 use Rattle.chains.specs.Lent.{goesOn, levels}
 use Rattle.rules.specs.Loans.{movedIf, prioritized, ruled, relevelled, workedOut}
 use Rattle.rules.specs.Ticks.{wokenIfDue, wakes, countedOn, oneTick, turned, ticked}
-use Rattle.rows.specs.Applies.{outOfRange, namesNone, wrongSize, notForIdle, notWithHold, noneFree, notHis, hisAlready, notSuspended, mustWait, noDepth, noTick, table}
+use Rattle.rows.specs.Applies.{outOfRange, namesNone, wrongSize, notForIdle, notWithHold, noneFree, notHis, hisAlready, countFull, notSuspended, mustWait, noDepth, noTick, table}
 use Rattle.chains.specs.Chains.{within}
 use Rattle.rules.specs.Circles.{leadsTo, closesCircle, noCircle}
 use Rattle.rules.specs.Refusals.{inUse, laterRow, refusal}
@@ -67,7 +67,7 @@ same-but-begun = (refl, (λ p. refl, λ o. refl))
 -- so without the field `begun` alike kernels would part
 pub order-counts : (step firstBegan Tick [] (replicate 9216 0) .kernel .running ≡ task 1) × (step secondBegan Tick [] (replicate 9216 0) .kernel .running ≡ task 2)
 unfolding firstBegan secondBegan step accepted after asked refusal laterRow table outOfRange namesNone wrongSize notForIdle notWithHold noneFree inUse
-    notHis hisAlready notSuspended closesCircle leadsTo noCircle within mustWait noDepth noTick sound every allBelow any kept foldl ordered without count tidy taskAt kindAt holds line those
+    notHis hisAlready countFull notSuspended closesCircle leadsTo noCircle within mustWait noDepth noTick sound every allBelow any kept foldl ordered without count tidy taskAt kindAt holds line those
     begun highest leader first chosen toTail arrives wokenIfDue wakes countedOn oneTick turned ticked effect noHigher runsFine tablesFine levelsFine listingFine
     clockFine usesFine freshUses ruled levels goesOn values upTo relevelled workedOut prioritized movedIf
 order-counts = (refl, refl)

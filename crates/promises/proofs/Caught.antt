@@ -31,7 +31,7 @@ use Rattle.rules.proofs.LineHeights.{height-highest}
 use Rattle.rules.proofs.LineLeads.{first-heads-highest}
 use Rattle.rules.specs.Loans.{moved, movedIf, ruled, prioritized, relevelled, workedOut, newPriority}
 use Rattle.rows.specs.Asking.{is}
-use Rattle.rows.specs.Applies.{outOfRange, namesNone, wrongSize, notForIdle, notWithHold, noneFree, notHis, hisAlready, notSuspended, mustWait, noDepth}
+use Rattle.rows.specs.Applies.{outOfRange, namesNone, wrongSize, notForIdle, notWithHold, noneFree, notHis, hisAlready, countFull, notSuspended, mustWait, noDepth}
 use Rattle.chains.specs.Chains.{within}
 use Rattle.rules.specs.Circles.{leadsTo, closesCircle, noCircle}
 use Rattle.rules.specs.Refusals.{heldOrWaited, inUse}
@@ -84,7 +84,7 @@ unfolding wrongs idlePrograms easyMistakes numberMistakes lineMistakes wakeMista
     alwaysDone changesNothing trace showsBy sameNumber sameList sameView every allBelow foldl upTo values index any kept asked ordered without count tidy
     putAt created deleted suspended resumed yielded delayed queueMade mutexMade removed taken given effect itemAt outlet sent storeSent
     received storeReceived line those begun highest leader first chosen toTail toHead leaves moved movedIf prioritized newPriority ruled levels goesOn raised relevelled workedOut outOfRange
-    namesNone wrongSize notForIdle notWithHold noneFree heldOrWaited inUse notHis hisAlready notSuspended closesCircle leadsTo noCircle within mustWait noDepth noTick table laterRow
+    namesNone wrongSize notForIdle notWithHold noneFree heldOrWaited inUse notHis hisAlready countFull notSuspended closesCircle leadsTo noCircle within mustWait noDepth noTick table laterRow
     refusal noHigher runsFine tablesFine levelsFine listingFine clockFine usesFine sound stored answered usesAfter after accepted step fresh freshUses
     taskAt kindAt holds freeSlot freeObject wokenIfDue wakes countedOn oneTick turned ticked ticks released held advanced arrives waitFor
 caught number n = refl

@@ -1,40 +1,40 @@
 -- A take is refused 17 exactly if accepting it would have made a circle; and in a sound kernel every chain of waits ends.
 use Prim.Native.Nat.{ℕ, _<_, _≤_}
 use mathlib.Core.Path.{_≡_, refl, sym, ap, _∙_, subst}
-use mathlib.Core.Bool.{Bool, true, false, false≢true}
+use mathlib.Core.Bool.{Bool, true, false, not, _&&_, false≢true}
 use mathlib.Core.List.{List, [], _∷_}
 use native.Mathlib.Omega.{arith}
 use lib.Dec.{eqb}
 use lib.ListN.{length}
-use borrow.Author.Tests.{eqb-true, eqb-false, eq-eqb}
+use borrow.Author.Tests.{eqb-true, eqb-false, eq-eqb, ne-eqb}
+use Rattle.lists.proofs.Bools.{and-left, and-right, and-intro, off, not-off, untrue}
 use Rattle.lists.specs.Choice.{if_then_else_}
-use Rattle.numbers.specs.Numbers.{task}
 use Rattle.calls.specs.declared.ObjNo.{ObjNo}
 use Rattle.calls.specs.Door.{objSlot}
 use Rattle.calls.specs.Behind.{onObject, asked}
 use Rattle.calls.specs.Said.{says, refused}
 use Rattle.slots.specs.Values.{placed, taskAt}
-use Rattle.slots.specs.Kinds.{kindAt, holderOf, heldBy}
-use Rattle.rules.specs.Types.{Wake, Waiting, Task, Holder, Nobody, By, Kind, Unused, SpentObject, Queue, Mutex, Object, Take, AMutex}
+use Rattle.slots.specs.Kinds.{kindAt, isMutex, isBy, hands, byWhom, holderOf, heldBy, recursiveBy}
+use Rattle.rules.specs.Types.{Wake, Waiting, Task, Holder, Nobody, By, Kind, Object, Take, AMutex}
 use Rattle.rules.specs.Tables.{withUses}
 use Rattle.rows.specs.Applies.{notForIdle, hisAlready, Row, firstRow, table}
 use Rattle.rules.specs.Lines.{chosen, toTail}
 use Rattle.rules.specs.Waits.{wakeOf, arrives, waitFor}
 use Rattle.rules.specs.Loans.{waitsFor, workedOut}
 use Rattle.rules.specs.Circles.{leadsTo, closesCircle}
-use Rattle.rules.specs.Effects.{takenFrom, taken, effect}
-use Rattle.rules.specs.Sentences.{Holds, Exists, MayWait, Reaches, itself, along, Circle, back, SoundBy, Sound}
+use Rattle.rules.specs.Effects.{taken, effect}
+use Rattle.rules.specs.Sentences.{Holds, Exists, MayWait, receiver, sender, taker, Reaches, itself, along, Circle, back, SoundBy, Sound}
 use Rattle.rules.specs.Sound.{sound}
 use Rattle.rules.specs.Refusals.{laterRow}
 use Rattle.rules.specs.Steps.{accepted, after, usesAfter, step}
-use Rattle.rules.proofs.TableSlots.{by-kind}
+use Rattle.rules.proofs.TableHolds.{held-mutex, not-again, no-circle-leads, again-if-his}
+use Rattle.rules.proofs.MutexCases.{takes-waiting}
 use Rattle.rules.proofs.CircleRule.{leads-reaches, reaches-leads, nobody-leads, links-closed, chain-last}
 use Rattle.rules.proofs.RowPasses.{CircleGiven, circle-given}
 use Rattle.rules.proofs.SoundSays.{sound-says}
 use Rattle.rules.proofs.LoanRule.{fewer-reach}
 use Rattle.rules.proofs.LoanWorks.{worked-same, worked-place}
 use Rattle.rules.proofs.TickJumps.{chosen-only}
-use Rattle.rules.proofs.KeepObjects.{no-wait-free}
 use Rattle.rules.proofs.KeepMutexes.{waits-nearly}
 use Rattle.rules.proofs.KeepChosen.{worked-sound}
 use Rattle.rules.proofs.KeepCircles.{take-uncircled}
@@ -54,19 +54,18 @@ module _ (k : State) (S : Sound k) where
   chain-ends t x =
       let l = there-low (k .tasks) t (S .tables .task-slots) x in
       let e = chain-last (k .tasks) (k .objects) (S .tables .task-slots) (S .circles) t l in
-      record { last = e .0; reaches = e .1; there = reached-there x (e .1); no-mutex = λ o w h p q. none (e .0) (e .2) o w h p q }
+      record { last = e .0; reaches = e .1; there = reached-there x (e .1); no-mutex = λ o w p m. none (e .0) (e .2) o w p m }
     where
-      held : (u : TaskSlot) (h : Holder) → MayWait u (Mutex h) → (v : TaskSlot) × (h ≡ By v)
-      held u (By v) m = (v, refl)
-      held u Nobody m = absurd (no-wait-free m refl)
+      held : {u : TaskSlot} {x : Kind} → MayWait u x → isMutex x ≡ true → (v : TaskSlot) × (hands x ≡ By v)
+      held (receiver f) m = absurd (false≢true m)
+      held (sender f) m = absurd (false≢true m)
+      held (taker {u = v} d) m = (v, refl)
 
-      none : (u : TaskSlot) → 16 ≤ waitsFor (k .tasks) (k .objects) u .0 → (o : ObjSlot) (w : Wake) (h : Holder) → taskAt (k .tasks) u .place ≡ Waiting o w → kindAt (k .objects) o ≡ Mutex h → ⊥
-      none u far o w h p q =
-          let m : MayWait u (Mutex h) = subst (λ (x : Kind). MayWait u x) q (S .tables .tasks u .waits o w p) in
-          let v = held u h m in
-          let holds : Holds (k .objects) (v .0) o = q ∙ ap Mutex (v .1) in
-          let low = there-low (k .tasks) (v .0) (S .tables .task-slots) (S .tables .holders (v .0) o holds) in
-          let e : waitsFor (k .tasks) (k .objects) u ≡ v .0 = rw (p, holds) in
+      none : (u : TaskSlot) → 16 ≤ waitsFor (k .tasks) (k .objects) u .0 → (o : ObjSlot) (w : Wake) → taskAt (k .tasks) u .place ≡ Waiting o w → isMutex (kindAt (k .objects) o) ≡ true → ⊥
+      none u far o w p m =
+          let v = held (S .tables .tasks u .waits o w p) m in
+          let low = there-low (k .tasks) (v .0) (S .tables .task-slots) (S .tables .holders (v .0) o (v .1)) in
+          let e : waitsFor (k .tasks) (k .objects) u ≡ v .0 = rw (p, v .1) in
           omega (arith, ap (λ (y : TaskSlot). y .0) e)
 
 -- ── a take that closes a circle
@@ -104,45 +103,43 @@ module _ (k : State) (S : Sound k) (o : ObjSlot) where
   low : k .running .0 < 16
   low = ready-low (k .tasks) (k .running) full (S .running .runs .ready)
 
-  no-chain : (x : Kind) {P : Type 0} → holderOf x ≡ task 16 → leadsTo (k .tasks) (k .objects) (holderOf x) (k .running) ≡ true → P
-  no-chain x e l = absurd (false≢true (sym (nobody-leads (k .tasks) (k .objects) (k .running)) ∙ (rw e at l)))
-
-  -- where the chain leads back the caller would be on a circle
-  closed-from : (w : ℕ) → leads ≡ true → Circle (taken k o w .tasks) (taken k o w .objects) (k .running)
-  unfolding taken waitFor arrives toTail
-  closed-from w =
-      by-kind (kindAt (k .objects) o)
-      (λ x. leadsTo (k .tasks) (k .objects) (holderOf x) (k .running) ≡ true → Circle (takenFrom k o x w .tasks) (takenFrom k o x w .objects) (k .running))
-      (no-chain Unused refl) (no-chain SpentObject refl) (λ q e. no-chain (Queue q) refl) (λ e. no-chain (Mutex Nobody) refl)
-      (λ h e l. links-closed (k .tasks) (k .objects) full (k .running) low (placed (taskAt (k .tasks) (k .running)) (Waiting o (wakeOf (k .tick) w)) 0)
-      (rw e (leads-reaches (k .tasks) (k .objects) full h (k .running) low l)))
-
   -- the chain in words, and as it is tested
   leads-chain : leads ≡ true → (h : TaskSlot) × Holds (k .objects) h o × Reaches (k .tasks) (k .objects) h (k .running)
-  leads-chain =
-      by-kind (kindAt (k .objects) o) (λ x. leadsTo (k .tasks) (k .objects) (holderOf x) (k .running) ≡ true → (h : TaskSlot) × Holds (k .objects) h o × Reaches (k .tasks) (k .objects) h (k .running))
-      (no-chain Unused refl) (no-chain SpentObject refl) (λ q e. no-chain (Queue q) refl) (λ e. no-chain (Mutex Nobody) refl)
-      (λ h e l. (h, e, leads-reaches (k .tasks) (k .objects) full h (k .running) low l))
+  leads-chain = go (hands (kindAt (k .objects) o)) refl
+    where
+      go : (x : Holder) → hands (kindAt (k .objects) o) ≡ x → leadsTo (k .tasks) (k .objects) (byWhom x) (k .running) ≡ true
+          → (h : TaskSlot) × Holds (k .objects) h o × Reaches (k .tasks) (k .objects) h (k .running)
+      go Nobody e l = absurd (false≢true (sym (nobody-leads (k .tasks) (k .objects) (k .running)) ∙ l))
+      go (By h) e l = (h, e, leads-reaches (k .tasks) (k .objects) full h (k .running) low l)
 
   chain-leads : (h : TaskSlot) → Holds (k .objects) h o → Reaches (k .tasks) (k .objects) h (k .running) → leads ≡ true
   chain-leads h e r = rw e (reaches-leads (k .tasks) (k .objects) full h (k .running) low r)
 
-  leads-closed : leads ≡ true → (w : ℕ) → Circle (last (taken k o w) .tasks) (last (taken k o w) .objects) (k .running)
-  leads-closed l w = circle-last (taken k o w) (closed-from w l)
+  -- whether the take closes a circle
+  abbrev closes : Bool
+  closes = not (recursiveBy (k .running) (kindAt (k .objects) o)) && leads
 
-  -- where it does not lead back nobody would have been on one
-  closed-leads : (w : ℕ) (t : TaskSlot) → Circle (last (taken k o w) .tasks) (last (taken k o w) .objects) t → leads ≡ true
-  closed-leads w t C = go leads refl
+  chain-closes : (h : TaskSlot) → Holds (k .objects) h o → (h .0 ≡ k .running .0 → ⊥) → Reaches (k .tasks) (k .objects) h (k .running) → closes ≡ true
+  chain-closes h e d r =
+      and-intro _ _ (not-off _ (not-again (k .running) (kindAt (k .objects) o) (ap (isBy (k .running)) e ∙ ne-eqb (h .0) (k .running .0) d))) (chain-leads h e r)
+
+  -- where it closes none nobody would have been on one
+  closed-closes : (w : ℕ) (t : TaskSlot) → Circle (last (taken k o w) .tasks) (last (taken k o w) .objects) t → closes ≡ true
+  closed-closes w t C = go closes refl
     where
-      go : (b : Bool) → leads ≡ b → b ≡ true
+      go : (b : Bool) → closes ≡ b → b ≡ true
       go true e = refl
-      go false e = absurd (take-uncircled k S o w e .none t (last-circle (taken k o w) C))
+      go false e = absurd (take-uncircled k S o w (λ f. no-circle-leads (k .running) (kindAt (k .objects) o) leads f e) .none t (last-circle (taken k o w) C))
 
-  -- ── row 17 is given: who is not idle, and does not hold the mutex, would wait on it, and but for the circle all would be as it should
+  -- ── row 17 is given: who is not idle, and does not hold the mutex, would wait on it and be on a circle, and but for that all would be as it should
   module _ {l : Bool} {v : ℕ} (G : CircleGiven k (onObject 15 AMutex o l v)) where
+    not-again-his : recursiveBy (k .running) (kindAt (k .objects) o) ≡ false
+    unfolding closesCircle
+    not-again-his = off _ (and-left _ _ (G .circle))
+
     leads-back : leads ≡ true
     unfolding closesCircle
-    leads-back = G .circle
+    leads-back = and-right (not (recursiveBy (k .running) (kindAt (k .objects) o))) _ (G .circle)
 
     busy : k .running .0 ≡ 0 → ⊥
     unfolding notForIdle
@@ -150,24 +147,43 @@ module _ (k : State) (S : Sound k) (o : ObjSlot) where
 
     not-his : heldBy (k .running) (kindAt (k .objects) o) ≡ false
     unfolding hisAlready
-    not-his = G .another
+    not-his = untrue _ (λ h. false≢true (sym not-again-his ∙ again-if-his (k .running) (kindAt (k .objects) o) (G .not-twice) h))
+
+    another : (h : TaskSlot) → Holds (k .objects) h o → h .0 ≡ k .running .0 → ⊥
+    another h e z = false≢true (sym not-his ∙ ap (isBy (k .running)) e ∙ eq-eqb (h .0) (k .running .0) z)
+
+    -- so the caller waits
+    waits-then : (w : ℕ) → taken k o w ≡ waitFor k o w
+    unfolding taken
+    waits-then w =
+        let c = leads-chain leads-back in
+        let m = held-mutex (kindAt (k .objects) o) (c .0) (c .1) in
+        rw (m .1) (takes-waiting k o (m .0) w (By (c .0)) (ne-eqb (c .0 .0) (k .running .0) (another (c .0) (c .1))) refl)
+
+    closed-then : (w : ℕ) → Circle (waitFor k o w .tasks) (waitFor k o w .objects) (k .running)
+    unfolding waitFor arrives toTail
+    closed-then w =
+        let c = leads-chain leads-back in
+        links-closed (k .tasks) (k .objects) full (k .running) low (placed (taskAt (k .tasks) (k .running)) (Waiting o (wakeOf (k .tick) w)) 0)
+        (subst (λ h. Reaches (k .tasks) (k .objects) (byWhom h) (k .running)) (sym (c .1)) (c .2))
+
+    leads-closed : (w : ℕ) → Circle (last (taken k o w) .tasks) (last (taken k o w) .objects) (k .running)
+    leads-closed w = rw (waits-then w) (circle-last (waitFor k o w) (closed-then w))
 
     module _ (free : k .hold ≡ 0) (w : ℕ) (some : 0 < w) where
       abbrev OnCircle : List Task → List Object → Type 0
       OnCircle ts os = Circle ts os (k .running)
 
-      waits-so : (h : TaskSlot) → kindAt (k .objects) o ≡ Mutex (By h) → SoundBy OnCircle (withUses (last (waitFor k o w)) (k .uses))
-      unfolding taken waitFor arrives toTail
-      waits-so h e =
-          worked-sound (waitFor k o w) (waits-nearly k S 0 o w some busy h e (λ z. false≢true (sym not-his ∙ (ap (heldBy (k .running)) e ∙ eq-eqb (h .0) (k .running .0) z))))
-          OnCircle (circle-worked (waitFor k o w) (subst (λ x. Circle (takenFrom k o x w .tasks) (takenFrom k o x w .objects) (k .running)) e (closed-from w leads-back)))
-          (S .uses) (λ q. absurd (omega arith))
+      waits-so : SoundBy OnCircle (withUses (last (waitFor k o w)) (k .uses))
+      unfolding waitFor arrives toTail
+      waits-so =
+          let c = leads-chain leads-back in
+          let m = held-mutex (kindAt (k .objects) o) (c .0) (c .1) in
+          worked-sound (waitFor k o w) (waits-nearly k S 0 o w some busy (m .0) (c .0) (m .1) (another (c .0) (c .1)))
+          OnCircle (circle-worked (waitFor k o w) (closed-then w)) (S .uses) (λ q. absurd (omega arith))
 
       waits-on-circle : SoundBy OnCircle (withUses (last (taken k o w)) (k .uses))
-      unfolding taken
-      waits-on-circle =
-          by-kind (kindAt (k .objects) o) (λ x. leadsTo (k .tasks) (k .objects) (holderOf x) (k .running) ≡ true → SoundBy OnCircle (withUses (last (takenFrom k o x w)) (k .uses)))
-          (no-chain Unused refl) (no-chain SpentObject refl) (λ q e. no-chain (Queue q) refl) (λ e. no-chain (Mutex Nobody) refl) (λ h e z. waits-so h e) leads-back
+      waits-on-circle = rw (waits-then w) waits-so
 
 -- ── the rows before one that is given do not apply; and one that applies is given where none before it does
 first-before : {n : ℕ} {rs : List Row} → First n rs → None (rowsBefore n rs)
@@ -221,20 +237,20 @@ module _ (k : State) (e : sound k ≡ true) (n : ObjNo) (w : ℕ) (item s : List
   given-so : step k (Take n w) item s .answer ≡ says refused 17 → CircleGiven k take
   given-so q = circle-given k take (length item) (length s) (sym row-is ∙ first-is (exact .only 17 q))
 
-  row-applies : leads k S o ≡ true → appliesIn 17 rows ≡ true
+  row-applies : closes k S o ≡ true → appliesIn 17 rows ≡ true
   unfolding appliesIn table asked closesCircle
   row-applies l = l
 
-  then-given : None (rowsBefore 17 rows) → leads k S o ≡ true → step k (Take n w) item s .answer ≡ says refused 17
+  then-given : None (rowsBefore 17 rows) → closes k S o ≡ true → step k (Take n w) item s .answer ≡ says refused 17
   then-given f l = exact .given 17 (before-first 17 rows f (row-applies l)) .number
 
   pub circles-exactly : CirclesExactly k n rows (step k (Take n w) item s .answer)
-  unfolding asked closesCircle accepted after effect usesAfter
+  unfolding asked accepted after effect usesAfter
   circles-exactly =
       record {
         none-before = λ q. first-before (exact .only 17 q);
-        chain = λ q. let c = leads-chain k S o (given-so q .circle) in record { holder = c .0; holds = c .1; back = c .2 };
-        would-close = λ q. record { closed = leads-closed k S o (given-so q .circle); but-for-it = waits-on-circle k S o (given-so q) };
-        given = λ f b. then-given f (chain-leads k S o (b .holder) (b .holds) (b .back));
-        given-if-closed = λ f v t C. then-given f (closed-leads k S o v t C);
+        chain = λ q. let c = leads-chain k S o (leads-back k S o (given-so q)) in record { holder = c .0; holds = c .1; another = another k S o (given-so q) (c .0) (c .1); back = c .2 };
+        would-close = λ q. record { closed = leads-closed k S o (given-so q); but-for-it = waits-on-circle k S o (given-so q) };
+        given = λ f b. then-given f (chain-closes k S o (b .holder) (b .holds) (b .another) (b .back));
+        given-if-closed = λ f v t C. then-given f (closed-closes k S o v t C);
       }

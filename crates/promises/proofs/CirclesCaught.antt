@@ -15,7 +15,7 @@ use Rattle.rules.specs.Effects.{created, queueMade, mutexMade, taken, given, ef
 use Rattle.rules.specs.Queues.{received, storeReceived}
 use Rattle.rules.specs.Lines.{line, those, begun, highest, leader, first, chosen, toTail, toHead, leaves}
 use Rattle.rules.specs.Loans.{moved, movedIf, ruled, prioritized, relevelled, workedOut}
-use Rattle.rows.specs.Applies.{outOfRange, namesNone, wrongSize, notForIdle, notWithHold, noneFree, notHis, hisAlready, notSuspended, mustWait, noDepth, noTick, table}
+use Rattle.rows.specs.Applies.{outOfRange, namesNone, wrongSize, notForIdle, notWithHold, noneFree, notHis, hisAlready, countFull, notSuspended, mustWait, noDepth, noTick, table}
 use Rattle.chains.specs.Chains.{within}
 use Rattle.rules.specs.Circles.{leadsTo, closesCircle, noCircle}
 use Rattle.rules.specs.Refusals.{inUse, laterRow, refusal}
@@ -47,7 +47,7 @@ starts-sound = rw fresh-sound
 sooner : map ranQuickly circleCases ≡ map (λ (c : Case). c .expected) circleCases
 unfolding circleCases circleOfTwo circleOfThree chainOfFifteen circleOfFifteen sameMutexTwice rowsAround endsAtAQueue trace stepOf mayLend every allBelow foldl upTo values index any kept asked
     ordered without count tidy created queueMade mutexMade taken given received effect line those begun highest leader first chosen toTail toHead leaves moved movedIf
-    prioritized ruled levels goesOn raised relevelled workedOut outOfRange namesNone wrongSize notForIdle notWithHold noneFree inUse notHis hisAlready notSuspended
+    prioritized ruled levels goesOn raised relevelled workedOut outOfRange namesNone wrongSize notForIdle notWithHold noneFree inUse notHis hisAlready countFull notSuspended
     closesCircle leadsTo noCircle within mustWait noDepth noTick table laterRow refusal noHigher runsFine tablesFine levelsFine listingFine clockFine usesFine sound stored storeReceived answered
     usesAfter after accepted step fresh freshUses taskAt kindAt holds freeSlot freeObject held arrives waitFor
 sooner = refl
@@ -59,7 +59,7 @@ pub circles-caught : map found circleMistakes ≡ map verdict circleMistakes
 unfolding circleMistakes stepOf trace showsBy sameNumber sameList sameView every allBelow foldl upTo values index any kept asked ordered without count
     tidy created mutexMade taken effect line those begun highest leader first chosen toTail toHead leaves moved movedIf
     prioritized ruled levels goesOn raised relevelled workedOut outOfRange namesNone wrongSize notForIdle notWithHold noneFree inUse
-    notHis hisAlready notSuspended closesCircle leadsTo noCircle within mustWait noDepth noTick table laterRow refusal noHigher runsFine tablesFine levelsFine listingFine clockFine
+    notHis hisAlready countFull notSuspended closesCircle leadsTo noCircle within mustWait noDepth noTick table laterRow refusal noHigher runsFine tablesFine levelsFine listingFine clockFine
     usesFine sound stored answered usesAfter after accepted step fresh freshUses taskAt kindAt holds freeSlot freeObject held arrives waitFor
 circles-caught = refl
 

@@ -1,76 +1,47 @@
 -- The depth of hold after any calls is the number of accepted holds less the accepted releases: no call lets it wrap, and no other call touches it.
-use Prim.Native.Nat.{ℕ, zero, suc, _+_, _-_}
+use Prim.Native.Nat.{ℕ, _-_}
 use mathlib.Core.Path.{_≡_, refl, ap, _∙_}
 use mathlib.Core.Bool.{Bool, true, false}
 use mathlib.Core.List.{List, [], _∷_}
 use native.Mathlib.Omega.{arith}
-use lib.Dec.{eqb, ltb}
+use lib.Dec.{eqb}
 use lib.ListN.{length}
 use borrow.Author.Tests.{eqb-true}
 use Rattle.lists.specs.Choice.{if_then_else_}
-use Rattle.lists.specs.Lists.{foldl, upTo}
+use Rattle.lists.specs.Lists.{foldl}
 use Rattle.calls.specs.Door.{taskSlot, objSlot}
 use Rattle.calls.specs.Behind.{asked}
-use Rattle.slots.specs.Places.{isListed}
-use Rattle.slots.specs.Values.{brokenOff, taskAt}
 use Rattle.slots.specs.Kinds.{kindAt}
-use Rattle.rules.specs.Tables.{fresh, withTask, withHold}
+use Rattle.rules.specs.Tables.{fresh, withHold}
 use Rattle.rules.specs.Lines.{first, toTail, leaves}
-use Rattle.rules.specs.Waits.{later, arrives, waitFor}
+use Rattle.rules.specs.Waits.{arrives, waitFor}
 use Rattle.rules.specs.Loans.{workedOut, newPriority}
-use Rattle.rules.specs.Ticks.{oneTick, turned, ticked, ticks, released, held, advanced}
+use Rattle.rules.specs.Ticks.{ticks, released, held, advanced}
 use Rattle.rules.specs.Rings.{oneLess}
 use Rattle.rules.specs.Queues.{sentBy, sent, sentTo, refilledBy, received, receivedFrom}
-use Rattle.rules.specs.Effects.{created, deleted, suspended, resumed, yielded, delayed, queueMade, mutexMade, removed, takenFrom, taken, handedTo, given, effect}
+use Rattle.rules.proofs.MutexCases.{by-take, by-give}
+use Rattle.rules.specs.Effects.{created, deleted, resumed, yielded, queueMade, mutexMade, removed, taken, given, effect}
 use Rattle.rules.specs.Refusals.{refusal}
 use Rattle.rules.specs.Steps.{after, accepted, turnedAway, step}
 use Rattle.rules.specs.Trace.{momentOf, trace, stateAfter, CallMade, stepMade}
 use Rattle.rules.proofs.TableWithin.{by-outlet}
-use Rattle.rules.proofs.TickJumps.{chosen-only, turned-only, turn-only}
+use Rattle.rules.proofs.TickJumps.{chosen-only}
 use Rattle.rules.proofs.LoanWorks.{worked-same}
-use Rattle.rules.proofs.KeepTicks.{tick-after}
+use Rattle.rules.proofs.KeepTicks.{ticks-aside, ticked-aside}
+use Rattle.rules.proofs.KeepTasks.{suspended-same, delayed-same}
 use Rattle.promises.specs.Types.{TaskSlot, ObjSlot, Call, Create, Delete, Suspend, Resume, SetPriority, Delay, Yield, Hold, Release, MakeQueue, MakeMutex, Remove, Send}
-use Rattle.promises.specs.Types.{Receive, Take, Give, Tick, Advance, Delayed, WaitersOf, Nobody, By, Kind, Unused, SpentObject, Queue, Mutex, State}
+use Rattle.promises.specs.Types.{Receive, Take, Give, Tick, Advance, MakeRecursive, WaitersOf, Kind, Unused, SpentObject, Queue, Mutex, State}
 use Rattle.promises.specs.History.{reached}
 use Rattle.promises.specs.Depth.{deeper, isAccepted, depthAt, depth}
 
 -- ── what leaves the depth as it was
-ticks-hold : (turns : Bool) (n : ℕ) (k : State) → ticks turns n k .hold ≡ k .hold
-unfolding ticks upTo
-ticks-hold turns zero k = refl
-ticks-hold turns (suc n) k = let j = ticks turns n k in turn-only turns (oneTick j) .hold ∙ tick-after j .hold ∙ ticks-hold turns n k
-
 module _ (k : State) where
-  ticked-hold : ticked k .hold ≡ k .hold
-  unfolding ticked
-  ticked-hold = go (ltb 0 (k .hold))
-    where
-      go : (b : Bool) → (if b then withHold k (k .hold) (k .pended + 1) else turned (oneTick k)) .hold ≡ k .hold
-      go true = refl
-      go false = turned-only (oneTick k) .hold ∙ tick-after k .hold
-
-  suspended-hold : (t : TaskSlot) → suspended k t .hold ≡ k .hold
-  unfolding suspended leaves
-  suspended-hold t = go (isListed (taskAt (k .tasks) t .place))
-    where
-      go : (b : Bool) → (if b then leaves (withTask k t (brokenOff (taskAt (k .tasks) t))) t else k) .hold ≡ k .hold
-      go true = refl
-      go false = refl
-
-  delayed-hold : (n : ℕ) → delayed k n .hold ≡ k .hold
-  unfolding delayed yielded arrives toTail
-  delayed-hold n = go (eqb n 0)
-    where
-      go : (b : Bool) → (if b then yielded k else arrives k (k .running) (Delayed (later (k .tick) n)) 0) .hold ≡ k .hold
-      go true = refl
-      go false = refl
-
   sent-hold : (o : ObjSlot) (x : Kind) (w : ℕ) → sentTo k o x w .hold ≡ k .hold
   unfolding sent arrives waitFor toTail
   sent-hold o Unused w = refl
   sent-hold o SpentObject w = refl
   sent-hold o (Queue q) w = by-outlet k o q (λ x. sentBy k o q w x .hold ≡ k .hold) (λ t e. refl) refl refl
-  sent-hold o (Mutex h) w = refl
+  sent-hold o (Mutex s h) w = refl
 
   received-hold : (o : ObjSlot) (x : Kind) (w : ℕ) → receivedFrom k o x w .hold ≡ k .hold
   unfolding received arrives waitFor toTail
@@ -82,40 +53,32 @@ module _ (k : State) where
       go true l = refl
       go false [] = refl
       go false (t ∷ l) = refl
-  received-hold o (Mutex h) w = refl
+  received-hold o (Mutex s h) w = refl
 
-  taken-hold : (o : ObjSlot) (x : Kind) (w : ℕ) → takenFrom k o x w .hold ≡ k .hold
+  taken-hold : (o : ObjSlot) (w : ℕ) → taken k o w .hold ≡ k .hold
   unfolding waitFor arrives toTail
-  taken-hold o Unused w = refl
-  taken-hold o SpentObject w = refl
-  taken-hold o (Queue q) w = refl
-  taken-hold o (Mutex Nobody) w = refl
-  taken-hold o (Mutex (By h)) w = refl
+  taken-hold o w = by-take k o (λ j. j .hold ≡ k .hold) w (λ m. refl) (λ s e. refl) (λ s e. refl) (λ s h e d. refl)
 
   given-hold : (o : ObjSlot) → given k o .hold ≡ k .hold
-  unfolding given arrives toTail
-  given-hold o = hand (first k (WaitersOf o))
-    where
-      hand : (l : List TaskSlot) → handedTo k o l .hold ≡ k .hold
-      hand [] = refl
-      hand (t ∷ l) = refl
+  unfolding arrives toTail
+  given-hold o = by-give k o (λ j. j .hold ≡ k .hold) (λ m. refl) (λ s h e m. refl) (λ s h e m q. refl) (λ s h e m t l q. refl)
 
   released-hold : released k .hold ≡ k .hold - 1
   unfolding released
   released-hold = go (eqb (k .hold) 1) refl
     where
       go : (b : Bool) → eqb (k .hold) 1 ≡ b → (if b then ticks false (k .pended) (withHold k 0 0) else withHold k (k .hold - 1) (k .pended)) .hold ≡ k .hold - 1
-      go true e = ticks-hold false (k .pended) (withHold k 0 0) ∙ omega (arith, eqb-true (k .hold) 1 e)
+      go true e = ticks-aside false (k .pended) (withHold k 0 0) .hold ∙ omega (arith, eqb-true (k .hold) 1 e)
       go false e = refl
 
   effect-hold : (c : Call) → effect k (asked (k .uses) c) .hold ≡ deeper (asked (k .uses) c) (k .hold)
-  unfolding effect asked created deleted resumed yielded queueMade mutexMade removed taken newPriority held advanced arrives leaves toTail
+  unfolding effect asked created deleted resumed yielded queueMade mutexMade removed newPriority held advanced arrives leaves toTail
   effect-hold (Create p) = refl
   effect-hold (Delete t) = refl
-  effect-hold (Suspend t) = suspended-hold (taskSlot (k .uses) t)
+  effect-hold (Suspend t) = suspended-same k (taskSlot (k .uses) t) .hold
   effect-hold (Resume t) = refl
   effect-hold (SetPriority t p) = refl
-  effect-hold (Delay n) = delayed-hold n
+  effect-hold (Delay n) = delayed-same k n .hold
   effect-hold Yield = refl
   effect-hold Hold = refl
   effect-hold Release = released-hold
@@ -124,10 +87,11 @@ module _ (k : State) where
   effect-hold (Remove o) = refl
   effect-hold (Send o w) = sent-hold (objSlot (k .uses) o) (kindAt (k .objects) (objSlot (k .uses) o)) w
   effect-hold (Receive o w) = received-hold (objSlot (k .uses) o) (kindAt (k .objects) (objSlot (k .uses) o)) w
-  effect-hold (Take o w) = taken-hold (objSlot (k .uses) o) (kindAt (k .objects) (objSlot (k .uses) o)) w
+  effect-hold (Take o w) = taken-hold (objSlot (k .uses) o) w
   effect-hold (Give o) = given-hold (objSlot (k .uses) o)
-  effect-hold Tick = ticked-hold
-  effect-hold (Advance n) = ticks-hold true n k
+  effect-hold Tick = ticked-aside k .hold
+  effect-hold (Advance n) = ticks-aside true n k .hold
+  effect-hold MakeRecursive = refl
 
 -- ── one step: an accepted hold is one deeper, an accepted release one less, and nothing else changes the depth
 pub step-depth : (k : State) (s : List ℕ) (m : CallMade) → stepMade k s m .kernel .hold ≡ depthAt (k .hold) (momentOf stepMade k s m)

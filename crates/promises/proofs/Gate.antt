@@ -15,7 +15,7 @@ use Rattle.rules.specs.Parts.{itemAt}
 use Rattle.rules.specs.Queues.{outlet, sent, storeSent, received, storeReceived}
 use Rattle.rules.specs.Lines.{line, those, begun, highest, leader, first, chosen, toTail, toHead, leaves}
 use Rattle.rules.specs.Loans.{moved, movedIf, ruled, prioritized, relevelled, workedOut, newPriority}
-use Rattle.rows.specs.Applies.{outOfRange, namesNone, wrongSize, notForIdle, notWithHold, noneFree, notHis, hisAlready, notSuspended, mustWait, noDepth}
+use Rattle.rows.specs.Applies.{outOfRange, namesNone, wrongSize, notForIdle, notWithHold, noneFree, notHis, hisAlready, countFull, notSuspended, mustWait, noDepth}
 use Rattle.chains.specs.Chains.{within}
 use Rattle.rules.specs.Circles.{leadsTo, closesCircle, noCircle}
 use Rattle.rules.specs.Refusals.{heldOrWaited, inUse}
@@ -42,7 +42,7 @@ sooner : map ranQuickly cases ≡ map (λ (c : Case). c .expected) cases
 unfolding cases p1 p2 p3 p4 p5 p6 p7 p8 p9 p10 p11 p12 trace stepOf mayLend every allBelow foldl upTo index any kept asked ordered without count tidy putAt created
     deleted suspended resumed yielded delayed queueMade mutexMade removed taken given effect itemAt outlet sent storeSent received
     storeReceived line those begun highest leader first chosen toTail toHead leaves moved movedIf prioritized newPriority ruled levels goesOn raised values relevelled workedOut outOfRange namesNone
-    wrongSize notForIdle notWithHold noneFree heldOrWaited inUse notHis hisAlready notSuspended closesCircle leadsTo noCircle within mustWait noDepth noTick table laterRow refusal
+    wrongSize notForIdle notWithHold noneFree heldOrWaited inUse notHis hisAlready countFull notSuspended closesCircle leadsTo noCircle within mustWait noDepth noTick table laterRow refusal
     noHigher runsFine tablesFine levelsFine listingFine clockFine usesFine sound stored answered usesAfter after accepted step fresh freshUses taskAt kindAt
     holds freeSlot freeObject wokenIfDue wakes countedOn oneTick turned ticked ticks released held arrives waitFor
 sooner = refl

@@ -44,7 +44,7 @@ use Rattle.rules.proofs.KeepChosen.{sound-reckoned}
 use Rattle.rules.proofs.KeepEvery.{step-kept}
 use Rattle.rules.proofs.Keeps.{ready-low}
 use Rattle.promises.specs.Types.{TaskSlot, ObjSlot, Call, Create, Delete, Suspend, Resume, SetPriority, Delay, Yield, Hold, Release, MakeQueue, MakeMutex, Remove, Send, Ready}
-use Rattle.promises.specs.Types.{Receive, Take, Give, Tick, Advance, Place, Delayed, WaitersOf, Kind, Unused, SpentObject, Queue, Mutex, Task, Asked, State}
+use Rattle.promises.specs.Types.{Receive, Take, Give, Tick, Advance, MakeRecursive, Place, Delayed, WaitersOf, Kind, Unused, SpentObject, Queue, Mutex, Task, Asked, State}
 use Rattle.promises.specs.History.{reached}
 use Rattle.promises.specs.Lending.{RuleHolds, Afresh, SameLoans, SameLevels, mayChange, NotSlow}
 use Rattle.promises.proofs.AlikeSteps.{not-refused}
@@ -119,7 +119,7 @@ module _ (k : State) (S : Sound k) (t : TaskSlot) where
   sent-stays o Unused w = refl
   sent-stays o SpentObject w = refl
   sent-stays o (Queue q) w = by-outlet k o q (λ x. level (sentBy k o q w x .tasks) t ≡ level (k .tasks) t) (λ u e. arrives-stays k t u Ready 1) refl (waits-stays o w)
-  sent-stays o (Mutex h) w = refl
+  sent-stays o (Mutex s h) w = refl
 
   received-stays : (o : ObjSlot) (x : Kind) (w : ℕ) → level (receivedFrom k o x w .tasks) t ≡ level (k .tasks) t
   unfolding received
@@ -131,7 +131,7 @@ module _ (k : State) (S : Sound k) (t : TaskSlot) where
       go true l = waits-stays o w
       go false [] = refl
       go false (u ∷ l) = arrives-stays _ t u Ready 1
-  received-stays o (Mutex h) w = refl
+  received-stays o (Mutex s h) w = refl
 
   effect-stays : (n : ℕ) (c : Call) → Passed k (asked (k .uses) c) n → mayChange (asked (k .uses) c) ≡ false → Exists (k .tasks) t → level (effect k (asked (k .uses) c) .tasks) t ≡ level (k .tasks) t
   unfolding effect asked mayChange mayLend resumed yielded toTail held queueMade mutexMade removed
@@ -153,6 +153,7 @@ module _ (k : State) (S : Sound k) (t : TaskSlot) where
   effect-stays n (Give o) P e x = absurd (false≢true (sym e))
   effect-stays n Tick P e x = absurd (false≢true (sym e))
   effect-stays n (Advance d) P e x = absurd (false≢true (sym e))
+  effect-stays n MakeRecursive P e x = refl
 
 -- of the five alone the effective priorities are to be worked out: after any other call's effect they are the rule's
 pub nothing-to-work-out : (k : State) → Sound k → (n : ℕ) (c : Call) → Passed k (asked (k .uses) c) n → mayLend (asked (k .uses) c) ≡ false → after k (asked (k .uses) c) ≡ effect k (asked (k .uses) c)

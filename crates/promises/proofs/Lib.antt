@@ -27,3 +27,7 @@ pub mod Wakings
 pub mod Lendings
 pub mod Circles
 pub mod Quickly
+pub mod Recursive
+pub mod Ordinary
+pub mod WholeRound
+pub mod RecursiveCaught

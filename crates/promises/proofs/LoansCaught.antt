@@ -17,7 +17,7 @@ use Rattle.rules.specs.Effects.{created, suspended, yielded, delayed, mutexMade
 use Rattle.rules.specs.Lines.{line, those, begun, highest, leader, first, chosen, toTail, toHead, leaves}
 use Rattle.rules.specs.Loans.{moved, movedIf, ruled, prioritized, relevelled, workedOut, newPriority}
 use Rattle.rows.specs.Asking.{is}
-use Rattle.rows.specs.Applies.{outOfRange, namesNone, wrongSize, notForIdle, notWithHold, noneFree, notHis, hisAlready, notSuspended, mustWait, noDepth, noTick, table}
+use Rattle.rows.specs.Applies.{outOfRange, namesNone, wrongSize, notForIdle, notWithHold, noneFree, notHis, hisAlready, countFull, notSuspended, mustWait, noDepth, noTick, table}
 use Rattle.chains.specs.Chains.{within}
 use Rattle.rules.specs.Circles.{leadsTo, closesCircle, noCircle}
 use Rattle.rules.specs.Refusals.{inUse, laterRow, refusal}
@@ -62,7 +62,7 @@ pub loans-caught : map found loanMistakes ≡ map verdict loanMistakes
 unfolding loanMistakes stepOf trace showsBy sameNumber sameList sameView every allBelow foldl upTo values index any kept asked ordered without count
     tidy created suspended yielded delayed mutexMade taken effect line those begun highest leader first chosen toTail toHead leaves moved movedIf
     prioritized newPriority ruled levels goesOn raised relevelled workedOut outOfRange namesNone wrongSize notForIdle notWithHold noneFree inUse
-    notHis hisAlready notSuspended closesCircle leadsTo noCircle within mustWait noDepth noTick table laterRow refusal noHigher runsFine tablesFine levelsFine listingFine clockFine
+    notHis hisAlready countFull notSuspended closesCircle leadsTo noCircle within mustWait noDepth noTick table laterRow refusal noHigher runsFine tablesFine levelsFine listingFine clockFine
     usesFine sound stored answered usesAfter after accepted step fresh freshUses taskAt kindAt holds freeSlot freeObject wokenIfDue wakes countedOn
     oneTick turned ticked ticks released held arrives waitFor
 loans-caught = refl

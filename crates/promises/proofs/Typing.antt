@@ -12,7 +12,7 @@ use Rattle.chains.specs.Lent.{goesOn, levels}
 use Rattle.rules.specs.Effects.{created, mutexMade, taken, given, effect}
 use Rattle.rules.specs.Lines.{line, those, highest, leader, first, chosen, toTail, toHead, leaves}
 use Rattle.rules.specs.Loans.{moved, movedIf, prioritized, ruled, relevelled, workedOut}
-use Rattle.rows.specs.Applies.{outOfRange, namesNone, wrongSize, notForIdle, notWithHold, noneFree, notHis, hisAlready, notSuspended, mustWait, noDepth, noTick, table}
+use Rattle.rows.specs.Applies.{outOfRange, namesNone, wrongSize, notForIdle, notWithHold, noneFree, notHis, hisAlready, countFull, notSuspended, mustWait, noDepth, noTick, table}
 use Rattle.chains.specs.Chains.{within}
 use Rattle.rules.specs.Circles.{leadsTo, closesCircle, noCircle}
 use Rattle.rules.specs.Refusals.{inUse, laterRow, refusal}
@@ -40,7 +40,7 @@ pub p1-as-bytes : answersTo typed ≡ written
 unfolding asBytes typed written linesOf readLine stepOfLine trace answering flatten digits dec among grow callOf shapeOf nums readOf reply every
     allBelow foldl upTo index any kept asked ordered without count tidy created mutexMade taken given effect line those highest leader first
     chosen toTail toHead leaves moved movedIf prioritized ruled levels goesOn raised values relevelled workedOut outOfRange namesNone wrongSize notForIdle notWithHold noneFree inUse notHis
-    hisAlready notSuspended closesCircle leadsTo noCircle within mustWait noDepth noTick table laterRow refusal noHigher runsFine tablesFine levelsFine listingFine clockFine usesFine
+    hisAlready countFull notSuspended closesCircle leadsTo noCircle within mustWait noDepth noTick table laterRow refusal noHigher runsFine tablesFine levelsFine listingFine clockFine usesFine
     sound stored answered usesAfter after accepted step fresh freshUses taskAt kindAt holds freeSlot freeObject arrives waitFor
 p1-as-bytes = refl
 

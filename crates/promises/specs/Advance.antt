@@ -20,12 +20,13 @@ use Rattle.promises.specs.Types.{Advance, Tick, State}
 unfoldable pub singly : ℕ → Stepped → Stepped
 singly n d = upTo (λ x i. step (x .kernel) Tick [] (x .store)) n d
 
-abbrev pub atFirst : State → List ℕ → Stepped
-atFirst k s = record { kernel = k; answer = says done 0; store = s }
+-- done, with this kernel and this store
+abbrev pub doneWith : State → List ℕ → Stepped
+doneWith k s = record { kernel = k; answer = says done 0; store = s }
 
 -- an advance by n: the same kernel, answer and store; and the same in two parts, wherever it is cut
 pub record AsTicks (k : State) (item s : List ℕ) (n : ℕ) : Type 0 where
-  pub same : step k (Advance n) item s ≡ singly n (atFirst k s)
+  pub same : step k (Advance n) item s ≡ singly n (doneWith k s)
   pub prefix : (m l : ℕ) → 1 ≤ m → 1 ≤ l → n ≡ m + l → let d = step k (Advance m) item s in step (d .kernel) (Advance l) item (d .store) ≡ step k (Advance n) item s
 
 -- "Refusals: 4 for n out of range, 8 with a hold"
@@ -37,14 +38,14 @@ pub record AdvanceRefused (k : State) (item s : List ℕ) (n : ℕ) : Type 0 whe
 -- how many ticks may be slept through before anybody is due; none: for ever
 pub record SleepsSo (k : State) : Type 0 where
   -- fewer wake no one: no task changes, whatever the store, and in single ticks as in an advance
-  pub fewer : (s : List ℕ) (d n : ℕ) → sleeps k ≡ d ∷ [] → n < d → singly n (atFirst k s) .kernel .tasks ≡ k .tasks
-  pub for-ever : (s : List ℕ) (n : ℕ) → sleeps k ≡ [] → singly n (atFirst k s) .kernel .tasks ≡ k .tasks
+  pub fewer : (s : List ℕ) (d n : ℕ) → sleeps k ≡ d ∷ [] → n < d → singly n (doneWith k s) .kernel .tasks ≡ k .tasks
+  pub for-ever : (s : List ℕ) (n : ℕ) → sleeps k ≡ [] → singly n (doneWith k s) .kernel .tasks ≡ k .tasks
   pub fewer-advanced : (item s : List ℕ) (d n : ℕ) → sleeps k ≡ d ∷ [] → n < d → step k (Advance n) item s .kernel .tasks ≡ k .tasks
   pub advanced-for-ever : (item s : List ℕ) (n : ℕ) → sleeps k ≡ [] → step k (Advance n) item s .kernel .tasks ≡ k .tasks
   -- nor does a release that runs fewer pended ticks
   pub fewer-released : (d : ℕ) → sleeps k ≡ d ∷ [] → k .pended < d → released k .tasks ≡ k .tasks
   -- that many wake someone, where there is no hold, with which a tick is pended; in single ticks however many they are, and in an advance within its range
-  pub that-many : (s : List ℕ) (d : ℕ) → sleeps k ≡ d ∷ [] → k .hold ≡ 0 → length s ≡ 9216 → SomeoneWakes k (singly d (atFirst k s) .kernel)
+  pub that-many : (s : List ℕ) (d : ℕ) → sleeps k ≡ d ∷ [] → k .hold ≡ 0 → length s ≡ 9216 → SomeoneWakes k (singly d (doneWith k s) .kernel)
   pub that-many-advanced : (item s : List ℕ) (d : ℕ) → sleeps k ≡ d ∷ [] → k .hold ≡ 0 → length s ≡ 9216 → d ≤ 65535 → SomeoneWakes k (step k (Advance d) item s .kernel)
 
 -- with the next tick somebody's delay or wait ends

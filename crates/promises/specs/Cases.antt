@@ -30,6 +30,10 @@ pub record Case : Type 0 where
   pub calls : List Call
   pub expected : List View
 
+-- a wait: "4,294,967,295 means for ever"
+abbrev pub forEver : ℕ
+forEver = 4294967295
+
 -- the calls one after the other, each with an empty item, from a store of zeros
 abbrev pub ran : Case → List View
 ran c = map (λ m. viewOf (c .look) (m .gave)) (trace (lending step []) (c .start) (replicate 9216 0) (c .calls))

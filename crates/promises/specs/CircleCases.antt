@@ -3,7 +3,7 @@ use Prim.Native.Nat.{ℕ, zero, suc, _-_}
 use mathlib.Core.List.{List, [], _∷_, _++_}
 use Rattle.calls.specs.Named.{objectOf}
 use Rattle.promises.specs.Types.{Call, Create, Hold, MakeQueue, MakeMutex, Receive, Take, Give}
-use Rattle.promises.specs.Cases.{View, Case, fromFresh, ok, ok-new, wait, refuses}
+use Rattle.promises.specs.Cases.{forEver, View, Case, fromFresh, ok, ok-new, wait, refuses}
 
 -- what is said of 0, 1, .. up to n, one after the other
 abbrev pub oneByOne : {A : Type 0} → ℕ → (ℕ → List A) → List A
@@ -19,7 +19,7 @@ eachHeld n = oneByOne n (λ i. ok-new (suc i) (suc i) ∷ ok-new i (suc i) ∷ o
 
 -- the highest waits for the one below it, that one for the next, and so on: n waits, after which the lowest runs
 abbrev pub waitsDown : ℕ → List Call
-waitsDown n = oneByOne n (λ i. Take (objectOf (n - suc i)) 4294967295 ∷ [])
+waitsDown n = oneByOne n (λ i. Take (objectOf (n - suc i)) forEver ∷ [])
 
 abbrev pub waitedDown : ℕ → List View
 waitedDown n = oneByOne n (λ i. wait (n - i) ∷ [])
@@ -27,7 +27,7 @@ waitedDown n = oneByOne n (λ i. wait (n - i) ∷ [])
 -- "two tasks wait on each other": whatever the wait; task 1 then gives its mutex, and task 2 goes on
 unfoldable pub circleOfTwo : Case
 circleOfTwo = fromFresh
-    (eachHolds 2 ++ waitsDown 1 ++ (Take (objectOf 1) 4294967295 ∷ Take (objectOf 1) 5 ∷ Take (objectOf 1) 0 ∷ Give (objectOf 0) ∷ []))
+    (eachHolds 2 ++ waitsDown 1 ++ (Take (objectOf 1) forEver ∷ Take (objectOf 1) 5 ∷ Take (objectOf 1) 0 ∷ Give (objectOf 0) ∷ []))
     (eachHeld 2 ++ waitedDown 1 ++ (refuses 17 1 ∷ refuses 17 1 ∷ refuses 17 1 ∷ ok 2 ∷ []))
 
 unfoldable pub circleOfThree : Case

@@ -1,6 +1,7 @@
 -- "Do not let two tasks wait on each other": a take is refused 17 exactly if accepting it would have made a circle, and every chain of waits ends.
 use Prim.Native.Nat.{ℕ, _<_}
 use mathlib.Core.Path.{_≡_}
+use mathlib.Core.Bool.{true}
 use mathlib.Core.List.{List, [], _∷_}
 use lib.Dec.{eqb}
 use Rattle.lists.specs.Choice.{if_then_else_}
@@ -9,18 +10,20 @@ use Rattle.calls.specs.Door.{objSlot}
 use Rattle.calls.specs.Behind.{asked}
 use Rattle.calls.specs.Said.{Saying, says, refused}
 use Rattle.slots.specs.Values.{taskAt}
-use Rattle.slots.specs.Kinds.{kindAt}
+use Rattle.slots.specs.Kinds.{isMutex, kindAt}
 use Rattle.rows.specs.Applies.{Row}
-use Rattle.rules.specs.Types.{Wake, Waiting, Holder, Mutex}
+use Rattle.rules.specs.Types.{Wake, Waiting}
 use Rattle.rules.specs.Sentences.{Holds, Exists, Reaches, Circle, SoundBy}
 use Rattle.rules.specs.Steps.{accepted}
 use Rattle.promises.specs.Types.{TaskSlot, ObjSlot, Call, Take, State}
 use Rattle.promises.specs.TurnedAway.{None}
 
--- "the chain from that mutex's holder, through mutexes being waited on, leads back to the caller": over any number of links
+-- "the chain from that mutex's holder, through mutexes being waited on, leads back to the caller": over any number of links, from another than the caller, since of a recursive
+-- mutex "its holder's take is no circle", and of an ordinary one 12 is told
 pub record ChainBack (k : State) (n : ObjNo) : Type 0 where
   pub holder : TaskSlot
   pub holds : Holds (k .objects) holder (objSlot (k .uses) n)
+  pub another : holder .0 ≡ k .running .0 → ⊥
   pub back : Reaches (k .tasks) (k .objects) holder (k .running)
 
 -- what a call would have led to, had no row turned it away
@@ -55,4 +58,4 @@ pub record ChainEnds (k : State) (t : TaskSlot) : Type 0 where
   pub last : TaskSlot
   pub reaches : Reaches (k .tasks) (k .objects) t last
   pub there : Exists (k .tasks) last
-  pub no-mutex : (o : ObjSlot) (w : Wake) (h : Holder) → taskAt (k .tasks) last .place ≡ Waiting o w → kindAt (k .objects) o ≡ Mutex h → ⊥
+  pub no-mutex : (o : ObjSlot) (w : Wake) → taskAt (k .tasks) last .place ≡ Waiting o w → isMutex (kindAt (k .objects) o) ≡ true → ⊥

@@ -16,3 +16,7 @@ pub mod Typed
 pub mod Advance
 pub mod Lending
 pub mod Circles
+pub mod Recursive
+pub mod RecursiveCases
+pub mod WholeRound
+pub mod WrongRecursive

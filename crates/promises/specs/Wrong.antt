@@ -373,9 +373,12 @@ found w = record { right = showsBy step w; wrong = showsBy (w .step) w; apart = 
 abbrev pub verdict : Wrong → Verdict
 verdict w = record { right = w .right; wrong = w .wrong; apart = true }
 
--- from the fresh kernel
+-- from this kernel, and from the fresh one
+abbrev pub failsFrom : State → Stepping → List Call → (Stepped → List ℕ) → View → View → Wrong
+failsFrom k f cs look x y = record { step = f; start = k; calls = cs; look = look; right = x; wrong = y }
+
 abbrev pub fails : Stepping → List Call → (Stepped → List ℕ) → View → View → Wrong
-fails f cs look x y = record { step = f; start = fresh; calls = cs; look = look; right = x; wrong = y }
+fails = failsFrom fresh
 
 abbrev pub saysNothing : Stepped → List ℕ
 saysNothing r = []
@@ -415,14 +418,7 @@ easyMistakes =
     (view done 0 1 (5 ∷ []))
     (view done 0 1 (3 ∷ []))
     -- the wake tick is 1, the count 4,294,967,295
-    ∷ record {
-      step = stepBy wakesThePast chosen;
-      start = withTick fresh 4294967294;
-      calls = Create 3 ∷ Delay 3 ∷ Tick ∷ [];
-      look = outcomes;
-      right = view done 0 0 (0 ∷ 0 ∷ []);
-      wrong = view done 0 1 (1 ∷ 0 ∷ []);
-    }
+    ∷ failsFrom (withTick fresh 4294967294) (stepBy wakesThePast chosen) (Create 3 ∷ Delay 3 ∷ Tick ∷ []) outcomes (view done 0 0 (0 ∷ 0 ∷ [])) (view done 0 1 (1 ∷ 0 ∷ []))
     -- task 3 overtakes 1, ahead of 2 in its line, and leaves again
     ∷ fails (stepBy after losesTurn) (Create 3 ∷ Create 3 ∷ Create 5 ∷ Suspend (taskOf 3) ∷ []) saysNothing (view done 0 1 []) (view done 0 2 [])
     -- task 1's outcome, suspended as it is, and how many are listed
@@ -456,14 +452,7 @@ numberMistakes =
     -- 0 was the first object's in slot 0, and 16 is in it
     ∷ fails tasksOnly (MakeMutex ∷ Remove (objectOf 0) ∷ MakeMutex ∷ Remove (objectOf 0) ∷ []) saysNothing (view refused 5 0 []) (view done 0 0 [])
     -- 1,048,561 is 1 + 16 × 65,535, given twice
-    ∷ record {
-      step = stepBy usedAgain chosen;
-      start = atLastUse;
-      calls = Create 3 ∷ Delete (taskOf 1048561) ∷ Create 3 ∷ [];
-      look = saysNothing;
-      right = view made 2 2 [];
-      wrong = view made 1048561 1048561 [];
-    }
+    ∷ failsFrom atLastUse (stepBy usedAgain chosen) (Create 3 ∷ Delete (taskOf 1048561) ∷ Create 3 ∷ []) saysNothing (view made 2 2 []) (view made 1048561 1048561 [])
     ∷ []
 
 unfoldable pub lineMistakes : List Wrong
@@ -518,14 +507,7 @@ advanceMistakes =
     ∷ fails (stepBy neverTurns chosen) (Create 3 ∷ Create 3 ∷ Advance 3 ∷ []) saysNothing (view done 0 2 []) (view done 0 1 [])
     ∷ fails (stepBy turnsOnce chosen) (Create 3 ∷ Create 3 ∷ Advance 2 ∷ []) saysNothing (view done 0 1 []) (view done 0 2 [])
     -- the wake tick is 1, the count 4,294,967,294, and 2 after the advance
-    ∷ record {
-      step = stepBy missesWrap chosen;
-      start = withTick fresh 4294967294;
-      calls = Create 3 ∷ Delay 3 ∷ Advance 4 ∷ [];
-      look = λ r. r .kernel .tick ∷ [];
-      right = view done 0 1 (2 ∷ []);
-      wrong = view done 0 0 (2 ∷ []);
-    }
+    ∷ failsFrom (withTick fresh 4294967294) (stepBy missesWrap chosen) (Create 3 ∷ Delay 3 ∷ Advance 4 ∷ []) (λ r. r .kernel .tick ∷ []) (view done 0 1 (2 ∷ [])) (view done 0 0 (2 ∷ []))
     -- the tick count
     ∷ fails (stepBy oneTooFew chosen) (Advance 5 ∷ []) (λ r. r .kernel .tick ∷ []) (view done 0 0 (5 ∷ [])) (view done 0 0 (4 ∷ []))
     -- the first tick wakes tasks 1 and 2, and the second turns their line

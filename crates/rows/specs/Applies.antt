@@ -4,9 +4,10 @@ use mathlib.Core.Bool.{Bool, false, not, _&&_, _||_}
 use mathlib.Core.List.{List, [], _∷_}
 use lib.Dec.{eqb, ltb, leb}
 use Rattle.lists.specs.Choice.{if_then_else_}
+use Rattle.numbers.specs.declared.TaskSlot.{TaskSlot}
 use Rattle.numbers.specs.Numbers.{sameTask, isIdle}
 use Rattle.slots.specs.Places.{isFree, isSuspended}
-use Rattle.slots.specs.Kinds.{isUnused, isQueue, isMutex, heldBy, isHeld}
+use Rattle.slots.specs.Kinds.{countIn, isUnused, isQueue, isMutex, heldBy, recursiveBy, isHeld}
 use Rattle.rows.specs.Types.{Names, Nothing, ATask, AnObject, AQueue, AMutex, Asked, Kind, Unused, SpentObject, Queue, Mutex, Seen}
 use Rattle.rows.specs.Asking.{is, stops, waits}
 
@@ -41,7 +42,7 @@ abbrev pub sizeDiffers : ℕ → Kind → Bool
 sizeDiffers n Unused = false
 sizeDiffers n SpentObject = false
 sizeDiffers n (Queue q) = not (eqb n (q .size))
-sizeDiffers n (Mutex h) = false
+sizeDiffers n (Mutex s h) = false
 
 unfoldable pub wrongSize : Seen → Asked → ℕ → Bool
 wrongSize s a n = is 13 a && sizeDiffers n (s .kind)
@@ -66,32 +67,39 @@ noneFree s = eqb (s .new) 16
 unfoldable pub notHis : Seen → Asked → Bool
 notHis s a = is 16 a && not (heldBy (s .running) (s .kind))
 
--- 12: "take by the holder"
+-- 12: "take by the holder"; "Ordinary mutexes keep refusal 12"
 unfoldable pub hisAlready : Seen → Asked → Bool
-hisAlready s a = is 15 a && heldBy (s .running) (s .kind)
+hisAlready s a = is 15 a && (heldBy (s .running) (s .kind) && not (recursiveBy (s .running) (s .kind)))
+
+-- 18: "count full": a take by the holder of a recursive mutex, who has it 255 times
+abbrev pub takesFull : TaskSlot → Kind → Bool
+takesFull t x = recursiveBy t x && eqb (countIn x) 255
+
+unfoldable pub countFull : Seen → Asked → Bool
+countFull s a = is 15 a && takesFull (s .running) (s .kind)
 
 -- 13: "resume of a task not suspended"
 unfoldable pub notSuspended : Seen → Asked → Bool
 notSuspended s a = is 4 a && not (isSuspended (s .place))
 
--- 14: "wait 0 where the caller would have to wait": a send finds the queue full, a receive finds it empty, a take finds the mutex held
+-- 14: "wait 0 where the caller would have to wait": a send finds the queue full, a receive finds it empty, a take finds the mutex held, and not by the caller who may take it again
 abbrev pub isFull : Kind → Bool
 isFull Unused = false
 isFull SpentObject = false
 isFull (Queue q) = eqb (q .count) (q .capacity)
-isFull (Mutex h) = false
+isFull (Mutex s h) = false
 
 abbrev pub isEmpty : Kind → Bool
 isEmpty Unused = false
 isEmpty SpentObject = false
 isEmpty (Queue q) = eqb (q .count) 0
-isEmpty (Mutex h) = false
+isEmpty (Mutex s h) = false
 
-abbrev pub stopsAt : Asked → Kind → Bool
-stopsAt a x = (is 13 a && isFull x) || ((is 14 a && isEmpty x) || (is 15 a && isHeld x))
+abbrev pub stopsAt : Asked → TaskSlot → Kind → Bool
+stopsAt a t x = (is 13 a && isFull x) || ((is 14 a && isEmpty x) || (is 15 a && (isHeld x && not (recursiveBy t x))))
 
 unfoldable pub mustWait : Seen → Asked → Bool
-mustWait s a = not (waits a) && stopsAt a (s .kind)
+mustWait s a = not (waits a) && stopsAt a (s .running) (s .kind)
 
 -- 15: "hold at depth 255; release at depth 0"
 unfoldable pub noDepth : Seen → Asked → Bool
@@ -130,6 +138,7 @@ table s a item store =
     ∷ row 10 (s .used)
     ∷ row 11 (notHis s a)
     ∷ row 12 (hisAlready s a)
+    ∷ row 18 (countFull s a)
     ∷ row 13 (notSuspended s a)
     ∷ row 17 (s .circle)
     ∷ row 14 (mustWait s a)

@@ -8,9 +8,13 @@ use Rattle.rows.specs.Types.{Asked}
 abbrev pub is : ℕ → Asked → Bool
 is n a = eqb (a .number) n
 
+-- make queue, make mutex, make recursive mutex
+abbrev pub makesObject : Asked → Bool
+makesObject a = is 10 a || (is 11 a || is 19 a)
+
 -- "create or make"
 abbrev pub makes : Asked → Bool
-makes a = is 1 a || (is 10 a || is 11 a)
+makes a = is 1 a || makesObject a
 
 -- "delete or suspend"
 abbrev pub stops : Asked → Bool

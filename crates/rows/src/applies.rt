@@ -1,12 +1,13 @@
 // The table: a method for each row, and the first row that applies. A row that speaks of one call looks at the call's number first.
 ghost use mathlib.Core.Path.{_≡_};
 ghost use Rattle.rows.specs.Applies.{notSoMany, outOfRange, namesNone, sizeDiffers, wrongSize, notForIdle, notWithHold, notHis};
-ghost use Rattle.rows.specs.Applies.{hisAlready, notSuspended, isFull, isEmpty, stopsAt, mustWait, noDepth, noTick};
+ghost use Rattle.rows.specs.Applies.{hisAlready, countFull, notSuspended, isFull, isEmpty, stopsAt, mustWait, noDepth, noTick};
 ghost use Rattle.rows.specs.Applies.{firstRow, orRow, row, table};
 use crate::Seen;
 use crate::asking;
 use calls::Asked;
 use calls::Names;
+use numbers::TaskSlot;
 use slots::Kind;
 
 fn not_so_many(a: Asked) -> bool
@@ -51,7 +52,7 @@ fn size_differs(x: Kind, n: usize) -> bool
         Kind::Unused => false,
         Kind::Spent => false,
         Kind::Queue(q) => n != q.size as usize,
-        Kind::Mutex(_) => false,
+        Kind::Mutex(_, _) => false,
     }
 }
 
@@ -62,7 +63,7 @@ fn is_full(x: Kind) -> bool
         Kind::Unused => false,
         Kind::Spent => false,
         Kind::Queue(q) => q.count == q.capacity,
-        Kind::Mutex(_) => false,
+        Kind::Mutex(_, _) => false,
     }
 }
 
@@ -73,12 +74,12 @@ fn is_empty(x: Kind) -> bool
         Kind::Unused => false,
         Kind::Spent => false,
         Kind::Queue(q) => q.count == 0,
-        Kind::Mutex(_) => false,
+        Kind::Mutex(_, _) => false,
     }
 }
 
-fn stops_at(a: Asked, x: Kind) -> bool
-    ensures { λ r. ⌜ r ≡ stopsAt a x ⌝ }
+fn stops_at(a: Asked, t: TaskSlot, x: Kind) -> bool
+    ensures { λ r. ⌜ r ≡ stopsAt a t x ⌝ }
 {
     if a.number == 13 {
         return is_full(x);
@@ -87,7 +88,10 @@ fn stops_at(a: Asked, x: Kind) -> bool
         return is_empty(x);
     }
     if a.number == 15 {
-        return x.is_held();
+        if x.is_held() {
+            let again = x.recursive_by(t);
+            return !again;
+        }
     }
     false
 }
@@ -173,7 +177,21 @@ impl Seen {
     {
         if a.number == 15 {
             let x = self.kind;
-            return x.held_by(self.running);
+            let u = self.running;
+            if x.held_by(u) {
+                let again = x.recursive_by(u);
+                return !again;
+            }
+        }
+        false
+    }
+
+    fn count_full(self, a: Asked) -> bool
+        ensures { λ r. ⌜ r ≡ countFull self a ⌝ }
+    {
+        if a.number == 15 {
+            let x = self.kind;
+            return lists::both(x.recursive_by(self.running), x.count() == 255);
         }
         false
     }
@@ -196,7 +214,7 @@ impl Seen {
             return false;
         }
         let x = self.kind;
-        stops_at(a, x)
+        stops_at(a, self.running, x)
     }
 
     fn no_depth(self, a: Asked) -> bool
@@ -221,7 +239,7 @@ impl Seen {
         false
     }
 
-    // The number of the first row that applies, of rows 2 to 17; 0 where none does. No row is passed over: which one applies cannot be foretold, and most calls pass them all.
+    // The number of the first row that applies, of rows 2 to 18; 0 where none does. No row is passed over: which one applies cannot be foretold, and most calls pass them all.
     pub fn row(self, a: Asked, item: usize, store: usize) -> u32
         ensures { λ r. ⌜ r ≡ firstRow (table self a item store) ⌝ }
     {
@@ -235,6 +253,7 @@ impl Seen {
         let no = or_row(no, 10, self.used);
         let no = or_row(no, 11, self.not_his(a));
         let no = or_row(no, 12, self.his_already(a));
+        let no = or_row(no, 18, self.count_full(a));
         let no = or_row(no, 13, self.not_suspended(a));
         let no = or_row(no, 17, self.circle);
         let no = or_row(no, 14, self.must_wait(a));

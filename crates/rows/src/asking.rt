@@ -7,7 +7,8 @@ use calls::Asked;
 pub fn makes(a: Asked) -> bool
     ensures { λ r. ⌜ r ≡ makes a ⌝ }
 {
-    lists::either(a.number == 1, lists::either(a.number == 10, a.number == 11))
+    let mutex = lists::either(a.number == 11, a.number == 19);
+    lists::either(a.number == 1, lists::either(a.number == 10, mutex))
 }
 
 pub(crate) fn stops(a: Asked) -> bool

@@ -16,7 +16,7 @@ use Rattle.slots.specs.Places.{isBlocked, isListed, wakesAt, outcomeDue}
 use Rattle.slots.specs.Values.{freeTask, spentTask, readyAt, placed, brokenOff, taskAt}
 use Rattle.slots.specs.Kinds.{kindAt}
 use Rattle.rules.specs.Types.{TaskSlot, ObjSlot, Place, Ready, Delayed, Waiting, Task, Ring, WaitersOf}
-use Rattle.rules.specs.Types.{Call, Create, Delete, Suspend, Resume, SetPriority, Delay, Yield, Hold, Release, MakeQueue, MakeMutex, Remove, Send, Receive, Take, Give, Tick, Advance, State}
+use Rattle.rules.specs.Types.{Call, Create, Delete, Suspend, Resume, SetPriority, Delay, Yield, Hold, Release, MakeQueue, MakeMutex, Remove, Send, Receive, Take, Give, Tick, Advance, MakeRecursive, State}
 use Rattle.rules.specs.Tables.{freeSlot, withTask, withHold, withTick}
 use Rattle.rules.specs.Lines.{hasBegun, begun, level, first, chosen, toTail, leaves}
 use Rattle.rules.specs.Sound.{noHigher}
@@ -26,9 +26,10 @@ use Rattle.rules.specs.Loans.{newPriority}
 use Rattle.rules.specs.Ticks.{held, wokenIfDue, wakes, oneTick, turned, turnedIf, ticked, ticks, released, advanced, countedOn}
 use Rattle.rules.specs.Rings.{oneLess}
 use Rattle.rules.specs.Queues.{sentBy, sent, sentTo, refilledBy, received, receivedFrom}
-use Rattle.rules.specs.Effects.{effect, created, deleted, suspended, resumed, yielded, delayed, queueMade, mutexMade, removed, takenFrom, taken, handedTo, given}
+use Rattle.rules.specs.Effects.{effect, created, deleted, suspended, resumed, yielded, delayed, queueMade, mutexMade, removed, taken, given}
 use Rattle.rows.specs.Applies.{namesNone, noneFree}
 use Rattle.rules.proofs.TableSlots.{passes-there, passes-blocked, by-kind}
+use Rattle.rules.proofs.MutexCases.{by-take, by-give}
 use Rattle.rules.proofs.TableWithin.{first-within, first-single, by-outlet}
 use Rattle.rules.proofs.SoundLists.{listing-room}
 use Rattle.rules.proofs.RowPasses.{Passed, advance-free}
@@ -204,12 +205,8 @@ module _ (k : State) (S : Sound k) where
       (tail-fades (set-roomy k roomy-in t (readyAt p)) t (ap (λ (y : Task). isBlocked (y .place)) (set-at k roomy-in t (readyAt p) low)) low)
 
   given-fades : (o : ObjSlot) → Fade k (given k o)
-  unfolding given
-  given-fades o = handed (first k (WaitersOf o)) refl
-    where
-      handed : (l : List TaskSlot) → first k (WaitersOf o) ≡ l → Fade k (handedTo k o l)
-      handed [] e = stays roomy-in
-      handed (t ∷ l) e = arrives-fades k roomy-in t Ready 1 refl (first-low o t l e)
+  given-fades o =
+      by-give k o (λ j. Fade k j) (λ m. stays roomy-in) (λ s h e m. stays roomy-in) (λ s h e m q. stays roomy-in) (λ s h e m t l q. arrives-fades k roomy-in t Ready 1 refl (first-low o t l q))
 
   -- the caller begins to wait
   wait-begins : (o : ObjSlot) (w : ℕ) → Remember k (waitFor k o w)
@@ -244,18 +241,16 @@ module _ (k : State) (S : Sound k) where
   send-remembers : (o : ObjSlot) (w : ℕ) → Remember k (sentTo k o (kindAt (k .objects) o) w)
   send-remembers o w =
       by-kind (kindAt (k .objects) o) (λ x. Remember k (sentTo k o x w)) (quietly (stays roomy-in)) (quietly (stays roomy-in)) (λ q e. sent-remembers o q w)
-      (λ e. quietly (stays roomy-in)) (λ h e. quietly (stays roomy-in))
+      (λ s h e. quietly (stays roomy-in))
 
   receive-remembers : (o : ObjSlot) (w : ℕ) → Remember k (receivedFrom k o (kindAt (k .objects) o) w)
   receive-remembers o w =
-      by-kind (kindAt (k .objects) o) (λ x. Remember k (receivedFrom k o x w)) (quietly (stays roomy-in)) (quietly (stays roomy-in)) (λ q e. received-remembers o q w) (λ e. quietly (stays roomy-in))
-      (λ h e. quietly (stays roomy-in))
+      by-kind (kindAt (k .objects) o) (λ x. Remember k (receivedFrom k o x w)) (quietly (stays roomy-in)) (quietly (stays roomy-in)) (λ q e. received-remembers o q w)
+      (λ s h e. quietly (stays roomy-in))
 
   taken-remembers : (o : ObjSlot) (w : ℕ) → Remember k (taken k o w)
-  unfolding taken
   taken-remembers o w =
-      by-kind (kindAt (k .objects) o) (λ x. Remember k (takenFrom k o x w)) (quietly (stays roomy-in)) (quietly (stays roomy-in)) (λ q e. quietly (stays roomy-in)) (λ e. quietly (stays roomy-in))
-      (λ h e. wait-begins o w)
+      by-take k o (λ j. Remember k j) w (λ m. quietly (stays roomy-in)) (λ s e. quietly (stays roomy-in)) (λ s e. quietly (stays roomy-in)) (λ s h e d. wait-begins o w)
 
 -- ── every call
 pub effect-remembers : (k : State) → Sound k → (n : ℕ) (c : Call) → Passed k (asked (k .uses) c) n → Remember k (effect k (asked (k .uses) c))
@@ -279,6 +274,7 @@ effect-remembers k S n (Receive o w) P = receive-remembers k S (objSlot (k .uses
 effect-remembers k S n (Take o w) P = taken-remembers k S (objSlot (k .uses) o) w
 effect-remembers k S n (Give o) P = quietly k S (given-fades k S (objSlot (k .uses) o))
 effect-remembers k S n Tick P = quietly k S (ticked-fades k S)
+effect-remembers k S n MakeRecursive P = quietly k S (stays (roomy-in k S))
 effect-remembers k S n (Advance d) P = quietly k S (advanced-fades d k (roomy-in k S) (sound-unheld k S (advance-free k (asked (k .uses) (Advance d)) refl (P .held))))
 
 -- the effective priorities worked out, too

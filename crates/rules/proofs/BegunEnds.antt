@@ -20,7 +20,7 @@ use Rattle.slots.specs.Places.{isBlocked, isListed, wakesAt}
 use Rattle.slots.specs.Values.{readyAt, placed, brokenOff, taskAt}
 use Rattle.slots.specs.Kinds.{kindAt}
 use Rattle.rules.specs.Types.{TaskSlot, ObjSlot, Place, Ready, Delayed, Waiting, Task, Ring, WaitersOf}
-use Rattle.rules.specs.Types.{Call, Create, Delete, Suspend, Resume, SetPriority, Delay, Yield, Hold, Release, MakeQueue, MakeMutex, Remove, Send, Receive, Take, Give, Tick, Advance, State}
+use Rattle.rules.specs.Types.{Call, Create, Delete, Suspend, Resume, SetPriority, Delay, Yield, Hold, Release, MakeQueue, MakeMutex, Remove, Send, Receive, Take, Give, Tick, Advance, MakeRecursive, State}
 use Rattle.rules.specs.Tables.{freeSlot, withTask, withHold}
 use Rattle.rules.specs.Lines.{hasBegun, Ahead, first, toTail, leaves, level}
 use Rattle.rules.specs.Waits.{later, wakeOf, arrives, waitFor}
@@ -28,8 +28,9 @@ use Rattle.rules.specs.Loans.{newPriority, workedOut}
 use Rattle.rules.specs.Ticks.{held, oneTick, turned, ticked, ticks, released}
 use Rattle.rules.specs.Rings.{oneLess}
 use Rattle.rules.specs.Queues.{sentBy, sent, sentTo, refilledBy, received, receivedFrom}
-use Rattle.rules.specs.Effects.{effect, created, deleted, suspended, resumed, yielded, delayed, queueMade, mutexMade, removed, takenFrom, taken, handedTo, given}
+use Rattle.rules.specs.Effects.{effect, created, deleted, suspended, resumed, yielded, delayed, queueMade, mutexMade, removed, taken, given}
 use Rattle.rules.proofs.TableSlots.{by-kind}
+use Rattle.rules.proofs.MutexCases.{by-take, by-give}
 use Rattle.rules.proofs.TableWithin.{by-outlet}
 use Rattle.rules.proofs.Keeps.{apart}
 use Rattle.rules.proofs.KeepSlot.{at-other}
@@ -104,24 +105,18 @@ module _ (k : State) where
       go false (t ∷ l) = changes ts t (placed (taskAt ts t) Ready 1)
 
   send-ends : (o : ObjSlot) (w : ℕ) → OneEnds ts (sentTo k o (kindAt (k .objects) o) w .tasks)
-  send-ends o w = by-kind (kindAt (k .objects) o) (λ x. OneEnds ts (sentTo k o x w .tasks)) nothing-ends nothing-ends (λ q e. sent-ends o q w) (λ e. nothing-ends) (λ h e. nothing-ends)
+  send-ends o w = by-kind (kindAt (k .objects) o) (λ x. OneEnds ts (sentTo k o x w .tasks)) nothing-ends nothing-ends (λ q e. sent-ends o q w) (λ s h e. nothing-ends)
 
   receive-ends : (o : ObjSlot) (w : ℕ) → OneEnds ts (receivedFrom k o (kindAt (k .objects) o) w .tasks)
   receive-ends o w =
-      by-kind (kindAt (k .objects) o) (λ x. OneEnds ts (receivedFrom k o x w .tasks)) nothing-ends nothing-ends (λ q e. received-ends o q w) (λ e. nothing-ends) (λ h e. nothing-ends)
+      by-kind (kindAt (k .objects) o) (λ x. OneEnds ts (receivedFrom k o x w .tasks)) nothing-ends nothing-ends (λ q e. received-ends o q w) (λ s h e. nothing-ends)
 
   taken-ends : (o : ObjSlot) (w : ℕ) → OneEnds ts (taken k o w .tasks)
-  unfolding taken
   taken-ends o w =
-      by-kind (kindAt (k .objects) o) (λ x. OneEnds ts (takenFrom k o x w .tasks)) nothing-ends nothing-ends (λ q e. nothing-ends) (λ e. nothing-ends) (λ h e. wait-ends o w)
+      by-take k o (λ j. OneEnds ts (j .tasks)) w (λ m. nothing-ends) (λ s e. nothing-ends) (λ s e. nothing-ends) (λ s h e d. wait-ends o w)
 
   given-ends : (o : ObjSlot) → OneEnds ts (given k o .tasks)
-  unfolding given
-  given-ends o = go (first k (WaitersOf o))
-    where
-      go : (l : List TaskSlot) → OneEnds ts (handedTo k o l .tasks)
-      go [] = nothing-ends
-      go (t ∷ l) = arrives-ends t Ready 1
+  given-ends o = by-give k o (λ j. OneEnds ts (j .tasks)) (λ m. nothing-ends) (λ s h e m. nothing-ends) (λ s h e m q. nothing-ends) (λ s h e m t l q. arrives-ends t Ready 1)
 
 -- ── two who are due on one tick, both of the effective priority p
 module _ (t u : TaskSlot) (differ : t .0 ≡ u .0 → ⊥) (k : State) (S : Sound k) (w : ℕ) (D : BothDue t u differ w k) (p : ℕ) (level-t : level (k .tasks) t ≡ p) (level-u : level (k .tasks) u ≡ p) where
@@ -231,3 +226,4 @@ module _ (t u : TaskSlot) (differ : t .0 ≡ u .0 → ⊥) (k : State) (S : Soun
   after-ahead (Give o) e W = absurd (not-both _ (given-ends k (objSlot (k .uses) o)) W)
   after-ahead Tick e W = let s = worked-still (ticked k) (ticked-reckoned k S) in rw s (ticked-ahead (rw s at W))
   after-ahead (Advance n) e W = absurd (false≢true (sym e))
+  after-ahead MakeRecursive e W = absurd (not-both _ (nothing-ends k) W)

@@ -1,4 +1,4 @@
--- No call makes a circle: a take that no row turns away closesCircle none, and every other call ends waits, or leaves them, or makes them be for someone who is ready.
+-- No call makes a circle: a take that no row turns away closes none, and every other call ends waits, or leaves them, or makes them be for someone who is ready.
 use Prim.Native.Nat.{ℕ, _+_, _-_, _<_}
 use mathlib.Core.Path.{_≡_, refl, sym, ap, _∙_}
 use mathlib.Core.Logic.{_⊎_, inl, inr}
@@ -6,15 +6,16 @@ use mathlib.Core.Bool.{Bool, true, false, false≢true}
 use mathlib.Core.List.{List, [], _∷_}
 use lib.Dec.{eqb, ltb}
 use lib.ListN.{length, set, length-set}
+use borrow.Author.Tests.{ne-eqb}
 use Rattle.lists.specs.Choice.{if_then_else_}
 use Rattle.numbers.specs.Numbers.{task, object}
 use Rattle.calls.specs.Door.{taskSlot, objSlot, lastIn}
 use Rattle.calls.specs.Behind.{asked}
 use Rattle.slots.specs.Places.{isListed}
 use Rattle.slots.specs.Values.{freeTask, spentTask, readyAt, brokenOff, owned, placed, taskAt}
-use Rattle.slots.specs.Kinds.{kindAt, holderOf}
-use Rattle.rules.specs.Types.{Call, Create, Delete, Suspend, Resume, SetPriority, Delay, Yield, Hold, Release, MakeQueue, MakeMutex, Remove, Send, Receive, Take, Give, Tick, Advance}
-use Rattle.rules.specs.Types.{TaskSlot, ObjSlot, Place, Free, Ready, Delayed, Waiting, Suspended, Spent, Task, Ring, Nobody, By, Kind, Unused, SpentObject, Queue, Mutex, Object, WaitersOf, State}
+use Rattle.slots.specs.Kinds.{countOf, counting, kindAt, heldBy, holderOf}
+use Rattle.rules.specs.Types.{Call, Create, Delete, Suspend, Resume, SetPriority, Delay, Yield, Hold, Release, MakeQueue, MakeMutex, Remove, Send, Receive, Take, Give, Tick, Advance, MakeRecursive}
+use Rattle.rules.specs.Types.{TaskSlot, ObjSlot, Place, Free, Ready, Delayed, Waiting, Suspended, Spent, Task, Ring, Nobody, By, Sort, Ordinary, Recursive, Kind, Unused, SpentObject, Queue, Mutex, Object, WaitersOf, State}
 use Rattle.rules.specs.Tables.{withTask, withObject, withHold, freeSlot, freeObject}
 use Rattle.rules.specs.Lines.{first, toTail, leaves}
 use Rattle.rules.specs.Waits.{later, wakeOf, arrives, waitFor}
@@ -23,9 +24,11 @@ use Rattle.rules.specs.Circles.{leadsTo, closesCircle}
 use Rattle.rules.specs.Queues.{sentBy, sent, sentTo, refilledBy, received, receivedFrom}
 use Rattle.rules.specs.Rings.{oneMore, oneLess}
 use Rattle.rules.specs.Ticks.{oneTick, turned, ticked, ticks, released, advanced, held}
-use Rattle.rules.specs.Effects.{created, deleted, suspended, resumed, yielded, delayed, queueMade, mutexMade, removed, takenFrom, taken, handedTo, given, effect}
+use Rattle.rules.specs.Effects.{created, deleted, suspended, resumed, yielded, delayed, queueMade, mutexMade, removed, taken, given, effect}
 use Rattle.rules.specs.Sentences.{NoCircle, Sound}
 use Rattle.rules.proofs.TableSlots.{by-kind}
+use Rattle.rules.proofs.TableHolds.{no-circle-leads}
+use Rattle.rules.proofs.MutexCases.{by-take, by-give}
 use Rattle.rules.proofs.TableWithin.{first-within, first-single, by-outlet}
 use Rattle.rules.proofs.RowPasses.{Passed}
 use Rattle.rules.proofs.CircleRule.{reaches-leads, nobody-for-nobody, loosened, links-open}
@@ -63,21 +66,21 @@ module _ {ts : List Task} {os : List Object} (C : Uncircled ts os) where
       changed (inl q) = inl q
       changed (inr q) = inr (ap (waitsFor us os) q ∙ nobody-for-nobody us os many)
 
-  -- ── an object whose holder waits for nobody
-  pub object-uncircled : (o : ObjSlot) (y : Kind) → waitsFor ts (kinds os o y) (holderOf y) ≡ task 16 → Uncircled ts (kinds os o y)
+  -- ── an object whose holder waits for nobody, or is the one that it had
+  pub object-uncircled : (o : ObjSlot) (y : Kind) → (holderOf y ≡ holderOf (kindAt os o)) ⊎ (waitsFor ts (kinds os o y) (holderOf y) ≡ task 16) → Uncircled ts (kinds os o y)
   object-uncircled o y e = record { full = C .full; none = loosened ts ts os (kinds os o y) (C .full) (C .full) (C .none) (λ t. waits (taskAt ts t .place)) }
     where
       waits : (p : Place) → (forWhom (kinds os o y) p ≡ forWhom os p) ⊎ (waitsFor ts (kinds os o y) (forWhom (kinds os o y) p) ≡ task 16)
       waits Free = inl refl
       waits Ready = inl refl
       waits (Delayed w) = inl refl
-      waits (Waiting q w) = each-kind os o y (λ p x. (holderOf x ≡ holderOf (kindAt os p)) ⊎ (waitsFor ts (kinds os o y) (holderOf x) ≡ task 16)) (inr e) (λ p. inl refl) q
+      waits (Waiting q w) = each-kind os o y (λ p x. (holderOf x ≡ holderOf (kindAt os p)) ⊎ (waitsFor ts (kinds os o y) (holderOf x) ≡ task 16)) e (λ p. inl refl) q
       waits Suspended = inl refl
       waits Spent = inl refl
 
   -- one that nobody holds
   pub unheld-uncircled : (o : ObjSlot) (y : Kind) → holderOf y ≡ task 16 → Uncircled ts (kinds os o y)
-  unheld-uncircled o y e = object-uncircled o y (ap (waitsFor ts (kinds os o y)) e ∙ nobody-for-nobody ts (kinds os o y) (C .full))
+  unheld-uncircled o y e = object-uncircled o y (inr (ap (waitsFor ts (kinds os o y)) e ∙ nobody-for-nobody ts (kinds os o y) (C .full)))
 
 arrives-uncircled : (k : State) → UncircledIn k → (t : TaskSlot) (p : Place) (n : ℕ) → forWhom (k .objects) p ≡ task 16 → UncircledIn (arrives k t p n)
 unfolding arrives toTail
@@ -139,42 +142,44 @@ module _ (k : State) (S : Sound k) where
         go false (t ∷ l) = arrives-uncircled (withObject k o (Queue (oneMore (oneLess q)))) (unheld-uncircled C o (Queue (oneMore (oneLess q))) refl) t Ready 1 refl
 
   send-uncircled : (o : ObjSlot) (w : ℕ) → UncircledIn (sentTo k o (kindAt (k .objects) o) w)
-  send-uncircled o w = by-kind (kindAt (k .objects) o) (λ x. UncircledIn (sentTo k o x w)) C C (λ q e. sent-uncircled o q w e) (λ e. C) (λ h e. C)
+  send-uncircled o w = by-kind (kindAt (k .objects) o) (λ x. UncircledIn (sentTo k o x w)) C C (λ q e. sent-uncircled o q w e) (λ s h e. C)
 
   receive-uncircled : (o : ObjSlot) (w : ℕ) → UncircledIn (receivedFrom k o (kindAt (k .objects) o) w)
-  receive-uncircled o w = by-kind (kindAt (k .objects) o) (λ x. UncircledIn (receivedFrom k o x w)) C C (λ q e. received-uncircled o q w e) (λ e. C) (λ h e. C)
+  receive-uncircled o w = by-kind (kindAt (k .objects) o) (λ x. UncircledIn (receivedFrom k o x w)) C C (λ q e. received-uncircled o q w e) (λ s h e. C)
 
   -- ── a mutex: the caller, who is ready, becomes its holder, or waits where the chain does not lead back to it
-  pub take-uncircled : (o : ObjSlot) (w : ℕ) → leadsTo (k .tasks) (k .objects) (holderOf (kindAt (k .objects) o)) (k .running) ≡ false → UncircledIn (taken k o w)
-  unfolding taken waitFor arrives toTail
+  pub take-uncircled : (o : ObjSlot) (w : ℕ)
+      → (heldBy (k .running) (kindAt (k .objects) o) ≡ false → leadsTo (k .tasks) (k .objects) (holderOf (kindAt (k .objects) o)) (k .running) ≡ false) → UncircledIn (taken k o w)
+  unfolding waitFor arrives toTail
   take-uncircled o w free =
-      by-kind (kindAt (k .objects) o) (λ x. UncircledIn (takenFrom k o x w)) C C (λ q e. C)
-      (λ e. object-uncircled C o (Mutex (By (k .running))) (ap (forWhom (kinds (k .objects) o (Mutex (By (k .running))))) (S .running .runs .ready)))
-      (λ h e. record {
+      by-take k o UncircledIn w (λ m. C) (λ s e. callers (counting s 1)) (λ s e. callers (counting s (countOf s + 1))) (λ s h e d. record {
         full = length-set (k .tasks) (k .running .0) waiting ∙ C .full;
         none = links-open (k .tasks) (k .objects) (C .full) (k .running) low waiting (C .none)
-            (λ r. false≢true (sym free ∙ reaches-leads (k .tasks) (k .objects) (C .full) (holderOf (kindAt (k .objects) o)) (k .running) low r));
+            (λ r. false≢true (sym (free (ap (heldBy (k .running)) e ∙ ne-eqb (h .0) (k .running .0) d))
+            ∙ reaches-leads (k .tasks) (k .objects) (C .full) (holderOf (kindAt (k .objects) o)) (k .running) low r));
       })
     where
+      callers : (s : Sort) → UncircledIn (withObject k o (Mutex s (By (k .running))))
+      callers s = object-uncircled C o (Mutex s (By (k .running))) (inr (ap (forWhom (kinds (k .objects) o (Mutex s (By (k .running))))) (S .running .runs .ready)))
+
       low : k .running .0 < 16
       low = ready-low (k .tasks) (k .running) (C .full) (S .running .runs .ready)
 
       waiting : Task
       waiting = placed (taskAt (k .tasks) (k .running)) (Waiting o (wakeOf (k .tick) w)) 0
 
-  -- the first waiter, now ready, becomes its holder, or nobody
+  -- it stays its holder's; or the first waiter, now ready, becomes its holder, or nobody
   give-uncircled : (o : ObjSlot) → UncircledIn (given k o)
-  unfolding given arrives toTail
-  give-uncircled o = go (first k (WaitersOf o)) refl
+  unfolding arrives toTail
+  give-uncircled o =
+      by-give k o UncircledIn (λ m. C) (λ s h e m. object-uncircled C o (Mutex (counting s (countOf s - 1)) h) (inl (sym (ap holderOf e))))
+      (λ s h e m q. unheld-uncircled C o (Mutex (counting s 0) Nobody) refl)
+      (λ s h e m t l q. object-uncircled (arrives-uncircled k C t Ready 1 refl) o (Mutex (counting s 1) (By t)) (inr (ready-now (counting s 1) t l q)))
     where
-      ready-now : (t : TaskSlot) (l : List TaskSlot) → first k (WaitersOf o) ≡ t ∷ l → waitsFor (arrives k t Ready 1 .tasks) (kinds (k .objects) o (Mutex (By t))) t ≡ task 16
-      ready-now t l e =
-          ap (λ (x : Task). forWhom (kinds (k .objects) o (Mutex (By t))) (x .place))
+      ready-now : (s : Sort) (t : TaskSlot) (l : List TaskSlot) → first k (WaitersOf o) ≡ t ∷ l → waitsFor (arrives k t Ready 1 .tasks) (kinds (k .objects) o (Mutex s (By t))) t ≡ task 16
+      ready-now s t l e =
+          ap (λ (x : Task). forWhom (kinds (k .objects) o (Mutex s (By t))) (x .place))
           (at-same (k .tasks) t (placed (taskAt (k .tasks) t) Ready 1) (first-within k (WaitersOf o) t (first-single k (WaitersOf o) t l e)))
-
-      go : (l : List TaskSlot) → first k (WaitersOf o) ≡ l → UncircledIn (handedTo k o l)
-      go [] e = unheld-uncircled C o (Mutex Nobody) refl
-      go (t ∷ l) e = object-uncircled (arrives-uncircled k C t Ready 1 refl) o (Mutex (By t)) (ready-now t l e)
 
   -- ── ticks only end waits
   ticks-none : (b : Bool) (n : ℕ) (j : State) → j .tasks ≡ k .tasks → j .objects ≡ k .objects → NoCircle (ticks b n j .tasks) (ticks b n j .objects)
@@ -209,11 +214,13 @@ effect-circles k S n Yield P = S .circles
 effect-circles k S n Hold P = S .circles
 effect-circles k S n Release P = release-none k S
 effect-circles k S n (MakeQueue c z) P = unheld-uncircled (C k S) (object (freeObject (k .objects))) _ refl .none
-effect-circles k S n MakeMutex P = unheld-uncircled (C k S) (object (freeObject (k .objects))) (Mutex Nobody) refl .none
+effect-circles k S n MakeMutex P = unheld-uncircled (C k S) (object (freeObject (k .objects))) (Mutex Ordinary Nobody) refl .none
 effect-circles k S n (Remove o) P = remove-uncircled k S (objSlot (k .uses) o) (lastIn (k .uses .objects) (objSlot (k .uses) o .0)) .none
 effect-circles k S n (Send o w) P = send-uncircled k S (objSlot (k .uses) o) w .none
 effect-circles k S n (Receive o w) P = receive-uncircled k S (objSlot (k .uses) o) w .none
-effect-circles k S n (Take o w) P = take-uncircled k S (objSlot (k .uses) o) w (P .no-circle) .none
+effect-circles k S n (Take o w) P =
+    take-uncircled k S (objSlot (k .uses) o) w (λ e. no-circle-leads (k .running) (kindAt (k .objects) (objSlot (k .uses) o)) _ e (P .no-circle)) .none
 effect-circles k S n (Give o) P = give-uncircled k S (objSlot (k .uses) o) .none
 effect-circles k S n Tick P = tick-none k S
 effect-circles k S n (Advance d) P = ticks-none k S true d k refl refl
+effect-circles k S n MakeRecursive P = unheld-uncircled (C k S) (object (freeObject (k .objects))) (Mutex (Recursive 0) Nobody) refl .none

@@ -12,7 +12,7 @@ use Rattle.order.specs.Tidy.{count, tidy}
 use Rattle.chains.specs.Lent.{goesOn, levels}
 use Rattle.chains.specs.Columns.{raised}
 use Rattle.chains.specs.Chains.{within}
-use Rattle.rules.specs.Types.{Call, Create, Delete, Suspend, Resume, SetPriority, Delay, Yield, Hold, Release, MakeQueue, MakeMutex, Remove, Send, Receive, Take, Give, Tick, Advance, State}
+use Rattle.rules.specs.Types.{Call, Create, Delete, Suspend, Resume, SetPriority, Delay, Yield, Hold, Release, MakeQueue, MakeMutex, Remove, Send, Receive, Take, Give, Tick, Advance, MakeRecursive, State}
 use Rattle.slots.specs.Values.{taskAt}
 use Rattle.slots.specs.Kinds.{kindAt}
 use Rattle.rules.specs.Tables.{fresh, holds}
@@ -25,7 +25,7 @@ use Rattle.rules.proofs.RowPasses.{Passed}
 use Rattle.rules.proofs.Keeps.{Keeps, effect-kept as step-keeps, delete-not-idle}
 use Rattle.rules.proofs.KeepTasks.{create-keeps, delete-keeps, suspend-keeps, resume-keeps, priority-keeps, delay-keeps, yield-keeps}
 use Rattle.rules.proofs.KeepTicks.{hold-keeps, release-keeps, tick-keeps, advance-keeps}
-use Rattle.rules.proofs.KeepObjects.{queue-keeps, mutex-keeps, remove-keeps}
+use Rattle.rules.proofs.KeepObjects.{queue-keeps, mutex-keeps, recursive-keeps, remove-keeps}
 use Rattle.rules.proofs.KeepQueues.{send-keeps, receive-keeps}
 use Rattle.rules.proofs.KeepMutexes.{take-keeps, give-keeps}
 use Rattle.rules.proofs.KeepUses.{used-after}
@@ -57,6 +57,7 @@ effect-keeps k S n (Take o w) = take-keeps k S n (objSlot (k .uses) o) w
 effect-keeps k S n (Give o) = give-keeps k S n (objSlot (k .uses) o)
 effect-keeps k S n Tick = tick-keeps k S n
 effect-keeps k S n (Advance d) = advance-keeps k S n d
+effect-keeps k S n MakeRecursive = recursive-keeps k S n
 
 -- whatever the item and the store
 pub step-kept : (k : State) (c : Call) (item s : List ℕ) → sound k ≡ true → sound (step k c item s .kernel) ≡ true

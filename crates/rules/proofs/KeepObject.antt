@@ -8,11 +8,11 @@ use lib.ListN.{length, set, length-set}
 use lib.Seq.{getD-set-same, getD-set-other}
 use borrow.Author.Tests.{eqb-true, eqb-false}
 use Rattle.numbers.specs.Numbers.{idle, sameObject}
-use Rattle.slots.specs.Kinds.{unused, kindAt}
-use Rattle.rules.specs.Types.{TaskSlot, ObjSlot, Wake, Waiting, Ring, Kind, Queue, Mutex, By, Object, State}
+use Rattle.slots.specs.Kinds.{unused, hands, kindAt}
+use Rattle.rules.specs.Types.{TaskSlot, ObjSlot, Wake, Waiting, Kind, By, Object, State}
 use Rattle.slots.specs.Values.{taskAt}
 use Rattle.rules.specs.Tables.{withObject}
-use Rattle.rules.specs.Sentences.{Exists, MayWait, RingFits, Tables}
+use Rattle.rules.specs.Sentences.{Exists, MayWait, KindFits, Tables}
 use Rattle.rules.proofs.KeepNearly.{Open, Nearly}
 
 module _ (os : List Object) (o : ObjSlot) (y : Kind) where
@@ -32,8 +32,8 @@ one-object x y e = λ i. record { 0 = e i }
 
 module _ {w : Open} (k : State) (N : Nearly w k) (o : ObjSlot) (y : Kind) (low : o .0 < 16)
     (W : (t : TaskSlot) (v : Wake) → taskAt (k .tasks) t .place ≡ Waiting o v → MayWait t y)
-    (Q : (q : Ring) → y ≡ Queue q → RingFits q)
-    (H : (t : TaskSlot) → y ≡ Mutex (By t) → Exists (k .tasks) t × (t .0 ≡ 0 → ⊥)) where
+    (F : KindFits y)
+    (H : (t : TaskSlot) → hands y ≡ By t → Exists (k .tasks) t × (t .0 ≡ 0 → ⊥)) where
   abbrev qs : List Object
   qs = kinds (k .objects) o y
 
@@ -51,17 +51,17 @@ module _ {w : Open} (k : State) (N : Nearly w k) (o : ObjSlot) (y : Kind) (low :
         task-slots = N .tables .task-slots;
         object-slots = length-set (k .objects) (o .0) (record { kind = y }) ∙ N .tables .object-slots;
         as-idle = N .tables .as-idle;
-        tasks = λ t. let F = N .tables .tasks t in record {
-          waits = λ p v e. each (λ r z. taskAt (k .tasks) t .place ≡ Waiting r v → MayWait t z) (W t v) (λ r n f. F .waits r v f) p e;
-          outcome-range = F .outcome-range;
-          delay-outcome = F .delay-outcome;
-          wait-outcome = F .wait-outcome;
-          free = F .free;
-          spent = F .spent;
+        tasks = λ t. let T = N .tables .tasks t in record {
+          waits = λ p v e. each (λ r z. taskAt (k .tasks) t .place ≡ Waiting r v → MayWait t z) (W t v) (λ r n f. T .waits r v f) p e;
+          outcome-range = T .outcome-range;
+          delay-outcome = T .delay-outcome;
+          wait-outcome = T .wait-outcome;
+          free = T .free;
+          spent = T .spent;
         };
-        idle-holds = each (λ p z. z ≡ Mutex (By idle) → ⊥) (λ e. H idle e .1 refl) (λ p n e. N .tables .idle-holds p e);
-        holders = λ t. each (λ p z. z ≡ Mutex (By t) → Exists (k .tasks) t) (λ e. H t e .0) (λ p n e. N .tables .holders t p e);
-        queue-range = λ p. each (λ r z. (q : Ring) → z ≡ Queue q → RingFits q) Q (λ r n q e. N .tables .queue-range r q e) p;
+        idle-holds = each (λ p z. hands z ≡ By idle → ⊥) (λ e. H idle e .1 refl) (λ p n e. N .tables .idle-holds p e);
+        holders = λ t. each (λ p z. hands z ≡ By t → Exists (k .tasks) t) (λ e. H t e .0) (λ p n e. N .tables .holders t p e);
+        ranges = each (λ p z. KindFits z) F (λ p n. N .tables .ranges p);
       }
 
   pub object-nearly : Nearly w (withObject k o y)

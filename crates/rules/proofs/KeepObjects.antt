@@ -1,6 +1,6 @@
--- Calls 10 to 12 and 15 keep soundness: make queue, make mutex, remove, take. What they share with send, receive and give.
+-- Calls 10 to 12 and 19 keep soundness: make queue, make mutex, remove, make recursive mutex. What they share with send, receive, take and give.
 use Prim.Native.Nat.{ℕ, _*_, _<_, _≤_}
-use mathlib.Core.Path.{_≡_, refl, sym, ap, _∙_, subst}
+use mathlib.Core.Path.{_≡_, refl, sym, ap, _∙_}
 use mathlib.Core.Bool.{Bool, true, false, false≢true}
 use mathlib.Core.List.{List, [], _∷_}
 use native.Mathlib.Omega.{arith}
@@ -14,12 +14,12 @@ use Rattle.numbers.specs.Numbers.{object, idle}
 use Rattle.calls.specs.Behind.{nothing, onObject}
 use Rattle.order.specs.Order.{listed}
 use Rattle.order.specs.Tidy.{count}
-use Rattle.slots.specs.Kinds.{unused, isUnused, takesObject, isMutex, isHeld, kindAt}
-use Rattle.rules.specs.Types.{TaskSlot, ObjSlot, Wake, Never, At, Waiting, Ring, Nobody, By, Kind, Unused, SpentObject, Queue, Mutex, Object, WaitersOf, State, AnObject}
+use Rattle.slots.specs.Kinds.{unused, isUnused, takesObject, isMutex, isTaken, isHeld, kindAt}
+use Rattle.rules.specs.Types.{TaskSlot, ObjSlot, Wake, Never, At, Waiting, Ring, Holder, Nobody, By, Sort, Ordinary, Recursive, Kind, Unused, SpentObject, Queue, Mutex, Object, WaitersOf, State, AnObject}
 use Rattle.slots.specs.Values.{taskAt}
 use Rattle.rules.specs.Tables.{freeObject, withObject}
 use Rattle.rules.specs.Lines.{those, first}
-use Rattle.rules.specs.Sentences.{MayWait, receiver, sender, taker, RingFits, Sound}
+use Rattle.rules.specs.Sentences.{MayWait, receiver, sender, taker, RingFits, KindFits, vacant, a-queue, an-ordinary, free-recursive, Sound}
 use Rattle.rows.specs.Asking.{waits}
 use Rattle.rows.specs.Applies.{outOfRange, namesNone, noneFree}
 use Rattle.rules.specs.Refusals.{heldOrWaited, inUse}
@@ -40,19 +40,25 @@ no-wait (receiver e) q = let z : _≡_ {A = ℕ} 0 1 = cc in omega arith
 no-wait (sender e) q = let z : _≡_ {A = ℕ} 0 1 = cc in omega arith
 no-wait (taker n) q = let z : _≡_ {A = ℕ} 0 1 = cc in omega arith
 
-pub no-wait-free : {t : TaskSlot} {x : Kind} → MayWait t x → x ≡ Mutex Nobody → ⊥
-no-wait-free (receiver e) q = let z : _≡_ {A = ℕ} 0 1 = cc in omega arith
-no-wait-free (sender e) q = let z : _≡_ {A = ℕ} 0 1 = cc in omega arith
-no-wait-free (taker n) q = let z : _≡_ {A = ℕ} 0 1 = cc in omega arith
+pub no-wait-free : {t : TaskSlot} {x : Kind} → MayWait t x → isMutex x ≡ true → isHeld x ≡ false → ⊥
+no-wait-free (receiver e) m f = false≢true m
+no-wait-free (sender e) m f = false≢true m
+no-wait-free (taker n) m f = false≢true (sym f)
 
 is-unused : (x : Kind) → takesObject x ≡ true → x ≡ Unused
 is-unused Unused e = refl
 is-unused SpentObject e = absurd (false≢true e)
 is-unused (Queue q) e = absurd (false≢true e)
-is-unused (Mutex h) e = absurd (false≢true e)
+is-unused (Mutex s h) e = absurd (false≢true e)
 
-pub not-by : {x : Kind} {t : TaskSlot} → isMutex x ≡ false → x ≡ Mutex (By t) → ⊥
-not-by a e = false≢true (sym a ∙ ap isMutex e)
+pub not-by : {h : Holder} {t : TaskSlot} → isTaken h ≡ false → h ≡ By t → ⊥
+not-by a e = false≢true (sym a ∙ ap isTaken e)
+
+unused-unheld : (x : Kind) → isUnused x ≡ true → isHeld x ≡ false
+unused-unheld Unused e = refl
+unused-unheld SpentObject e = refl
+unused-unheld (Queue q) e = refl
+unused-unheld (Mutex s h) e = absurd (false≢true e)
 
 pub object-low : (os : List Object) (o : ObjSlot) → length os ≡ 16 → isUnused (kindAt os o) ≡ false → o .0 < 16
 object-low os o l e = go (ltb (o .0) 16) refl
@@ -91,10 +97,10 @@ module _ (k : State) (S : Sound k) (store : ℕ) where
   R = S .running .runs
 
   -- an object that was free becomes one that nobody holds
-  new-object : (o : ObjSlot) (y : Kind) → o .0 < 16 → kindAt (k .objects) o ≡ Unused → ((q : Ring) → y ≡ Queue q → RingFits q) → ((t : TaskSlot) → y ≡ Mutex (By t) → ⊥) → Keeps (withObject k o y)
-  new-object o y low e Q H =
+  new-object : (o : ObjSlot) (y : Kind) → o .0 < 16 → kindAt (k .objects) o ≡ Unused → KindFits y → isHeld y ≡ false → Keeps (withObject k o y)
+  new-object o y low e F H =
       record {
-        nearly = object-nearly k N o y low (λ t v p. absurd (no-wait (S .tables .tasks t .waits o v p) e)) Q (λ t q. absurd (H t q));
+        nearly = object-nearly k N o y low (λ t v p. absurd (no-wait (S .tables .tasks t .waits o v p) e)) F (λ t q. absurd (not-by H q));
         runs = λ h. R;
       }
 
@@ -132,19 +138,20 @@ module _ (k : State) (S : Sound k) (store : ℕ) where
 
     pub queue-keeps : Keeps (effect k (nothing 10 0 0 c z))
     unfolding effect queueMade
-    queue-keeps = new-object (object (freeObject (k .objects))) (Queue ring) has-room (free-kind has-room) (λ q e. let y : ring ≡ q = cc in subst RingFits y fits) (λ t. not-by refl)
+    queue-keeps = new-object (object (freeObject (k .objects))) (Queue ring) has-room (free-kind has-room) (a-queue fits) refl
 
-  -- 11: make mutex
-  module _ (P : Passed k (nothing 11 0 0 1 0) store) where
-    room-for-mutex : freeObject (k .objects) < 16
-    unfolding noneFree
-    room-for-mutex = free-low (P .slot)
+  -- 11 and 19: make mutex, make recursive mutex
+  made-keeps : (s : Sort) → KindFits (Mutex s Nobody) → eqb (freeObject (k .objects)) 16 ≡ false → Keeps (mutexMade k s)
+  unfolding mutexMade
+  made-keeps s f e = new-object (object (freeObject (k .objects))) (Mutex s Nobody) (free-low e) (free-kind (free-low e)) f refl
 
-    pub mutex-keeps : Keeps (effect k (nothing 11 0 0 1 0))
-    unfolding effect mutexMade
-    mutex-keeps =
-        new-object (object (freeObject (k .objects))) (Mutex Nobody) room-for-mutex (free-kind room-for-mutex) (λ q e. absurd (let z : _≡_ {A = ℕ} 0 1 = cc in omega arith))
-        (λ t e. let z : _≡_ {A = ℕ} 0 1 = cc in omega arith)
+  pub mutex-keeps : Passed k (nothing 11 0 0 1 0) store → Keeps (effect k (nothing 11 0 0 1 0))
+  unfolding effect noneFree
+  mutex-keeps P = made-keeps Ordinary an-ordinary (P .slot)
+
+  pub recursive-keeps : Passed k (nothing 19 0 0 1 0) store → Keeps (effect k (nothing 19 0 0 1 0))
+  unfolding effect noneFree
+  recursive-keeps P = made-keeps (Recursive 0) (free-recursive refl) (P .slot)
 
   -- 12: remove
   module _ (o : ObjSlot) {l : Bool} (P : Passed k (onObject 12 AnObject o l 0) store) where
@@ -170,8 +177,8 @@ module _ (k : State) (S : Sound k) (store : ℕ) where
             record {
               nearly =
                   object-nearly k N o y (object-low (k .objects) o (S .tables .object-slots) named) (λ t v p. absurd (nobody-waits k N o unwaited t v p))
-                  (λ q e. absurd (false≢true (sym (ap isUnused e) ∙ u)))
-                  (λ t e. absurd (false≢true (sym (ap isUnused e) ∙ u)));
+                  (vacant u)
+                  (λ t e. absurd (not-by (unused-unheld y u) e));
               runs = λ h. R;
             }
 

@@ -15,7 +15,7 @@ use Rattle.rules.specs.Types.{TaskSlot, ObjSlot, Wake, Place, Free, Read
 use Rattle.slots.specs.Values.{taskAt}
 use Rattle.rules.specs.Tables.{withObject}
 use Rattle.rules.specs.Lines.{first, toTail}
-use Rattle.rules.specs.Sentences.{MayWait, receiver, sender, taker, RingFits, Sound}
+use Rattle.rules.specs.Sentences.{MayWait, receiver, sender, taker, RingFits, a-queue, Sound}
 use Rattle.rows.specs.Applies.{namesNone}
 use Rattle.rules.specs.Waits.{arrives, waitFor}
 use Rattle.rules.specs.Rings.{oneMore, oneLess, roomOr}
@@ -23,6 +23,7 @@ use Rattle.rules.specs.Queues.{outletFor, outlet, sentBy, sent, sentTo, 
 use Rattle.rules.specs.Effects.{effect}
 use Rattle.rules.proofs.RowPasses.{Passed}
 use Rattle.rules.proofs.TableSlots.{by-kind}
+use Rattle.rules.proofs.SoundTables.{ring-of}
 use Rattle.rules.proofs.TableWithin.{less-fits, first-meant, first-within, first-single}
 use Rattle.rules.proofs.KeepNearly.{settled, Nearly, RunsIn}
 use Rattle.rules.proofs.KeepObject.{object-nearly}
@@ -59,12 +60,12 @@ module _ (k : State) (S : Sound k) (o : ObjSlot) (q : Ring) (kind : kindAt (k .o
   caller-low = ready-low (k .tasks) (k .running) (S .tables .task-slots) (R .ready)
 
   ring : RingFits q
-  ring = S .tables .queue-range o q kind
+  ring = ring-of (kindAt (k .objects) o) (S .tables .ranges o) kind
 
   -- the ring changes, and no one's waiting is upset
   ring-keeps : (r : Ring) → RingFits r → ((t : TaskSlot) (v : Wake) → taskAt (k .tasks) t .place ≡ Waiting o v → MayWait t (Queue r)) → Nearly (settled (k .tick)) (withObject k o (Queue r))
   ring-keeps r f W =
-      object-nearly k N o (Queue r) low W (λ p e. let z : r ≡ p = cc in subst RingFits z f) (λ t e. absurd (let z : _≡_ {A = ℕ} 0 1 = cc in omega arith))
+      object-nearly k N o (Queue r) low W (a-queue f) (λ t e. absurd (let z : _≡_ {A = ℕ} 0 1 = cc in omega arith))
 
   -- the caller waits
   caller-waits : (w : ℕ) → 0 < w → (k .running .0 ≡ 0 → ⊥) → (0 < k .hold → ⊥) → MayWait (k .running) (Queue q) → Keeps (waitFor k o w)
@@ -172,8 +173,8 @@ module _ (k : State) (S : Sound k) (store : ℕ) (o : ObjSlot) (w : ℕ) where
     queue-keeps : (does : Kind → State) → ((q : Ring) → kindAt (k .objects) o ≡ Queue q → Keeps (does (Queue q))) → Keeps (does (kindAt (k .objects) o))
     unfolding namesNone
     queue-keeps does f =
-        by-kind (kindAt (k .objects) o) (λ x. isQueue x ≡ true → Keeps (does x)) (λ m. absurd (false≢true m)) (λ m. absurd (false≢true m)) (λ q e m. f q e) (λ e m. absurd (false≢true m))
-        (λ t e m. absurd (false≢true m))
+        by-kind (kindAt (k .objects) o) (λ x. isQueue x ≡ true → Keeps (does x)) (λ m. absurd (false≢true m)) (λ m. absurd (false≢true m)) (λ q e m. f q e)
+        (λ s h e m. absurd (false≢true m))
         (on (isQueue (kindAt (k .objects) o)) (P .named))
 
   module _ {l : Bool} (P : Passed k (onObject 13 AQueue o l w) store) where

@@ -81,7 +81,7 @@ module _ {w : Open} (k : State) (N : Nearly w k) (t : TaskSlot) (x : Task) (low 
         tasks = each (λ u y. TaskFits (k .objects) u y) (F .fits) (λ u n. N .tables .tasks u);
         idle-holds = N .tables .idle-holds;
         holders = λ u p h. each (λ v y. Holds (k .objects) v p → isFree (y .place) ≡ false) (E p) (λ v n q. N .tables .holders v p q) u h;
-        queue-range = N .tables .queue-range;
+        ranges = N .tables .ranges;
       }
 
   -- the order, whatever it is, has each once

@@ -1,7 +1,7 @@
 -- Which slots are taken, and which are spent, is changed by create, delete, make and remove alone.
 use Prim.Native.Nat.{ℕ, zero, suc, _+_, _-_}
 use mathlib.Core.Path.{_≡_, refl, sym, ap, _∙_}
-use mathlib.Core.Bool.{Bool, true, false, not, false≢true}
+use mathlib.Core.Bool.{Bool, true, false, false≢true}
 use native.Mathlib.Omega.{arith}
 use mathlib.Core.List.{List, [], _∷_}
 use lib.Dec.{eqb, ltb}
@@ -17,9 +17,9 @@ use Rattle.order.proofs.Passing.{one-number}
 use Rattle.order.specs.Order.{listed}
 use Rattle.slots.specs.Places.{isFree, isListed, waitsOn, wakesAt, outcomeDue}
 use Rattle.slots.specs.Values.{placed, brokenOff, taskAt}
-use Rattle.slots.specs.Kinds.{isUnused, isMutex, kindAt}
-use Rattle.rules.specs.Types.{TaskSlot, ObjSlot, Place, Free, Ready, Delayed, Waiting, Suspended, Spent, Task, Ring, Kind, Unused, SpentObject, Queue, Mutex, By, Object, WaitersOf}
-use Rattle.rules.specs.Types.{Call, Create, Delete, Suspend, Resume, SetPriority, Delay, Yield, Hold, Release, MakeQueue, MakeMutex, Remove, Send, Receive, Take, Give, Tick, Advance, State}
+use Rattle.slots.specs.Kinds.{isUnused, kindAt}
+use Rattle.rules.specs.Types.{TaskSlot, ObjSlot, Place, Free, Ready, Delayed, Waiting, Suspended, Spent, Task, Ring, Holder, Sort, Kind, Unused, SpentObject, Queue, Mutex, Object, WaitersOf}
+use Rattle.rules.specs.Types.{Call, Create, Delete, Suspend, Resume, SetPriority, Delay, Yield, Hold, Release, MakeQueue, MakeMutex, Remove, Send, Receive, Take, Give, Tick, Advance, MakeRecursive, State}
 use Rattle.rules.specs.Tables.{withTask, withObject, withTick, withHold}
 use Rattle.rules.specs.Lines.{begun, first, toTail, leaves}
 use Rattle.rules.specs.Sentences.{Sound}
@@ -28,8 +28,9 @@ use Rattle.rules.specs.Loans.{newPriority, workedOut}
 use Rattle.rules.specs.Ticks.{held, wokenIfDue, wakes, oneTick, turned, ticked, ticks, released, advanced, countedOn}
 use Rattle.rules.specs.Rings.{oneLess}
 use Rattle.rules.specs.Queues.{sentBy, sent, sentTo, refilledBy, received, receivedFrom}
-use Rattle.rules.specs.Effects.{effect, suspended, resumed, yielded, delayed, takenFrom, taken, handedTo, given}
+use Rattle.rules.specs.Effects.{effect, suspended, resumed, yielded, delayed, taken, given}
 use Rattle.rules.proofs.TableSlots.{passes-there, by-kind}
+use Rattle.rules.proofs.MutexCases.{by-take, by-give}
 use Rattle.rules.proofs.TableWithin.{first-meant, first-single, by-outlet}
 use Rattle.rules.proofs.KeepSlot.{at-same, at-other}
 use Rattle.rules.proofs.KeepObject.{kinds, kind-same, kind-other}
@@ -53,7 +54,7 @@ abbrev pub standsAs : Kind → ℕ
 standsAs Unused = 0
 standsAs SpentObject = 2
 standsAs (Queue q) = 1
-standsAs (Mutex h) = 1
+standsAs (Mutex s h) = 1
 
 pub there-stands : (p : Place) → isFree p ≡ false → stands p ≡ 1
 there-stands Free e = absurd (false≢true (sym e))
@@ -75,19 +76,13 @@ pub used-stands : (x : Kind) → isUnused x ≡ false → standsAs x ≡ 1
 used-stands Unused e = absurd (false≢true (sym e))
 used-stands SpentObject e = absurd (false≢true (sym e))
 used-stands (Queue q) e = refl
-used-stands (Mutex h) e = refl
+used-stands (Mutex s h) e = refl
 
 pub stands-used : (x : Kind) → standsAs x ≡ 1 → isUnused x ≡ false
 stands-used Unused e = absurd (omega arith)
 stands-used SpentObject e = absurd (omega arith)
 stands-used (Queue q) e = refl
-stands-used (Mutex h) e = refl
-
-mutex-used : (x : Kind) → not (isMutex x) ≡ false → isUnused x ≡ false
-mutex-used Unused e = absurd (false≢true (sym e))
-mutex-used SpentObject e = absurd (false≢true (sym e))
-mutex-used (Queue q) e = refl
-mutex-used (Mutex h) e = refl
+stands-used (Mutex s h) e = refl
 
 -- what holds of the stored task, and of every task as it was, holds of every task
 pub each-task : (ts : List Task) (u : TaskSlot) (x : Task) (P : TaskSlot → Task → Type 0) → P u x → ((v : TaskSlot) → P v (taskAt ts v)) → (v : TaskSlot) → P v (taskAt (set ts (u .0) x) v)
@@ -246,27 +241,22 @@ module _ (k : State) (S : Sound k) where
         go false (t ∷ l) e = onward (queue-stays _) (arrives-stays (withObject k o (Queue _)) t Ready 1 refl (first-there o t l e))
 
   pub send-stays : (o : ObjSlot) (w : ℕ) → Stays k (sentTo k o (kindAt (k .objects) o) w)
-  send-stays o w = by-kind (kindAt (k .objects) o) (λ x. Stays k (sentTo k o x w)) stays stays (λ q e. sent-stays o q w e) (λ e. stays) (λ h e. stays)
+  send-stays o w = by-kind (kindAt (k .objects) o) (λ x. Stays k (sentTo k o x w)) stays stays (λ q e. sent-stays o q w e) (λ s h e. stays)
 
   pub receive-stays : (o : ObjSlot) (w : ℕ) → Stays k (receivedFrom k o (kindAt (k .objects) o) w)
-  receive-stays o w = by-kind (kindAt (k .objects) o) (λ x. Stays k (receivedFrom k o x w)) stays stays (λ q e. received-stays o q w e) (λ e. stays) (λ h e. stays)
+  receive-stays o w = by-kind (kindAt (k .objects) o) (λ x. Stays k (receivedFrom k o x w)) stays stays (λ q e. received-stays o q w e) (λ s h e. stays)
+
+  -- a mutex stays a mutex
+  mutex-stays : (o : ObjSlot) {s : Sort} {h : Holder} (j : State) (m : Sort) (i : Holder) → kindAt (k .objects) o ≡ Mutex s h → Stays k j → Stays k (withObject j o (Mutex m i))
+  mutex-stays o j m i e t = onward t (object-stays j o (Mutex m i) (sym (t .objects o ∙ ap standsAs e)))
 
   pub take-stays : (o : ObjSlot) (w : ℕ) → Stays k (taken k o w)
-  unfolding taken
-  take-stays o w =
-      by-kind (kindAt (k .objects) o) (λ x. Stays k (takenFrom k o x w)) stays stays (λ q e. stays) (λ e. object-stays k o (Mutex (By (k .running))) (sym (ap standsAs e)))
-      (λ h e. wait-stays k o w caller-there)
+  take-stays o w = by-take k o (Stays k) w (λ m. stays) (λ s e. mutex-stays o k _ _ e stays) (λ s e. mutex-stays o k _ _ e stays) (λ s h e d. wait-stays k o w caller-there)
 
-  pub give-stays : (o : ObjSlot) → isUnused (kindAt (k .objects) o) ≡ false → Stays k (given k o)
-  unfolding given
-  give-stays o e = go (first k (WaitersOf o)) refl
-    where
-      mutex-stays : (j : State) (x : Kind) → Stays k j → standsAs x ≡ 1 → Stays k (withObject j o x)
-      mutex-stays j x s u = onward s (object-stays j o x (u ∙ sym (s .objects o ∙ used-stands (kindAt (k .objects) o) e)))
-
-      go : (l : List TaskSlot) → first k (WaitersOf o) ≡ l → Stays k (handedTo k o l)
-      go [] q = mutex-stays k _ stays refl
-      go (t ∷ l) q = mutex-stays (arrives k t Ready 1) _ (arrives-stays k t Ready 1 refl (first-there o t l q)) refl
+  pub give-stays : (o : ObjSlot) → Stays k (given k o)
+  give-stays o =
+      by-give k o (Stays k) (λ m. stays) (λ s h e m. mutex-stays o k _ _ e stays) (λ s h e m q. mutex-stays o k _ _ e stays)
+      (λ s h e m t l q. mutex-stays o (arrives k t Ready 1) _ _ e (arrives-stays k t Ready 1 refl (first-there o t l q)))
 
 -- ── every call
 -- the calls that take a slot or give one up
@@ -289,6 +279,7 @@ changesSlots (Take o w) = false
 changesSlots (Give o) = false
 changesSlots Tick = false
 changesSlots (Advance n) = false
+changesSlots MakeRecursive = true
 
 pub effect-stays : (k : State) → Sound k → (n : ℕ) (c : Call) → changesSlots c ≡ false → Passed k (asked (k .uses) c) n → Stays k (effect k (asked (k .uses) c))
 unfolding effect asked namesNone resumed newPriority held
@@ -307,9 +298,10 @@ effect-stays k S n (Remove o) x P = absurd (false≢true (sym x))
 effect-stays k S n (Send o w) x P = send-stays k S (objSlot (k .uses) o) w
 effect-stays k S n (Receive o w) x P = receive-stays k S (objSlot (k .uses) o) w
 effect-stays k S n (Take o w) x P = take-stays k S (objSlot (k .uses) o) w
-effect-stays k S n (Give o) x P = give-stays k S (objSlot (k .uses) o) (mutex-used (kindAt (k .objects) (objSlot (k .uses) o)) (P .named))
+effect-stays k S n (Give o) x P = give-stays k S (objSlot (k .uses) o)
 effect-stays k S n Tick x P = ticked-stays k
 effect-stays k S n (Advance d) x P = advanced-stays k d
+effect-stays k S n MakeRecursive x P = absurd (false≢true (sym x))
 
 -- the effective priorities worked out, too
 pub after-stays : (k : State) → Sound k → (n : ℕ) (c : Call) → changesSlots c ≡ false → Passed k (asked (k .uses) c) n → Stays k (after k (asked (k .uses) c))

@@ -29,7 +29,7 @@ use Rattle.rules.proofs.KeepNearly.{settled, TaskFine, Nearly, unblocke
 use Rattle.rules.proofs.KeepSlot.{like-before, tail-nearly, tail-listed, leave-nearly, leave-listed, stay-nearly, moved-nearly}
 use Rattle.rules.proofs.KeepChosen.{sound-nearly}
 use Rattle.rules.proofs.KeepHeads.{runs-tail, runs-leave, runs-stay}
-use Rattle.rules.proofs.KeepBlocks.{to-ready, to-wait, arrives-nearly, arrives-runs, ranked-fine}
+use Rattle.rules.proofs.KeepBlocks.{to-ready, to-wait, arrives-nearly, arrives-runs, ranked-fine, Same, arrives-same}
 use Rattle.rules.proofs.Keeps.{Keeps, there-low, ready-low, apart, index-most, index-passes}
 
 -- a wake tick that many ticks ahead is none of now
@@ -287,3 +287,23 @@ module _ (k : State) (S : Sound k) (store : ℕ) where
               nearly = arrives-nearly k N (k .running) caller-low (to-wait refl not-idle-now (λ o v q. absurd (let z : _≡_ {A = ℕ} 0 1 = cc in omega arith)) a);
               runs = λ h. absurd (no-hold-now h);
             }
+
+-- ── what suspend and delay leave as it was
+same : {k : State} → Same k k
+same = record { tick = refl; hold = refl; pended = refl; running = refl; objects = refl; uses = refl }
+
+pub suspended-same : (k : State) (t : TaskSlot) → Same (suspended k t) k
+unfolding suspended leaves
+suspended-same k t = go (isListed (taskAt (k .tasks) t .place))
+  where
+    go : (b : Bool) → Same (if b then leaves (withTask k t (brokenOff (taskAt (k .tasks) t))) t else k) k
+    go true = record { tick = refl; hold = refl; pended = refl; running = refl; objects = refl; uses = refl }
+    go false = same
+
+pub delayed-same : (k : State) (n : ℕ) → Same (delayed k n) k
+unfolding delayed yielded toTail
+delayed-same k n = go (eqb n 0)
+  where
+    go : (b : Bool) → Same (if b then yielded k else arrives k (k .running) (Delayed (later (k .tick) n)) 0) k
+    go true = record { tick = refl; hold = refl; pended = refl; running = refl; objects = refl; uses = refl }
+    go false = arrives-same k (k .running) (Delayed (later (k .tick) n)) 0

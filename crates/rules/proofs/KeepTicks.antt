@@ -34,7 +34,7 @@ use Rattle.rules.specs.Effects.{effect}
 use Rattle.rules.proofs.TableSlots.{passes-there}
 use Rattle.rules.proofs.RowPasses.{Passed, advance-free}
 use Rattle.rules.proofs.SoundUses.{uses-say, fresh-fine}
-use Rattle.rules.proofs.TickJumps.{turned-only, turn-only, only-reckoned, only-circles}
+use Rattle.rules.proofs.TickJumps.{OnlyTurned, turned-only, turn-only, only-reckoned, only-circles}
 use Rattle.rules.proofs.KeepNearly.{Open, settled, Nearly, RunsIn}
 use Rattle.rules.proofs.LoanRule.{ruled-less}
 use Rattle.rules.proofs.CircleRule.{nobody-for-nobody, loosened}
@@ -266,42 +266,68 @@ ticks-circles b (suc n) k l C =
     let o = turn-only b (oneTick j) in
     (ap length (o .tasks) ∙ tick-many j ∙ N .0, only-circles o (tick-circles j (N .0) (N .1)))
 
--- ── what they leave, too: the hold, who runs, and who was ready
+-- ── what they leave, too: the hold, the objects, who runs, and who was ready
 pub record After (k j : State) : Type 0 where
+  pub objects : j .objects ≡ k .objects
   pub hold : j .hold ≡ k .hold
   pub running : j .running ≡ k .running
   pub ready : (t : TaskSlot) → taskAt (k .tasks) t .place ≡ Ready → taskAt (j .tasks) t .place ≡ Ready
 
 after-trans : {k j i : State} → After k j → After j i → After k i
-after-trans a b = record { hold = b .hold ∙ a .hold; running = b .running ∙ a .running; ready = λ t e. b .ready t (a .ready t e) }
+after-trans a b = record { objects = b .objects ∙ a .objects; hold = b .hold ∙ a .hold; running = b .running ∙ a .running; ready = λ t e. b .ready t (a .ready t e) }
 
 woken-after : (j : State) (u : TaskSlot) → After j (wokenIfDue j u)
 unfolding wokenIfDue arrives toTail
 woken-after j u = go (wakesAt (j .tick) (taskAt (j .tasks) u .place)) refl
   where
     go : (b : Bool) → wakesAt (j .tick) (taskAt (j .tasks) u .place) ≡ b → After j (if b then arrives j u Ready (outcomeDue (taskAt (j .tasks) u .place)) else j)
-    go true e = record { hold = refl; running = refl; ready = λ t q. ap (λ (x : Task). x .place) (at-other (j .tasks) u _ t (other t q)) ∙ q }
+    go true e = record { objects = refl; hold = refl; running = refl; ready = λ t q. ap (λ (x : Task). x .place) (at-other (j .tasks) u _ t (other t q)) ∙ q }
       where
         other : (t : TaskSlot) → taskAt (j .tasks) t .place ≡ Ready → t .0 ≡ u .0 → ⊥
         other t q z = false≢true (sym (ap (wakesAt (j .tick)) (sym (ap (λ v. taskAt (j .tasks) v .place) (one-number t u z)) ∙ q)) ∙ e)
-    go false e = record { hold = refl; running = refl; ready = λ t q. q }
+    go false e = record { objects = refl; hold = refl; running = refl; ready = λ t q. q }
 
 all-after : (l : List TaskSlot) (k : State) → After k (foldl wokenIfDue k l)
 unfolding foldl
-all-after [] k = record { hold = refl; running = refl; ready = λ t e. e }
+all-after [] k = record { objects = refl; hold = refl; running = refl; ready = λ t e. e }
 all-after (u ∷ l) k = after-trans (woken-after k u) (all-after l (wokenIfDue k u))
 
 count-after : (k : State) → After k (countedOn k)
 unfolding countedOn wakes
-count-after k = let A = all-after (begun (k .tasks) (listed (k .order))) (withTick k (later (k .tick) 1)) in record { hold = A .hold; running = A .running; ready = A .ready }
+count-after k = let A = all-after (begun (k .tasks) (listed (k .order))) (withTick k (later (k .tick) 1)) in record { objects = A .objects; hold = A .hold; running = A .running; ready = A .ready }
 
 -- and so does working out the effective priorities
 worked-after : (k : State) → After k (workedOut k)
-worked-after k = record { hold = worked-same k .hold; running = worked-same k .running; ready = λ t e. worked-place k t ∙ e }
+worked-after k = record { objects = worked-same k .objects; hold = worked-same k .hold; running = worked-same k .running; ready = λ t e. worked-place k t ∙ e }
 
 pub tick-after : (k : State) → After k (oneTick k)
 unfolding oneTick
 tick-after k = after-trans (count-after k) (worked-after (countedOn k))
+
+-- any number of ticks, with their turns or without, and the call of one: the objects and the hold stay
+pub record Aside (k j : State) : Type 0 where
+  pub objects : j .objects ≡ k .objects
+  pub hold : j .hold ≡ k .hold
+
+turned-aside : {k j : State} → After k j → (i : State) → OnlyTurned j i → Aside k i
+turned-aside a i o = record { objects = o .objects ∙ a .objects; hold = o .hold ∙ a .hold }
+
+pub ticks-aside : (turns : Bool) (n : ℕ) (k : State) → Aside k (ticks turns n k)
+unfolding ticks upTo
+ticks-aside turns zero k = record { objects = refl; hold = refl }
+ticks-aside turns (suc n) k =
+    let j = ticks turns n k in
+    let A = turned-aside (tick-after j) _ (turn-only turns (oneTick j)) in
+    let B = ticks-aside turns n k in
+    record { objects = A .objects ∙ B .objects; hold = A .hold ∙ B .hold }
+
+pub ticked-aside : (k : State) → Aside k (ticked k)
+unfolding ticked
+ticked-aside k = go (ltb 0 (k .hold))
+  where
+    go : (b : Bool) → Aside k (if b then withHold k (k .hold) (k .pended + 1) else turned (oneTick k))
+    go true = record { objects = refl; hold = refl }
+    go false = turned-aside (tick-after k) _ (turned-only (oneTick k))
 
 -- ── one tick's count and wakes, and the effective priorities worked out
 pub record Ticked (k j : State) : Type 0 where
@@ -415,7 +441,8 @@ pub tick-unheld : (k : State) → Unheld k → Unheld (turnedIf true (oneTick k)
 tick-unheld k U = turned-unheld k (oneTick k) U (one-tick k (unheld-nearly k U)) (tick-circles k (U .sound .tables .task-slots) (U .sound .circles))
 
 pub turn-unheld : (k : State) → Unheld k → Unheld (turnedIf true k)
-turn-unheld k U = turned-unheld k k U (record { nearly = unheld-nearly k U; reckoned = sound-reckoned (withUses k freshUses) (U .sound); after = record { hold = refl; running = refl; ready = λ t e. e } }) (U .sound .circles)
+turn-unheld k U =
+    turned-unheld k k U (record { nearly = unheld-nearly k U; reckoned = sound-reckoned (withUses k freshUses) (U .sound); after = record { objects = refl; hold = refl; running = refl; ready = λ t e. e } }) (U .sound .circles)
 
 pub ticks-unheld : (n : ℕ) (k : State) → Unheld k → Unheld (ticks true n k)
 unfolding ticks upTo

@@ -71,7 +71,7 @@ wait-free k a e w h =
     false≢true (sym (or-off (waits a) _ (or-off (is 18 a) _ (or-off (is 7 a) _ (or-off (is 6 a) _ f .1) .1) .1) .0) ∙ w)
 
 -- where the caller would have to wait, the wait is not 0
-pub must-wait : (k : State) (a : Asked) → mustWait (seen k a) a ≡ false → stopsAt a (kindAt (k .objects) (a .object)) ≡ true → waits a ≡ true
+pub must-wait : (k : State) (a : Asked) → mustWait (seen k a) a ≡ false → stopsAt a (k .running) (kindAt (k .objects) (a .object)) ≡ true → waits a ≡ true
 unfolding mustWait
 must-wait k a e s = go (waits a) (rw s at e)
   where

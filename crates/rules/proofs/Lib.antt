@@ -1,5 +1,6 @@
 pub mod TableSlots
 pub mod TableHolds
+pub mod MutexCases
 pub mod LineLeads
 pub mod LineHeights
 pub mod LineTurns

@@ -10,13 +10,13 @@ use borrow.Author.Tests.{ltb-true, ltb-false}
 use Rattle.numbers.specs.Numbers.{task}
 use Rattle.chains.specs.Chains.{Along, here, link}
 use Rattle.chains.proofs.Lending.{level-least, level-one, levels-sixteen, levels-same}
-use Rattle.slots.specs.Kinds.{kindAt, holderOf}
+use Rattle.slots.specs.Kinds.{kindAt, hands, byWhom, holderOf}
 use Rattle.slots.specs.Values.{taskAt}
-use Rattle.rules.specs.Types.{TaskSlot, ObjSlot, Wake, Place, Free, Ready, Delayed, Waiting, Suspended, Spent, Task, By, Mutex, Object}
+use Rattle.rules.specs.Types.{TaskSlot, ObjSlot, Wake, Place, Free, Ready, Delayed, Waiting, Suspended, Spent, Task, Holder, Nobody, By, Object}
 use Rattle.rules.specs.Lines.{level}
 use Rattle.rules.specs.Loans.{forWhom, waitsFor, ruled, Reckoned}
 use Rattle.rules.specs.Sentences.{Holds, HoldsNothing, Reaches, itself, along, LargestOwn, Levels}
-use Rattle.rules.proofs.TableSlots.{past-tasks, by-kind}
+use Rattle.rules.proofs.TableSlots.{past-tasks}
 
 module _ (ts : List Task) (os : List Object) where
   abbrev pub ownOf : ℕ → ℕ
@@ -33,7 +33,11 @@ module _ (ts : List Task) (os : List Object) where
   -- and everyone else for nobody
   by-kind-waited : (s : TaskSlot) (o : ObjSlot) (w : Wake) (P : Type 0) → taskAt ts s .place ≡ Waiting o w → (holderOf (kindAt os o) ≡ task 16 → P)
       → ((h : TaskSlot) → Holds os h o → P) → P
-  by-kind-waited s o w P e none some = by-kind (kindAt os o) (λ x. (holderOf x ≡ task 16 → P) → P) (λ f. f refl) (λ f. f refl) (λ q e f. f refl) (λ e f. f refl) (λ h e f. some h e) none
+  by-kind-waited s o w P e none some = go (hands (kindAt os o)) refl
+    where
+      go : (x : Holder) → hands (kindAt os o) ≡ x → P
+      go Nobody q = none (ap byWhom q)
+      go (By h) q = some h q
 
   pub by-link : (s : TaskSlot) (P : Type 0) → (waitsFor ts os s ≡ task 16 → P) → ((o : ObjSlot) (w : Wake) (h : TaskSlot) → taskAt ts s .place ≡ Waiting o w → Holds os h o → P) → P
   by-link s P none some = go (taskAt ts s .place) refl
@@ -49,7 +53,7 @@ module _ (ts : List Task) (os : List Object) where
   -- ── a task that holds nothing is reached by itself alone
   pub reached-alone : {s t : TaskSlot} → HoldsNothing os t → Reaches ts os s t → s ≡ t
   reached-alone f itself = refl
-  reached-alone {s} {t} f (along {h = h} o w p q r) = let e : h ≡ t = reached-alone f r in absurd (f o (q ∙ ap (λ v. Mutex (By v)) e))
+  reached-alone {s} {t} f (along {h = h} o w p q r) = let e : h ≡ t = reached-alone f r in absurd (f o (q ∙ ap By e))
 
   module _ (full : length ts ≡ 16) where
     pub links-past : (s : ℕ) → 16 ≤ s → 16 ≤ nextOf s

@@ -10,10 +10,10 @@ use borrow.Author.Tests.{eqb-true, eqb-false}
 use Rattle.lists.specs.Choice.{if_then_else_}
 use Rattle.numbers.specs.Numbers.{task, object}
 use Rattle.slots.specs.Places.{waitsOn, isWaiting, isSuspended, isFree, wakesAt, outcomeDue}
-use Rattle.slots.specs.Kinds.{kindAt, holderOf, isHeld}
+use Rattle.slots.specs.Kinds.{kindAt, isTaken, hands, byWhom, holderOf, isHeld}
 use Rattle.slots.specs.Values.{placed, taskAt, readyAt}
-use Rattle.rules.specs.Types.{Call, Create, Delete, Suspend, Resume, SetPriority, Delay, Yield, Hold, Release, MakeQueue, MakeMutex, Remove, Send, Receive, Take, Give, Tick, Advance}
-use Rattle.rules.specs.Types.{TaskSlot, ObjSlot, Place, Free, Ready, Delayed, Waiting, Suspended, Spent, Task, Ring, Kind, Queue, Object, WaitersOf, State, Mutex, By, Wake, Unused, SpentObject, Nobody}
+use Rattle.rules.specs.Types.{Call, Create, Delete, Suspend, Resume, SetPriority, Delay, Yield, Hold, Release, MakeQueue, MakeMutex, Remove, Send, Receive, Take, Give, Tick, Advance, MakeRecursive}
+use Rattle.rules.specs.Types.{TaskSlot, ObjSlot, Place, Free, Ready, Delayed, Waiting, Suspended, Spent, Task, Ring, Kind, Queue, Object, WaitersOf, State, Holder, Nobody, By, Wake, Unused, SpentObject}
 use Rattle.rules.specs.Tables.{withObject, withHold, freeSlot, freeObject}
 use Rattle.rules.specs.Lines.{level, first, toTail}
 use Rattle.rules.specs.Loans.{forWhom, waitsFor, Reckoned, ruled}
@@ -182,10 +182,10 @@ module _ (k : State) (S : Sound k) where
             waits-still Spent z = refl
 
   pub send-reckoned : (o : ObjSlot) (w : ℕ) → let j = sentTo k o (kindAt (k .objects) o) w in Reckoned (j .tasks) (j .objects)
-  send-reckoned o w = by-kind (kindAt (k .objects) o) (λ x. Reckoned (sentTo k o x w .tasks) (sentTo k o x w .objects)) R R (λ q e. sent-reckoned o q w e) (λ e. R) (λ h e. R)
+  send-reckoned o w = by-kind (kindAt (k .objects) o) (λ x. Reckoned (sentTo k o x w .tasks) (sentTo k o x w .objects)) R R (λ q e. sent-reckoned o q w e) (λ s h e. R)
 
   pub receive-reckoned : (o : ObjSlot) (w : ℕ) → let j = receivedFrom k o (kindAt (k .objects) o) w in Reckoned (j .tasks) (j .objects)
-  receive-reckoned o w = by-kind (kindAt (k .objects) o) (λ x. Reckoned (receivedFrom k o x w .tasks) (receivedFrom k o x w .objects)) R R (λ q e. received-reckoned o q w e) (λ e. R) (λ h e. R)
+  receive-reckoned o w = by-kind (kindAt (k .objects) o) (λ x. Reckoned (receivedFrom k o x w .tasks) (receivedFrom k o x w .objects)) R R (λ q e. received-reckoned o q w e) (λ s h e. R)
 
   -- ── 9: release; 17: tick; 18: advance. They end with the effective priorities worked out
   pub ticked-reckoned : Reckoned (ticked k .tasks) (ticked k .objects)
@@ -221,16 +221,13 @@ module _ (k : State) (S : Sound k) where
       go Suspended q = refl
       go Spent q = refl
 
-  -- ── 10, 11: make; 12: remove. Nobody holds the object, before or after
-  unheld : (x : Kind) → isHeld x ≡ false → holderOf x ≡ task 16
-  unheld Unused e = refl
-  unheld SpentObject e = refl
-  unheld (Queue q) e = refl
-  unheld (Mutex Nobody) e = refl
-  unheld (Mutex (By t)) e = absurd (false≢true (sym e))
+  -- ── 10, 11, 19: make; 12: remove. Nobody holds the object, before or after
+  unheld : (h : Holder) → isTaken h ≡ false → byWhom h ≡ task 16
+  unheld Nobody e = refl
+  unheld (By t) e = absurd (false≢true (sym e))
 
   pub made-reckoned : (o : ObjSlot) (y : Kind) → isHeld y ≡ false → isHeld (kindAt (k .objects) o) ≡ false → Reckoned (k .tasks) (kinds (k .objects) o y)
-  made-reckoned o y a b = object-reckoned k R o y (unheld y a ∙ sym (unheld (kindAt (k .objects) o) b))
+  made-reckoned o y a b = object-reckoned k R o y (unheld (hands y) a ∙ sym (unheld (hands (kindAt (k .objects) o)) b))
 
   -- ── 1: create. The new task holds nothing and waits for nobody
   module _ (n p : ℕ) (P : Passed k (nothing 1 p 0 1 0) n) where
@@ -338,3 +335,4 @@ settles k S n (Take o w) P e = absurd (false≢true (sym e))
 settles k S n (Give o) P e = absurd (false≢true (sym e))
 settles k S n Tick P e = ticked-reckoned k S
 settles k S n (Advance d) P e = advanced-reckoned k S d
+settles k S n MakeRecursive P e = made-reckoned k S (object (freeObject (k .objects))) _ refl (ap isHeld (free-kind k S n (free-low k S n (P .slot))))

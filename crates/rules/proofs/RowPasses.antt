@@ -10,12 +10,12 @@ use borrow.Author.Tests.{eqb-true, eqb-false, ltb-false, lt-ltb, not-false}
 use Rattle.lists.specs.Choice.{if_then_else_}
 use Rattle.lists.specs.Lists.{every}
 use Rattle.lists.proofs.Bools.{and-left, and-right, or-off, off, at}
-use Rattle.rules.specs.Types.{Ring, Kind, Queue, Asked, State}
-use Rattle.slots.specs.Kinds.{kindAt}
+use Rattle.rules.specs.Types.{TaskSlot, Ring, Holder, Sort, Ordinary, Recursive, Kind, Queue, Mutex, Asked, State}
+use Rattle.slots.specs.Kinds.{countOf, isBy, kindAt}
 use Rattle.rows.specs.Applies.{notSoMany, outOfRange, namesNone, sizeDiffers, wrongSize, notForIdle, notWithHold, noneFree}
 use Rattle.rules.specs.Circles.{closesCircle}
 use Rattle.rules.specs.Refusals.{seen, inUse}
-use Rattle.rows.specs.Applies.{notHis, hisAlready, notSuspended, mustWait, noDepth, noTick, Row, firstRow, table}
+use Rattle.rows.specs.Applies.{notHis, hisAlready, takesFull, countFull, notSuspended, mustWait, noDepth, noTick, Row, firstRow, table}
 use Rattle.rules.specs.Refusals.{laterRow}
 
 pub record Passed (k : State) (a : Asked) (store : ℕ) : Type 0 where
@@ -27,7 +27,8 @@ pub record Passed (k : State) (a : Asked) (store : ℕ) : Type 0 where
   pub slot : noneFree (seen k a) ≡ false
   pub unused : inUse k a ≡ false
   pub his : notHis (seen k a) a ≡ false
-  pub another : hisAlready (seen k a) a ≡ false
+  pub not-twice : hisAlready (seen k a) a ≡ false
+  pub not-full : countFull (seen k a) a ≡ false
   pub suspended : notSuspended (seen k a) a ≡ false
   pub no-circle : closesCircle k a ≡ false
   pub may-wait : mustWait (seen k a) a ≡ false
@@ -95,12 +96,13 @@ passed k a item store e =
       slot = off _ (at _ none 6);
       unused = off _ (at _ none 7);
       his = off _ (at _ none 8);
-      another = off _ (at _ none 9);
-      suspended = off _ (at _ none 10);
-      no-circle = off _ (at _ none 11);
-      may-wait = off _ (at _ none 12);
-      deep = off _ (at _ none 13);
-      ticks = off _ (at _ none 14);
+      not-twice = off _ (at _ none 9);
+      not-full = off _ (at _ none 10);
+      suspended = off _ (at _ none 11);
+      no-circle = off _ (at _ none 12);
+      may-wait = off _ (at _ none 13);
+      deep = off _ (at _ none 14);
+      ticks = off _ (at _ none 15);
     }
 
 -- row 6 has the item's length
@@ -111,19 +113,19 @@ right-size k a item store e = off _ (at _ (none-apply k a item store e) 3)
 -- row 17 is given: it applies, and two of the rows before it, which do not
 pub record CircleGiven (k : State) (a : Asked) : Type 0 where
   pub idle : notForIdle (seen k a) a ≡ false
-  pub another : hisAlready (seen k a) a ≡ false
+  pub not-twice : hisAlready (seen k a) a ≡ false
   pub circle : closesCircle k a ≡ true
 
 none-before : (k : State) (a : Asked) (item store : ℕ) → laterRow k a item store ≡ 17
-    → (rowsOff (take 11 (table (seen k a) a item store)) ≡ true) × (firstRow (drop 11 (table (seen k a) a item store)) ≡ 17)
+    → (rowsOff (take 12 (table (seen k a) a item store)) ≡ true) × (firstRow (drop 12 (table (seen k a) a item store)) ≡ 17)
 unfolding laterRow table differ every
-none-before k a item store e = let rows = table (seen k a) a item store in rows-off (take 11 rows) (drop 11 rows) 17 refl e
+none-before k a item store e = let rows = table (seen k a) a item store in rows-off (take 12 rows) (drop 12 rows) 17 refl e
 
 pub circle-given : (k : State) (a : Asked) (item store : ℕ) → laterRow k a item store ≡ 17 → CircleGiven k a
 unfolding table rowsOff
 circle-given k a item store e =
     let E = none-before k a item store e in
-    record { idle = off _ (at _ (E .0) 4); another = off _ (at _ (E .0) 9); circle = go (closesCircle k a) (mustWait (seen k a) a) (noDepth (seen k a) a) (noTick (seen k a) a) (E .1) }
+    record { idle = off _ (at _ (E .0) 4); not-twice = off _ (at _ (E .0) 9); circle = go (closesCircle k a) (mustWait (seen k a) a) (noDepth (seen k a) a) (noTick (seen k a) a) (E .1) }
   where
     go : (b c d e : Bool) → _≡_ {A = ℕ} (if b then 17 else if c then 14 else if d then 15 else if e then 16 else 0) 17 → b ≡ true
     go true c d e z = refl
@@ -138,6 +140,15 @@ send-sized k a item store e h = rw e at (right-size k a item store h)
 
 pub sized : {x : Kind} {q : Ring} (n : ℕ) → x ≡ Queue q → sizeDiffers n x ≡ false → n ≡ q .size
 sized {q = q} n e h = eqb-true n (q .size) (not-false (eqb n (q .size)) (rw e at h))
+
+-- row 18, at a take: the count may go up by one
+pub take-fits : (k : State) (a : Asked) → a .number ≡ 15 → countFull (seen k a) a ≡ false → takesFull (k .running) (kindAt (k .objects) (a .object)) ≡ false
+unfolding countFull
+take-fits k a e h = rw e at h
+
+pub count-fits : (t : TaskSlot) (s : Sort) (h : Holder) → isBy t h ≡ true → takesFull t (Mutex s h) ≡ false → countOf s ≤ 255 → countOf s < 255
+count-fits t Ordinary h e f l = omega arith
+count-fits t (Recursive n) h e f l = below-255 n l (rw e at f)
 
 -- rows 15 and 16, at their calls
 pub hold-fits : (k : State) (a : Asked) → a .number ≡ 8 → noDepth (seen k a) a ≡ false → eqb (k .hold) 255 ≡ false

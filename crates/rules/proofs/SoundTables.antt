@@ -1,8 +1,9 @@
 -- Of the tables the test is true exactly if every sentence holds.
 use Prim.Native.Nat.{ℕ, _*_}
-use mathlib.Core.Path.{_≡_, refl}
+use mathlib.Core.Path.{_≡_, refl, sym, ap, _∙_, subst}
 use mathlib.Core.Bool.{Bool, true, false, not, _&&_, _||_, false≢true}
 use mathlib.Core.List.{List}
+use native.Mathlib.Omega.{arith}
 use lib.Dec.{eqb, ltb, leb}
 use lib.ListN.{length}
 use borrow.Author.Tests.{eqb-true, eqb-false, eq-eqb, ne-eqb, ltb-true, lt-ltb, leb-true, le-leb}
@@ -10,12 +11,12 @@ use Rattle.lists.proofs.Bools.{and-left, and-right, and-intro, or-left, or-righ
 use Rattle.numbers.specs.Numbers.{task, object, idle, sameTask}
 use Rattle.slots.specs.Places.{isFree, isReady, isBlocked}
 use Rattle.slots.specs.Values.{taskAt}
-use Rattle.slots.specs.Kinds.{kindAt}
-use Rattle.slots.specs.SoundSlots.{idleFine, mayWait, waitsFine, holderThere, ringFine, ringInRange, outcomeFine, freshIfFree}
-use Rattle.rules.specs.Types.{TaskSlot, ObjSlot, Place, Free, Ready, Delayed, Waiting, Suspended, Spent, Task, Ring, Nobody, By, Kind, Unused, SpentObject, Queue, Mutex, Object}
+use Rattle.slots.specs.Kinds.{isUnused, hands, kindAt}
+use Rattle.slots.specs.SoundSlots.{idleFine, mayWait, waitsFine, holderThere, ringFine, kindInRange, outcomeFine, freshIfFree}
+use Rattle.rules.specs.Types.{TaskSlot, ObjSlot, Place, Free, Ready, Delayed, Waiting, Suspended, Spent, Task, Ring, Holder, Nobody, By, Ordinary, Recursive, Kind, Unused, SpentObject, Queue, Mutex, Object}
 use Rattle.rules.specs.Tables.{holds}
-use Rattle.rules.specs.Sound.{slotTask, sixteen, waitersFine, holdersThere, ringsInRange, outcomesFine, freshSlots, tablesFine}
-use Rattle.rules.specs.Sentences.{MayWait, receiver, sender, taker, RingFits, TaskFits, Tables}
+use Rattle.rules.specs.Sound.{slotTask, sixteen, waitersFine, holdersThere, kindsInRange, outcomesFine, freshSlots, tablesFine}
+use Rattle.rules.specs.Sentences.{MayWait, receiver, sender, taker, RingFits, KindFits, vacant, a-queue, an-ordinary, free-recursive, held-recursive, TaskFits, Tables}
 use Rattle.rules.proofs.TableSlots.{any-task, any-kind, is-ready}
 use Rattle.rules.proofs.TableHolds.{none-holds, not-held}
 
@@ -26,7 +27,7 @@ pub record TablesTested (ts : List Task) (os : List Object) : Type 0 where
   pub waits : waitersFine ts os ≡ true
   pub idle-holds : not (holds os idle) ≡ true
   pub holders : holdersThere ts os ≡ true
-  pub rings : ringsInRange os ≡ true
+  pub ranges : kindsInRange os ≡ true
   pub outcomes : outcomesFine ts ≡ true
   pub fresh : freshSlots ts ≡ true
 
@@ -39,7 +40,7 @@ tables-tested ts os e =
       waits = at _ e 2;
       idle-holds = at _ e 3;
       holders = at _ e 4;
-      rings = at _ e 5;
+      ranges = at _ e 5;
       outcomes = at _ e 6;
       fresh = at _ e 7;
     }
@@ -48,7 +49,7 @@ pub tested-tables : (ts : List Task) (os : List Object) → TablesTested ts os �
 unfolding tablesFine
 tested-tables ts os T =
     also _ _ (T .slots) (also _ _ (T .as-idle) (also _ _ (T .waits) (also _ _ (T .idle-holds)
-    (also _ _ (T .holders) (also _ _ (T .rings) (also _ _ (T .outcomes) (also _ _ (T .fresh) none)))))))
+    (also _ _ (T .holders) (also _ _ (T .ranges) (also _ _ (T .outcomes) (also _ _ (T .fresh) none)))))))
 
 -- ── tests and propositions on one value
 may-wait : (t : TaskSlot) (x : Kind) → mayWait t x ≡ true → MayWait t x
@@ -59,8 +60,8 @@ may-wait t (Queue q) e = go (eqb (q .count) 0) refl e
     go : (b : Bool) → eqb (q .count) 0 ≡ b → b || eqb (q .count) (q .capacity) ≡ true → MayWait t (Queue q)
     go true f g = receiver (eqb-true (q .count) 0 f)
     go false f g = sender (eqb-true (q .count) (q .capacity) g)
-may-wait t (Mutex Nobody) e = absurd (false≢true e)
-may-wait t (Mutex (By u)) e = taker (eqb-false (u .0) (t .0) (off (sameTask u t) e))
+may-wait t (Mutex s Nobody) e = absurd (false≢true e)
+may-wait t (Mutex s (By u)) e = taker (eqb-false (u .0) (t .0) (off (sameTask u t) e))
 
 waits-may : {t : TaskSlot} {x : Kind} → MayWait t x → mayWait t x ≡ true
 waits-may (receiver {q = q} e) = or-left (eqb (q .count) 0) (eqb (q .count) (q .capacity)) (eq-eqb (q .count) 0 e)
@@ -87,6 +88,35 @@ fits-ring q r =
     and-intro _ _ (and-intro _ _ (le-leb 1 (q .capacity) (r .some)) (le-leb (q .capacity) 64 (r .few)))
     (and-intro _ _ (and-intro _ _ (le-leb (q .size) 64 (r .small)) (le-leb (q .capacity * q .size) 512 (r .whole)))
     (and-intro _ _ (lt-ltb (q .first) (q .capacity) (r .starts)) (le-leb (q .count) (q .capacity) (r .counts))))
+
+kind-fits : (x : Kind) → kindInRange x ≡ true → KindFits x
+kind-fits Unused e = vacant refl
+kind-fits SpentObject e = vacant refl
+kind-fits (Queue q) e = a-queue (ring-fits q e)
+kind-fits (Mutex Ordinary h) e = an-ordinary
+kind-fits (Mutex (Recursive n) Nobody) e = free-recursive (eqb-true n 0 e)
+kind-fits (Mutex (Recursive n) (By t)) e = held-recursive (leb-true 1 n (and-left (leb 1 n) _ e)) (leb-true n 255 (and-right (leb 1 n) _ e))
+
+fits-kind : {x : Kind} → KindFits x → kindInRange x ≡ true
+fits-kind {x} (vacant e) = go x e
+  where
+    go : (y : Kind) → isUnused y ≡ true → kindInRange y ≡ true
+    go Unused f = refl
+    go SpentObject f = refl
+    go (Queue q) f = absurd (false≢true f)
+    go (Mutex s h) f = absurd (false≢true f)
+fits-kind (a-queue {q = q} r) = fits-ring q r
+fits-kind an-ordinary = refl
+fits-kind (free-recursive {n = n} e) = eq-eqb n 0 e
+fits-kind (held-recursive {n = n} a b) = and-intro _ _ (le-leb 1 n a) (le-leb n 255 b)
+
+-- a queue's ring
+pub ring-of : (x : Kind) {q : Ring} → KindFits x → x ≡ Queue q → RingFits q
+ring-of x (vacant e) f = absurd (false≢true (sym (ap isUnused f) ∙ e))
+ring-of (Queue p) {q} (a-queue r) f = let z : p ≡ q = cc in subst RingFits z r
+ring-of x an-ordinary f = absurd (let z : _≡_ {A = ℕ} 0 1 = cc in omega arith)
+ring-of x (free-recursive e) f = absurd (let z : _≡_ {A = ℕ} 0 1 = cc in omega arith)
+ring-of x (held-recursive a b) f = absurd (let z : _≡_ {A = ℕ} 0 1 = cc in omega arith)
 
 blocked-outcome : (x : Task) → outcomeFine x ≡ true → isBlocked (x .place) ≡ true → x .outcome ≡ 0
 blocked-outcome x e b =
@@ -128,8 +158,8 @@ tables-say ts os e =
           (any-task ts (λ u x. outcomeFine x) many (T .outcomes) (λ u h. refl) t)
           (any-task ts (λ u x. freshIfFree x) many (T .fresh) (λ u h. refl) t);
       idle-holds = not-held os idle (off (holds os idle) (T .idle-holds));
-      holders = λ t o h. off _ (rw h at (any-kind os (holderThere ts) kinds (T .holders) refl o));
-      queue-range = λ o q h. ring-fits q (rw h at (any-kind os ringInRange kinds (T .rings) refl o));
+      holders = λ t o h. off _ (rw h at (any-kind os (λ x. holderThere ts (hands x)) kinds (T .holders) refl o));
+      ranges = λ o. kind-fits (kindAt os o) (any-kind os kindInRange kinds (T .ranges) refl o);
     }
   where
     T : TablesTested ts os
@@ -171,18 +201,9 @@ module _ (os : List Object) (t : TaskSlot) (x : Task) (F : TaskFits os t x) wher
   fresh-fine Spent e = rw (F .spent e)
 
 module _ (ts : List Task) (os : List Object) (S : Tables ts os) where
-  holder-fine : (o : ObjSlot) (x : Kind) → kindAt os o ≡ x → holderThere ts x ≡ true
-  holder-fine o Unused e = refl
-  holder-fine o SpentObject e = refl
-  holder-fine o (Queue q) e = refl
-  holder-fine o (Mutex Nobody) e = refl
-  holder-fine o (Mutex (By t)) e = not-off (isFree (taskAt ts t .place)) (S .holders t o e)
-
-  ring-fine : (o : ObjSlot) (x : Kind) → kindAt os o ≡ x → ringInRange x ≡ true
-  ring-fine o Unused e = refl
-  ring-fine o SpentObject e = refl
-  ring-fine o (Queue q) e = fits-ring q (S .queue-range o q e)
-  ring-fine o (Mutex h) e = refl
+  holder-fine : (o : ObjSlot) (h : Holder) → hands (kindAt os o) ≡ h → holderThere ts h ≡ true
+  holder-fine o Nobody e = refl
+  holder-fine o (By t) e = not-off (isFree (taskAt ts t .place)) (S .holders t o e)
 
   abbrev each : (n : ℕ) → TaskFits os (task n) (taskAt ts (task n))
   each n = S .tasks (task n)
@@ -195,7 +216,7 @@ module _ (ts : List Task) (os : List Object) (S : Tables ts os) where
         waits = below-all 16 _ (λ n h. waits-fine os (task n) _ (each n) _ refl);
         idle-holds = not-off _ (none-holds os idle (S .idle-holds));
         holders = below-all 16 _ (λ n h. holder-fine (object n) _ refl);
-        rings = below-all 16 _ (λ n h. ring-fine (object n) _ refl);
+        ranges = below-all 16 _ (λ n h. fits-kind (S .ranges (object n)));
         outcomes = below-all 16 _ (λ n h. and-intro _ _ (le-leb _ _ (each n .outcome-range)) (outcome-or os (task n) _ (each n) _ refl));
         fresh = below-all 16 _ (λ n h. fresh-fine os (task n) _ (each n) _ refl);
       }

@@ -13,7 +13,7 @@ use Rattle.numbers.specs.Numbers.{task, object}
 use Rattle.slots.specs.Places.{isFree, takesTask, isReady, isBlocked}
 use Rattle.slots.specs.Values.{freeTask, taskAt}
 use Rattle.slots.specs.Kinds.{unused, kindAt}
-use Rattle.rules.specs.Types.{TaskSlot, ObjSlot, Place, Free, Ready, Delayed, Waiting, Suspended, Spent, Task, Ring, Nobody, By, Kind, Object, Unused, SpentObject, Queue, Mutex}
+use Rattle.rules.specs.Types.{TaskSlot, ObjSlot, Place, Free, Ready, Delayed, Waiting, Suspended, Spent, Task, Ring, Holder, Sort, Kind, Object, Unused, SpentObject, Queue, Mutex}
 
 pub past-tasks : (ts : List Task) (t : TaskSlot) → length ts ≤ t .0 → taskAt ts t ≡ freeTask
 unfolding taskAt
@@ -76,11 +76,8 @@ takes-free Suspended e = absurd (false≢true e)
 takes-free Spent e = refl
 
 -- by the kind of an object
-pub by-kind : (x : Kind) (P : Kind → Type 0) → P Unused → P SpentObject → ((q : Ring) → x ≡ Queue q → P (Queue q)) → (x ≡ Mutex Nobody → P (Mutex Nobody))
-    → ((t : TaskSlot) → x ≡ Mutex (By t) → P (Mutex (By t)))
-    → P x
-by-kind Unused P none spent queue free held = none
-by-kind SpentObject P none spent queue free held = spent
-by-kind (Queue q) P none spent queue free held = queue q refl
-by-kind (Mutex Nobody) P none spent queue free held = free refl
-by-kind (Mutex (By t)) P none spent queue free held = held t refl
+pub by-kind : (x : Kind) (P : Kind → Type 0) → P Unused → P SpentObject → ((q : Ring) → x ≡ Queue q → P (Queue q)) → ((s : Sort) (h : Holder) → x ≡ Mutex s h → P (Mutex s h)) → P x
+by-kind Unused P none spent queue mutex = none
+by-kind SpentObject P none spent queue mutex = spent
+by-kind (Queue q) P none spent queue mutex = queue q refl
+by-kind (Mutex s h) P none spent queue mutex = mutex s h refl

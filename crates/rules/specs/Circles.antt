@@ -5,7 +5,7 @@ use lib.Dec.{ltb}
 use Rattle.lists.specs.Lists.{allBelow}
 use Rattle.numbers.specs.Numbers.{task}
 use Rattle.chains.specs.Chains.{within}
-use Rattle.slots.specs.Kinds.{holderOf, kindAt}
+use Rattle.slots.specs.Kinds.{recursiveBy, holderOf, kindAt}
 use Rattle.rows.specs.Asking.{is}
 use Rattle.rules.specs.Types.{TaskSlot, Task, Object, Asked, State}
 use Rattle.rules.specs.Loans.{waitsFor}
@@ -14,9 +14,12 @@ use Rattle.rules.specs.Loans.{waitsFor}
 unfoldable pub leadsTo : List Task → List Object → TaskSlot → TaskSlot → Bool
 leadsTo ts os h u = ltb (h .0) 16 && within (λ n. waitsFor ts os (task n) .0) 16 (h .0) (u .0)
 
--- what row 17 asks: "a take, of any wait, exactly if the chain from that mutex's holder, through mutexes being waited on, leads back to the caller"
+-- what row 17 asks: "a take, of any wait, exactly if the chain from that mutex's holder, through mutexes being waited on, leads back to the caller"; of a recursive mutex "its
+-- holder's take is no circle"
 unfoldable pub closesCircle : State → Asked → Bool
-closesCircle k a = is 15 a && leadsTo (k .tasks) (k .objects) (holderOf (kindAt (k .objects) (a .object))) (k .running)
+closesCircle k a =
+    let x = kindAt (k .objects) (a .object) in
+    is 15 a && (not (recursiveBy (k .running) x) && leadsTo (k .tasks) (k .objects) (holderOf x) (k .running))
 
 -- "a kernel value with [a circle] is not sound": from whom a task waits for, no chain leads back to it
 unfoldable pub noCircle : List Task → List Object → Bool

@@ -1,14 +1,14 @@
 -- "No. | Call | Effect": what each accepted call does to the kernel, before the effective priorities are worked out and before choose.
-use Prim.Native.Nat.{ℕ}
+use Prim.Native.Nat.{ℕ, _+_, _-_}
 use mathlib.Core.Bool.{Bool}
 use mathlib.Core.List.{List, [], _∷_}
-use lib.Dec.{eqb}
+use lib.Dec.{eqb, ltb}
 use Rattle.lists.specs.Choice.{if_then_else_}
-use Rattle.numbers.specs.Numbers.{task, object}
+use Rattle.numbers.specs.Numbers.{task, object, sameTask}
 use Rattle.slots.specs.Places.{isListed}
 use Rattle.slots.specs.Values.{freeTask, spentTask, readyAt, brokenOff, taskAt}
-use Rattle.rules.specs.Types.{TaskSlot, ObjSlot, Ready, Delayed, Nobody, By, Kind, Unused, SpentObject, Queue, Mutex, WaitersOf, Asked, State}
-use Rattle.slots.specs.Kinds.{kindAt}
+use Rattle.rules.specs.Types.{TaskSlot, ObjSlot, Ready, Delayed, Nobody, By, Sort, Ordinary, Recursive, Kind, Unused, SpentObject, Queue, Mutex, WaitersOf, Asked, State}
+use Rattle.slots.specs.Kinds.{countOf, counting, kindAt}
 use Rattle.rules.specs.Tables.{freeSlot, freeObject, withTask, withObject}
 use Rattle.rows.specs.Asking.{is}
 use Rattle.rules.specs.Lines.{first, toTail, leaves}
@@ -46,32 +46,39 @@ delayed k n = if eqb n 0 then yielded k else arrives k (k .running) (Delayed (la
 unfoldable pub queueMade : State → ℕ → ℕ → State
 queueMade k c s = withObject k (object (freeObject (k .objects))) (Queue (record { capacity = c; size = s; first = 0; count = 0 }))
 
--- 11: "lowest free object"
-unfoldable pub mutexMade : State → State
-mutexMade k = withObject k (object (freeObject (k .objects))) (Mutex Nobody)
+-- 11: "lowest free object"; 19, "make recursive mutex", likewise
+unfoldable pub mutexMade : State → Sort → State
+mutexMade k s = withObject k (object (freeObject (k .objects))) (Mutex s Nobody)
 
 -- 12: "items in it are dropped"; the slot is used again, but for one at its last use
 unfoldable pub removed : State → ObjSlot → Bool → State
 removed k o last = withObject k o (if last then SpentObject else Unused)
 
--- 15: "A free mutex becomes the caller's. Held by another: the caller waits"
+-- 15: "A free mutex becomes the caller's. Held by another: the caller waits"; of a recursive one "its holder may take it again"
 abbrev pub takenFrom : State → ObjSlot → Kind → ℕ → State
 takenFrom k o Unused w = k
 takenFrom k o SpentObject w = k
 takenFrom k o (Queue q) w = k
-takenFrom k o (Mutex Nobody) w = withObject k o (Mutex (By (k .running)))
-takenFrom k o (Mutex (By h)) w = waitFor k o w
+takenFrom k o (Mutex s Nobody) w = withObject k o (Mutex (counting s 1) (By (k .running)))
+takenFrom k o (Mutex s (By h)) w = if sameTask h (k .running) then withObject k o (Mutex (counting s (countOf s + 1)) (By h)) else waitFor k o w
 
 unfoldable pub taken : State → ObjSlot → ℕ → State
 taken k o w = takenFrom k o (kindAt (k .objects) o) w
 
 -- 16: "The first waiter becomes holder and is made ready, outcome 1; with none, the mutex is free."
-abbrev pub handedTo : State → ObjSlot → List TaskSlot → State
-handedTo k o [] = withObject k o (Mutex Nobody)
-handedTo k o (t ∷ l) = withObject (arrives k t Ready 1) o (Mutex (By t))
+abbrev pub handedTo : State → ObjSlot → Sort → List TaskSlot → State
+handedTo k o s [] = withObject k o (Mutex (counting s 0) Nobody)
+handedTo k o s (t ∷ l) = withObject (arrives k t Ready 1) o (Mutex (counting s 1) (By t))
+
+-- "each give takes one off; only the last hands it on, at count 1, or frees it"
+abbrev pub givenBack : State → ObjSlot → Kind → State
+givenBack k o Unused = k
+givenBack k o SpentObject = k
+givenBack k o (Queue q) = k
+givenBack k o (Mutex s h) = if ltb 1 (countOf s) then withObject k o (Mutex (counting s (countOf s - 1)) h) else handedTo k o s (first k (WaitersOf o))
 
 unfoldable pub given : State → ObjSlot → State
-given k o = handedTo k o (first k (WaitersOf o))
+given k o = givenBack k o (kindAt (k .objects) o)
 
 -- the whole table, by the call's number; no other number is a call's
 unfoldable pub effect : State → Asked → State
@@ -86,7 +93,7 @@ effect k a =
     else if is 8 a then held k
     else if is 9 a then released k
     else if is 10 a then queueMade k (a .capacity) (a .size)
-    else if is 11 a then mutexMade k
+    else if is 11 a then mutexMade k Ordinary
     else if is 12 a then removed k (a .object) (a .last)
     else if is 13 a then sentTo k (a .object) (kindAt (k .objects) (a .object)) (a .wait)
     else if is 14 a then receivedFrom k (a .object) (kindAt (k .objects) (a .object)) (a .wait)
@@ -94,4 +101,5 @@ effect k a =
     else if is 16 a then given k (a .object)
     else if is 17 a then ticked k
     else if is 18 a then advanced k (a .ticks)
+    else if is 19 a then mutexMade k (Recursive 0)
     else k

@@ -59,22 +59,22 @@ abbrev pub sentTo : State → ObjSlot → Kind → ℕ → State
 sentTo k o Unused w = k
 sentTo k o SpentObject w = k
 sentTo k o (Queue q) w = sent k o q w
-sentTo k o (Mutex h) w = k
+sentTo k o (Mutex m h) w = k
 
 abbrev pub storeSentTo : State → ObjSlot → Kind → List ℕ → List ℕ → List ℕ
 storeSentTo k o Unused item s = s
 storeSentTo k o SpentObject item s = s
 storeSentTo k o (Queue q) item s = storeSent k o q item s
-storeSentTo k o (Mutex h) item s = s
+storeSentTo k o (Mutex m h) item s = s
 
 abbrev pub receivedFrom : State → ObjSlot → Kind → ℕ → State
 receivedFrom k o Unused w = k
 receivedFrom k o SpentObject w = k
 receivedFrom k o (Queue q) w = received k o q w
-receivedFrom k o (Mutex h) w = k
+receivedFrom k o (Mutex m h) w = k
 
 abbrev pub storeReceivedFrom : State → ObjSlot → Kind → List ℕ → List ℕ
 storeReceivedFrom k o Unused s = s
 storeReceivedFrom k o SpentObject s = s
 storeReceivedFrom k o (Queue q) s = storeReceived k o q s
-storeReceivedFrom k o (Mutex h) s = s
+storeReceivedFrom k o (Mutex m h) s = s

@@ -39,7 +39,7 @@ seen k a =
       pended = k .pended;
     }
 
--- rows 2 to 17
+-- rows 2 to 18
 unfoldable pub laterRow : State → Asked → ℕ → ℕ → ℕ
 laterRow k a item store = firstRow (table (seen k a) a item store)
 

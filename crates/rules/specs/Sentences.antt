@@ -1,7 +1,7 @@
 -- "A kernel value is sound when", as propositions, in the seven parts of Sound.antt: for each task, each object, each line and each list what the sentence says.
 use Prim.Native.Nat.{ℕ, _*_, _<_, _≤_}
 use mathlib.Core.Path.{_≡_}
-use mathlib.Core.Bool.{false}
+use mathlib.Core.Bool.{true, false}
 use mathlib.Core.List.{List, [], _∷_}
 use lib.ListN.{length, getD}
 use Rattle.lists.specs.Choice.{if_then_else_}
@@ -12,14 +12,14 @@ use Rattle.order.specs.Order.{listed}
 use Rattle.order.specs.Tidy.{count}
 use Rattle.slots.specs.Places.{isFree, isBlocked, isListed, waitsOn}
 use Rattle.slots.specs.Values.{freeTask, spentTask, inLine, taskAt}
-use Rattle.rules.specs.Types.{TaskSlot, ObjSlot, Wake, At, Place, Free, Ready, Delayed, Waiting, Spent, Order, Uses, Task, Ring, By, Kind, Queue, Mutex, Object, WaitersOf, State}
-use Rattle.slots.specs.Kinds.{kindAt}
+use Rattle.rules.specs.Types.{TaskSlot, ObjSlot, Wake, At, Place, Free, Ready, Delayed, Waiting, Spent, Order, Uses, Task, Ring, Holder, Nobody, By, Sort, Ordinary, Recursive, Kind, Queue, Mutex, Object, WaitersOf, State}
+use Rattle.slots.specs.Kinds.{isUnused, hands, kindAt}
 use Rattle.rules.specs.Tables.{withUses}
 use Rattle.rules.specs.Lines.{line, those, begun, level}
 
--- the task t holds the mutex o
+-- the task t holds the mutex o, of whatever sort
 abbrev pub Holds : List Object → TaskSlot → ObjSlot → Type 0
-Holds os t o = kindAt os o ≡ Mutex (By t)
+Holds os t o = hands (kindAt os o) ≡ By t
 
 -- the task t holds nothing
 abbrev pub HoldsNothing : List Object → TaskSlot → Type 0
@@ -33,7 +33,7 @@ Exists ts t = isFree (taskAt ts t .place) ≡ false
 pub data MayWait (t : TaskSlot) : Kind → Type 0 where
   receiver : {q : Ring} → q .count ≡ 0 → MayWait t (Queue q)
   sender : {q : Ring} → q .count ≡ q .capacity → MayWait t (Queue q)
-  taker : {u : TaskSlot} → (u .0 ≡ t .0 → ⊥) → MayWait t (Mutex (By u))
+  taker : {s : Sort} {u : TaskSlot} → (u .0 ≡ t .0 → ⊥) → MayWait t (Mutex s (By u))
 
 -- "A queue has capacity 1 to 64 and item size 0 to 64 bytes, with capacity times size at most 512."
 pub record RingFits (q : Ring) : Type 0 where
@@ -43,6 +43,14 @@ pub record RingFits (q : Ring) : Type 0 where
   pub whole : q .capacity * q .size ≤ 512
   pub starts : q .first < q .capacity
   pub counts : q .count ≤ q .capacity
+
+-- of an object by itself: "up to 255 times in all" for a held recursive mutex, and a free one has no count
+pub data KindFits : Kind → Type 0 where
+  vacant : {x : Kind} → isUnused x ≡ true → KindFits x
+  a-queue : {q : Ring} → RingFits q → KindFits (Queue q)
+  an-ordinary : {h : Holder} → KindFits (Mutex Ordinary h)
+  free-recursive : {n : ℕ} → n ≡ 0 → KindFits (Mutex (Recursive n) Nobody)
+  held-recursive : {n : ℕ} {t : TaskSlot} → 1 ≤ n → n ≤ 255 → KindFits (Mutex (Recursive n) (By t))
 
 -- ── the tables: the tasks and the objects with each other
 -- "idle is as above": "always there, always ready, priority 0"
@@ -73,8 +81,8 @@ pub record Tables (ts : List Task) (os : List Object) : Type 0 where
   pub idle-holds : HoldsNothing os idle
   -- "holders exist"
   pub holders : (t : TaskSlot) (o : ObjSlot) → Holds os t o → Exists ts t
-  -- "counts and places obey the ranges": those of the queues
-  pub queue-range : (o : ObjSlot) (q : Ring) → kindAt os o ≡ Queue q → RingFits q
+  -- "counts and places obey the ranges": those of the queues, and the counts of the recursive mutexes
+  pub ranges : (o : ObjSlot) → KindFits (kindAt os o)
 
 -- ── the priorities
 -- s is t, or waits "directly or along a chain of holders, on a mutex" that t holds: over any number of links

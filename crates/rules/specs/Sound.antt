@@ -12,8 +12,8 @@ use Rattle.order.specs.Order.{listed}
 use Rattle.order.specs.Tidy.{count, tidy}
 use Rattle.slots.specs.Places.{isReady}
 use Rattle.slots.specs.Values.{inHigher, taskAt}
-use Rattle.slots.specs.Kinds.{kindAt}
-use Rattle.slots.specs.SoundSlots.{idleFine, standsFine, remembersFine, ordersFine, waitsFine, prioritiesFine, holderThere, notDue, ringInRange, outcomeFine, freshIfFree}
+use Rattle.slots.specs.Kinds.{hands, kindAt}
+use Rattle.slots.specs.SoundSlots.{idleFine, standsFine, remembersFine, ordersFine, waitsFine, prioritiesFine, holderThere, notDue, kindInRange, outcomeFine, freshIfFree}
 use Rattle.rules.specs.Types.{TaskSlot, Order, Task, Object, Kind, State}
 use Rattle.rules.specs.Tables.{holds}
 use Rattle.rules.specs.Lines.{line, level}
@@ -38,17 +38,18 @@ waitersFine ts os = allBelow 16 (λ n. waitsFine (task n) os (slotTask ts n .pla
 
 -- "holders exist"
 abbrev pub holdersThere : List Task → List Object → Bool
-holdersThere ts os = allBelow 16 (λ n. holderThere ts (slotKind os n))
+holdersThere ts os = allBelow 16 (λ n. holderThere ts (hands (slotKind os n)))
 
--- "counts and places obey the ranges": those of the queues
-abbrev pub ringsInRange : List Object → Bool
-ringsInRange os = allBelow 16 (λ n. ringInRange (slotKind os n))
+-- "counts and places obey the ranges": those of the queues; and the counts of the recursive mutexes
+abbrev pub kindsInRange : List Object → Bool
+kindsInRange os = allBelow 16 (λ n. kindInRange (slotKind os n))
 
 -- "an outcome is 0 to 3, and 0 if delayed or waiting"
 abbrev pub outcomesFine : List Task → Bool
 outcomesFine ts = allBelow 16 (λ n. outcomeFine (slotTask ts n))
 
--- "free slots carry the fresh values"; that "a number that a state does not use is 0" is asked of a kernel value before it stands for a state, and of the order by tidy
+-- "free slots carry the fresh values"; that "a number that a state does not use is 0" is asked of a kernel value before it stands for a state, of the order by tidy, and of the
+-- count of a free recursive mutex by its range
 abbrev pub freshSlots : List Task → Bool
 freshSlots ts = allBelow 16 (λ n. freshIfFree (slotTask ts n))
 
@@ -56,7 +57,7 @@ freshSlots ts = allBelow 16 (λ n. freshIfFree (slotTask ts n))
 unfoldable pub tablesFine : List Task → List Object → Bool
 tablesFine ts os =
     every (
-    sixteen ts os ∷ idleFine (slotTask ts 0) ∷ waitersFine ts os ∷ not (holds os idle) ∷ holdersThere ts os ∷ ringsInRange os
+    sixteen ts os ∷ idleFine (slotTask ts 0) ∷ waitersFine ts os ∷ not (holds os idle) ∷ holdersThere ts os ∷ kindsInRange os
     ∷ outcomesFine ts ∷ freshSlots ts ∷ [])
 
 -- ── the priorities: "Priorities 0 to 31"; effective is what the rule says

@@ -4,7 +4,7 @@ pub use Rattle.numbers.specs.declared.ObjSlot.{ObjSlot}
 pub use Rattle.calls.specs.declared.TaskNo.{TaskNo}
 pub use Rattle.calls.specs.declared.Call.{Call}
 pub use Rattle.calls.specs.declared.Call.the-variants.{Create, Delete, Suspend, Resume, SetPriority, Delay, Yield, Hold, Release}
-pub use Rattle.calls.specs.declared.Call.the-variants.{MakeQueue, MakeMutex, Remove, Send, Receive, Take, Give, Tick, Advance}
+pub use Rattle.calls.specs.declared.Call.the-variants.{MakeQueue, MakeMutex, Remove, Send, Receive, Take, Give, Tick, Advance, MakeRecursive}
 pub use Rattle.calls.specs.declared.Names.{Names}
 pub use Rattle.calls.specs.declared.Names.the-variants.{Nothing, Task as ATask, Object as AnObject, Queue as AQueue, Mutex as AMutex}
 pub use Rattle.calls.specs.declared.Uses.{Uses}
@@ -20,6 +20,8 @@ pub use Rattle.slots.specs.declared.Task.{Task}
 pub use Rattle.slots.specs.declared.Ring.{Ring}
 pub use Rattle.slots.specs.declared.Holder.{Holder}
 pub use Rattle.slots.specs.declared.Holder.the-variants.{Nobody, By}
+pub use Rattle.slots.specs.declared.Sort.{Sort}
+pub use Rattle.slots.specs.declared.Sort.the-variants.{Ordinary, Recursive}
 pub use Rattle.slots.specs.declared.Kind.{Kind}
 pub use Rattle.slots.specs.declared.Kind.the-variants.{Unused, Spent as SpentObject, Queue, Mutex}
 pub use Rattle.slots.specs.declared.Object.{Object}

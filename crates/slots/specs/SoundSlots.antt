@@ -5,7 +5,7 @@ use mathlib.Core.List.{List}
 use lib.Dec.{eqb, ltb, leb}
 use lib.ListN.{getD}
 use Rattle.numbers.specs.declared.TaskSlot.{TaskSlot}
-use Rattle.slots.specs.Types.{Wake, Never, At, Place, Free, Ready, Delayed, Waiting, Suspended, Spent, Task, Ring, Nobody, By, Kind, Unused, SpentObject, Queue, Mutex, Object}
+use Rattle.slots.specs.Types.{Wake, Never, At, Place, Free, Ready, Delayed, Waiting, Suspended, Spent, Task, Ring, Holder, Nobody, By, Sort, Ordinary, Recursive, Kind, Unused, SpentObject, Queue, Mutex, Object}
 use Rattle.slots.specs.Places.{isFree, isReady, isBlocked, isListed, wakesAt}
 use Rattle.slots.specs.Values.{taskAt}
 use Rattle.slots.specs.Kinds.{kindAt, isBy, isTaken}
@@ -28,7 +28,7 @@ abbrev pub mayWait : TaskSlot → Kind → Bool
 mayWait t Unused = false
 mayWait t SpentObject = false
 mayWait t (Queue q) = eqb (q .count) 0 || eqb (q .count) (q .capacity)
-mayWait t (Mutex h) = isTaken h && not (isBy t h)
+mayWait t (Mutex s h) = isTaken h && not (isBy t h)
 
 -- the same by what is noted of each object: it is a queue that is empty or full, or a mutex that is taken, and by whom
 abbrev pub mayWaitOn : List Bool → List Bool → List ℕ → TaskSlot → ℕ → Bool
@@ -47,20 +47,14 @@ abbrev pub prioritiesFine : Task → Bool
 prioritiesFine x = leb (x .own) 31
 
 -- "holders exist"
-abbrev pub holderThere : List Task → Kind → Bool
-holderThere ts Unused = true
-holderThere ts SpentObject = true
-holderThere ts (Queue q) = true
-holderThere ts (Mutex Nobody) = true
-holderThere ts (Mutex (By t)) = not (isFree (taskAt ts t .place))
+abbrev pub holderThere : List Task → Holder → Bool
+holderThere ts Nobody = true
+holderThere ts (By t) = not (isFree (taskAt ts t .place))
 
 -- the same in two halves: a holder's number is a slot's, and a free slot holds nothing
-abbrev pub holderSlot : Kind → Bool
-holderSlot Unused = true
-holderSlot SpentObject = true
-holderSlot (Queue q) = true
-holderSlot (Mutex Nobody) = true
-holderSlot (Mutex (By t)) = ltb (t .0) 16
+abbrev pub holderSlot : Holder → Bool
+holderSlot Nobody = true
+holderSlot (By t) = ltb (t .0) 16
 
 abbrev pub freeHolds : Bool → Place → Bool
 freeHolds holds p = not (isFree p) || not holds
@@ -88,11 +82,17 @@ ringFine q =
     && ((leb (q .size) 64 && leb (q .capacity * q .size) 512)
     && (ltb (q .first) (q .capacity) && leb (q .count) (q .capacity)))
 
-abbrev pub ringInRange : Kind → Bool
-ringInRange Unused = true
-ringInRange SpentObject = true
-ringInRange (Queue q) = ringFine q
-ringInRange (Mutex h) = true
+-- the count of a held recursive mutex is 1 to 255; a free one has none
+abbrev pub countFine : Sort → Holder → Bool
+countFine Ordinary h = true
+countFine (Recursive n) Nobody = eqb n 0
+countFine (Recursive n) (By t) = leb 1 n && leb n 255
+
+abbrev pub kindInRange : Kind → Bool
+kindInRange Unused = true
+kindInRange SpentObject = true
+kindInRange (Queue q) = ringFine q
+kindInRange (Mutex s h) = countFine s h
 
 -- "an outcome is 0 to 3, and 0 if delayed or waiting"
 abbrev pub outcomeFine : Task → Bool

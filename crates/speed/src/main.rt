@@ -197,6 +197,13 @@ fn circles(start: Kernel, m: u32, times: u32, store: &mut [u8]) -> u32 {
     same(k, Call::Take(ObjNo::of(n), 1), Call::Tick, times, store)
 }
 
+// A recursive mutex that its holder has once: it takes it again, and gives it back.
+fn again(start: Kernel, times: u32, store: &mut [u8]) -> u32 {
+    let own = ObjNo::of(2);
+    let k = both(start, Call::MakeRecursive, Call::Take(own, 0), store);
+    same(k, Call::Take(own, 0), Call::Give(own), times, store)
+}
+
 fn pairs(start: Kernel, pair: u8, m: u32, times: u32, store: &mut [u8]) -> u32 {
     if pair == 110 {
         nights(start, m, times, store)
@@ -204,6 +211,8 @@ fn pairs(start: Kernel, pair: u8, m: u32, times: u32, store: &mut [u8]) -> u32 {
         loans(start, m, times, store)
     } else if pair == 112 {
         circles(start, m, times, store)
+    } else if pair == 113 {
+        again(start, times, store)
     } else if lists::both(104 <= pair, pair <= 106) {
         renewed(start, pair, m, times, store)
     } else {
@@ -235,7 +244,7 @@ fn tests(start: Kernel, times: u32) -> u32 {
 fn each(start: Kernel, m: u32, times: u32, store: &mut [u8]) -> u32 {
     let mut sum = tests(start, times);
     let mut pair = 97u8;
-    while pair < 113 {
+    while pair < 114 {
         let one = pairs(start, pair, m, times, store);
         sum = std::num::wrapping_add_u32(sum, one);
         pair += 1;

@@ -39,7 +39,7 @@ fn stores(k: Kernel) {
 }
 
 // The same call `n` times, with no line.
-fn many(k: Kernel, call: Call, n: u32) -> Kernel {
+pub(crate) fn many(k: Kernel, call: Call, n: u32) -> Kernel {
     let mut k = k;
     let mut store = [0u8; 9216];
     let mut i = 0;

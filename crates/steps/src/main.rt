@@ -1,4 +1,5 @@
 // Steps of the kernel, one line each: what was called, what it answered, who runs then. Every call is accepted somewhere, and every refusal that a step can give is given.
+mod again;
 mod edges;
 mod holds;
 mod idle;
@@ -17,6 +18,7 @@ fn main() {
     holds::depths();
     nights::slept();
     mutexes::loans();
+    again::counted();
     queues::items();
     edges::sizes();
     edges::full();

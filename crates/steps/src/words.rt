@@ -52,6 +52,7 @@ pub(crate) fn called(call: Call, length: usize) {
         Call::Give(o) => one(b"give", o.number()),
         Call::Tick => text(b"tick"),
         Call::Advance(n) => one(b"advance", n),
+        Call::MakeRecursive => text(b"make recursive mutex"),
     }
 }
 

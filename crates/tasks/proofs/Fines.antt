@@ -10,6 +10,7 @@ use borrow.Author.Tests.{ne-eqb, eqb-true, eqb-false, lt-ltb, le-ltb}
 use Rattle.lists.specs.Choice.{if_then_else_}
 use Rattle.lists.specs.Lists.{allBelow, upTo}
 use Rattle.lists.proofs.Bools.{and-left, and-right, and-intro, and-on, and-off, all-below, below-all, all-same}
+use Rattle.lists.proofs.Tests.{by-six}
 use Rattle.lists.proofs.Loops.{Held}
 use Rattle.numbers.specs.Numbers.{task}
 use Rattle.slots.specs.Who.{AllReady}
@@ -22,7 +23,7 @@ use Rattle.tasks.specs.Known.{waitsState, known, wakeKnown, canonical}
 use Rattle.tasks.specs.Fine.{rowFine, idleIf, idleAlone, wakeFine, aloneFine, rowsFine, wakesFine, waitsBy, waitsAt, waitingIn}
 use Rattle.tasks.proofs.Columns.{Full}
 use Rattle.tasks.proofs.WayBack.{tasks-back}
-use Rattle.tasks.proofs.StateTests.{by-state, is-suspended, row-meant}
+use Rattle.tasks.proofs.StateTests.{is-suspended, row-meant}
 
 -- a waiting task is asked for twice: its object lists it once, and the order of those who began has it once
 and-twice : (a b : Bool) → (a && b) ≡ (a && (a && b))
@@ -36,7 +37,7 @@ module _ (o w own level outcome n : ℕ) (held : Bool) where
   row-is : (s : ℕ) → Same s
   unfolding rowFine placeOf
   row-is s =
-      by-state Same refl refl refl (and-twice (eqb n 1) _) (and-twice (eqb n 1) _) refl
+      by-six Same refl refl refl (and-twice (eqb n 1) _) (and-twice (eqb n 1) _) refl
       (λ m h. rw (
         is-suspended m o w h,
         ne-eqb m 0 (λ e. omega arith),
@@ -55,7 +56,7 @@ module _ (o w tick : ℕ) where
   wake-is : (s : ℕ) → Likewise s
   unfolding wakeFine placeOf
   wake-is s =
-      by-state Likewise (rw and-true) (rw and-true) refl refl (rw and-true) (rw and-true)
+      by-six Likewise (rw and-true) (rw and-true) refl refl (rw and-true) (rw and-true)
       (λ m h. rw (is-suspended m o w h, ne-eqb m 2 (λ e. omega arith), ne-eqb m 3 (λ e. omega arith), and-true))
       s
 
@@ -148,7 +149,7 @@ module _ (ts : Tasks) (opens takes : List Bool) (holder : List ℕ) where
   wait-is : (i s o w : ℕ) → waitsBy opens takes holder (task i) (placeOf (cells s o w)) ≡ (if waitsState s then ltb o 16 && mayWaitOn opens takes holder (task i) o else true)
   unfolding placeOf
   wait-is i s o w =
-      by-state (λ n. waitsBy opens takes holder (task i) (placeOf (cells n o w)) ≡ (if waitsState n then ltb o 16 && mayWaitOn opens takes holder (task i) o else true)) refl refl refl refl refl refl
+      by-six (λ n. waitsBy opens takes holder (task i) (placeOf (cells n o w)) ≡ (if waitsState n then ltb o 16 && mayWaitOn opens takes holder (task i) o else true)) refl refl refl refl refl refl
       (λ n h. rw (is-suspended n o w h, ne-eqb n 3 (λ e. omega arith), ne-eqb n 4 (λ e. omega arith))) s
 
   waits-is : (i : ℕ) → waitNumber (ts .state) (ts .object) opens takes holder i ≡ waitsAt ts opens takes holder i

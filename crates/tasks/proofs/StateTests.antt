@@ -1,5 +1,5 @@
 -- The tests in numbers are those in words.
-use Prim.Native.Nat.{ℕ, zero, suc, _≤_}
+use Prim.Native.Nat.{ℕ, _≤_}
 use mathlib.Core.Path.{_≡_, refl, ap}
 use mathlib.Core.Bool.{Bool, true, _&&_, _||_, false≢true}
 use native.Mathlib.Omega.{arith}
@@ -7,6 +7,7 @@ use lib.Dec.{eqb}
 use lib.ListN.{getD}
 use borrow.Author.Tests.{ne-eqb}
 use Rattle.lists.specs.Choice.{if_then_else_}
+use Rattle.lists.proofs.Tests.{by-six}
 use Rattle.slots.specs.declared.Place.the-variants.{Suspended}
 use Rattle.slots.specs.Who.{Who, AllReady, WaitersOf}
 use Rattle.slots.specs.Places.{takesTask, isReady, waitsOn, waitedOn, wakesAt, outcomeDue, ahead, away}
@@ -19,16 +20,6 @@ use Rattle.tasks.specs.Walks.{isMeant}
 use Rattle.tasks.specs.Dues.{timed, waitEnds}
 use Rattle.tasks.specs.Known.{waitsState}
 
--- a number is one of the six first states, or more
-pub by-state : (P : ℕ → Type 0) → P 0 → P 1 → P 2 → P 3 → P 4 → P 5 → ((s : ℕ) → 6 ≤ s → P s) → (s : ℕ) → P s
-by-state P a b c d e f g zero = a
-by-state P a b c d e f g (suc zero) = b
-by-state P a b c d e f g (suc (suc zero)) = c
-by-state P a b c d e f g (suc (suc (suc zero))) = d
-by-state P a b c d e f g (suc (suc (suc (suc zero)))) = e
-by-state P a b c d e f g (suc (suc (suc (suc (suc zero))))) = f
-by-state P a b c d e f g (suc (suc (suc (suc (suc (suc n)))))) = g (suc (suc (suc (suc (suc (suc n)))))) (omega arith)
-
 pub is-suspended : (s o w : ℕ) → 6 ≤ s → placeOf (cells s o w) ≡ Suspended
 unfolding placeOf
 is-suspended s o w h =
@@ -37,45 +28,45 @@ is-suspended s o w h =
 meant-is : (w : Who) (s o x : ℕ) → isWho w (placeOf (cells s o x)) ≡ isMeant w s o
 unfolding placeOf
 meant-is AllReady s o x =
-    by-state (λ n. isReady (placeOf (cells n o x)) ≡ eqb n 1) refl refl refl refl refl refl (λ n h. rw (is-suspended n o x h, ne-eqb n 1 (λ e. omega arith))) s
+    by-six (λ n. isReady (placeOf (cells n o x)) ≡ eqb n 1) refl refl refl refl refl refl (λ n h. rw (is-suspended n o x h, ne-eqb n 1 (λ e. omega arith))) s
 meant-is (WaitersOf y) s o x =
-    by-state (λ n. waitsOn y (placeOf (cells n o x)) ≡ ((eqb n 3 || eqb n 4) && eqb o (y .0))) refl refl refl refl refl refl
+    by-six (λ n. waitsOn y (placeOf (cells n o x)) ≡ ((eqb n 3 || eqb n 4) && eqb o (y .0))) refl refl refl refl refl refl
     (λ n h. rw (is-suspended n o x h, ne-eqb n 3 (λ e. omega arith), ne-eqb n 4 (λ e. omega arith))) s
 
 takes-is : (s o x : ℕ) → takesTask (placeOf (cells s o x)) ≡ eqb s 0
 unfolding placeOf
-takes-is s o x = by-state (λ n. takesTask (placeOf (cells n o x)) ≡ eqb n 0) refl refl refl refl refl refl (λ n h. rw (is-suspended n o x h, ne-eqb n 0 (λ e. omega arith))) s
+takes-is s o x = by-six (λ n. takesTask (placeOf (cells n o x)) ≡ eqb n 0) refl refl refl refl refl refl (λ n h. rw (is-suspended n o x h, ne-eqb n 0 (λ e. omega arith))) s
 
 -- the object that it waits on
 onto-is : (s o x : ℕ) → waitedOn (placeOf (cells s o x)) ≡ (if waitsState s then o else 16)
 unfolding placeOf
 onto-is s o x =
-    by-state (λ n. waitedOn (placeOf (cells n o x)) ≡ (if waitsState n then o else 16)) refl refl refl refl refl refl
+    by-six (λ n. waitedOn (placeOf (cells n o x)) ≡ (if waitsState n then o else 16)) refl refl refl refl refl refl
     (λ n h. rw (is-suspended n o x h, ne-eqb n 3 (λ e. omega arith), ne-eqb n 4 (λ e. omega arith))) s
 
 -- the wake tick: how far away, whether it is now, and the outcome
 away-is : (now s o w : ℕ) → away now (placeOf (cells s o w)) ≡ (if timed s then ahead now w else 4294967295)
 unfolding placeOf
 away-is now s o w =
-    by-state (λ n. away now (placeOf (cells n o w)) ≡ (if timed n then ahead now w else 4294967295)) refl refl refl refl refl refl
+    by-six (λ n. away now (placeOf (cells n o w)) ≡ (if timed n then ahead now w else 4294967295)) refl refl refl refl refl refl
     (λ n h. rw (is-suspended n o w h, ne-eqb n 2 (λ e. omega arith), ne-eqb n 3 (λ e. omega arith))) s
 
 due-is : (now s o w : ℕ) → wakesAt now (placeOf (cells s o w)) ≡ (timed s && eqb w now)
 unfolding placeOf
 due-is now s o w =
-    by-state (λ n. wakesAt now (placeOf (cells n o w)) ≡ (timed n && eqb w now)) refl refl refl refl refl refl
+    by-six (λ n. wakesAt now (placeOf (cells n o w)) ≡ (timed n && eqb w now)) refl refl refl refl refl refl
     (λ n h. rw (is-suspended n o w h, ne-eqb n 2 (λ e. omega arith), ne-eqb n 3 (λ e. omega arith))) s
 
 ends-is : (now s o w : ℕ) → waitEnds now (placeOf (cells s o w)) ≡ (eqb s 3 && eqb w now)
 unfolding placeOf
 ends-is now s o w =
-    by-state (λ n. waitEnds now (placeOf (cells n o w)) ≡ (eqb n 3 && eqb w now)) refl refl refl refl refl refl
+    by-six (λ n. waitEnds now (placeOf (cells n o w)) ≡ (eqb n 3 && eqb w now)) refl refl refl refl refl refl
     (λ n h. rw (is-suspended n o w h, ne-eqb n 3 (λ e. omega arith))) s
 
 ended-is : (s o w : ℕ) → timed s ≡ true → outcomeDue (placeOf (cells s o w)) ≡ (if eqb s 2 then 1 else 2)
 unfolding placeOf
 ended-is s o w =
-    by-state (λ n. timed n ≡ true → outcomeDue (placeOf (cells n o w)) ≡ (if eqb n 2 then 1 else 2))
+    by-six (λ n. timed n ≡ true → outcomeDue (placeOf (cells n o w)) ≡ (if eqb n 2 then 1 else 2))
     (λ e. absurd (false≢true e)) (λ e. absurd (false≢true e)) (λ e. refl) (λ e. refl) (λ e. absurd (false≢true e)) (λ e. absurd (false≢true e))
     (λ n h e. absurd (false≢true (rw (ne-eqb n 2 (λ q. omega arith), ne-eqb n 3 (λ q. omega arith)) at e))) s
 

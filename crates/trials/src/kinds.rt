@@ -1,8 +1,9 @@
-// Objects that nobody may wait on or hold as here, and queues out of range.
+// Objects that nobody may wait on or hold as here, and queues and counts out of range.
 use crate::held_by;
 use crate::parlour;
 use crate::put_kind;
 use crate::put_task;
+use crate::recursive_held;
 use crate::ring;
 use crate::say;
 use crate::say_kind;
@@ -12,6 +13,7 @@ use crate::waiting;
 use slots::Holder;
 use slots::Kind;
 use slots::Place;
+use slots::Sort;
 use slots::Wake;
 
 pub(crate) fn waits() {
@@ -20,9 +22,13 @@ pub(crate) fn waits() {
     let k = put_task(parlour(), 1, task(Place::Ready, 5, 5, 0));
     say(
         b"a taker on a free mutex",
-        put_kind(k, 2, Kind::Mutex(Holder::Nobody)),
+        put_kind(k, 2, Kind::Mutex(Sort::Ordinary, Holder::Nobody)),
     );
     say(b"a taker on its own mutex", put_kind(k, 2, held_by(6)));
+    say(
+        b"a taker on its own recursive mutex",
+        put_kind(k, 2, recursive_held(6, 1)),
+    );
     say_task(
         b"a waiter on no object",
         4,
@@ -38,6 +44,27 @@ pub(crate) fn waits() {
 pub(crate) fn holders() {
     say_kind(b"a holder that does not exist", 3, held_by(8));
     say_kind(b"holder 16", 3, held_by(16));
+}
+
+// A mutex that task 1 holds and task 6 waits on; and one that nobody holds.
+pub(crate) fn counts() {
+    say_kind(
+        b"a held recursive mutex at count 0",
+        2,
+        recursive_held(1, 0),
+    );
+    say_kind(b"at count 1", 2, recursive_held(1, 1));
+    say_kind(b"at count 255", 2, recursive_held(1, 255));
+    say_kind(
+        b"a free recursive mutex",
+        3,
+        Kind::Mutex(Sort::Recursive(0), Holder::Nobody),
+    );
+    say_kind(
+        b"a free recursive mutex with a count",
+        3,
+        Kind::Mutex(Sort::Recursive(1), Holder::Nobody),
+    );
 }
 
 pub(crate) fn rings() {

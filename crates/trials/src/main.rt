@@ -9,6 +9,7 @@ use slots::Holder;
 use slots::Kind;
 use slots::Place;
 use slots::Ring;
+use slots::Sort;
 use slots::Task;
 use slots::Wake;
 
@@ -35,7 +36,11 @@ fn ring(capacity: u8, size: u8, first: u8, count: u8) -> Kind {
 }
 
 fn held_by(n: u8) -> Kind {
-    Kind::Mutex(Holder::By(TaskSlot::of(n)))
+    Kind::Mutex(Sort::Ordinary, Holder::By(TaskSlot::of(n)))
+}
+
+fn recursive_held(n: u8, count: u8) -> Kind {
+    Kind::Mutex(Sort::Recursive(count), Holder::By(TaskSlot::of(n)))
 }
 
 fn waiting(o: u8, w: Wake) -> Place {
@@ -100,7 +105,7 @@ fn parlour() -> Kernel {
     let k = put_kind(k, 0, ring(4, 8, 1, 0));
     let k = put_kind(k, 1, ring(2, 0, 0, 2));
     let k = put_kind(k, 2, held_by(1));
-    let k = put_kind(k, 3, Kind::Mutex(Holder::Nobody));
+    let k = put_kind(k, 3, Kind::Mutex(Sort::Ordinary, Holder::Nobody));
     let mut k = put_running(k, 1);
     k.core.tick = 5;
     k
@@ -162,4 +167,5 @@ fn main() {
     kinds::waits();
     kinds::holders();
     kinds::rings();
+    kinds::counts();
 }

@@ -20,22 +20,15 @@ pub(super) enum Rest {
 /// The mutexes that another task holds: those whose chain leads back to the caller, and the others.
 pub(super) fn held_by_others(kernel: &Kernel) -> (Vec<ObjectSlot>, Vec<ObjectSlot>) {
     let caller = kernel.running;
-    let of_another = |object: &ObjectSlot| holder_of(kernel, *object).is_some_and(|holder| holder != caller);
-    let back =
-        |object: &ObjectSlot| holder_of(kernel, *object).is_some_and(|holder| leads_back(kernel, holder, caller));
+    let holder_of = |object: &ObjectSlot| kernel.object(*object).holder();
+    let of_another = |object: &ObjectSlot| holder_of(object).is_some_and(|holder| holder != caller);
+    let back = |object: &ObjectSlot| holder_of(object).is_some_and(|holder| leads_back(kernel, holder, caller));
     ObjectSlot::all().filter(of_another).partition(back)
-}
-
-fn holder_of(kernel: &Kernel, object: ObjectSlot) -> Option<TaskSlot> {
-    match kernel.object(object).kind {
-        Kind::Mutex { holder } => holder,
-        _ => None,
-    }
 }
 
 /// How many links the chain from this mutex's holder has.
 pub(super) fn links_from(kernel: &Kernel, object: ObjectSlot) -> usize {
-    holder_of(kernel, object).map_or(0, |holder| chain(kernel, holder).len())
+    kernel.object(object).holder().map_or(0, |holder| chain(kernel, holder).len())
 }
 
 impl Author {
@@ -60,6 +53,11 @@ impl Author {
         }
         let (_, elsewhere) = held_by_others(kernel);
         let joins = !has_waiters(kernel, caller) || self.random.percent(15);
+        if links < MOST_LINKS && self.random.percent(12) {
+            if let Some(fields) = self.again_call() {
+                return Some(fields);
+            }
+        }
         if joins && !elsewhere.is_empty() {
             return Some(self.link_at_the_far_end(&elsewhere, links));
         }
@@ -85,7 +83,7 @@ impl Author {
     }
 
     /// A task above the running one is created, or gets its turn; without a free slot, one that holds nothing goes.
-    fn another_task(&mut self) -> Option<Fields> {
+    pub(super) fn another_task(&mut self) -> Option<Fields> {
         let kernel = &self.machine.kernel;
         let caller = kernel.running;
         let level = u32::from(kernel.task(caller).effective);
@@ -121,9 +119,9 @@ impl Author {
     /// A free mutex goes if most objects are mutexes, so that there is room for queues again.
     pub(super) fn spare_mutex(&self) -> Option<Fields> {
         let kernel = self.kernel();
-        let is_mutex = |object: &ObjectSlot| matches!(kernel.object(*object).kind, Kind::Mutex { .. });
+        let is_mutex = |object: &ObjectSlot| matches!(kernel.object(*object).kind, Kind::Mutex(_));
         let mutexes: Vec<ObjectSlot> = ObjectSlot::all().filter(is_mutex).collect();
-        let spare = mutexes.iter().rfind(|&&object| holder_of(kernel, object).is_none())?;
+        let spare = mutexes.iter().rfind(|&&object| kernel.object(object).holder().is_none())?;
         (mutexes.len() > 3 * OBJECTS / 4).then(|| call(&[12, kernel.object_number(*spare)]))
     }
 
@@ -177,7 +175,7 @@ impl Author {
                 Some(self.ask(object))
             }
             55..=61 => {
-                let own = |object: &ObjectSlot| holder_of(kernel, *object) == Some(caller);
+                let own = |object: &ObjectSlot| kernel.object(*object).holder() == Some(caller);
                 let object = ObjectSlot::all().find(own)?;
                 Some(self.ask(object))
             }
@@ -197,7 +195,7 @@ impl Author {
     }
 
     /// A take of any wait.
-    fn ask(&mut self, object: ObjectSlot) -> Fields {
+    pub(super) fn ask(&mut self, object: ObjectSlot) -> Fields {
         let wait = self.any_wait();
         call(&[15, self.kernel().object_number(object), wait])
     }
@@ -223,7 +221,7 @@ impl Author {
         }
         let kernel = &self.machine.kernel;
         let way = |object: &&ObjectSlot| {
-            let holder = holder_of(kernel, **object)?;
+            let holder = kernel.object(**object).holder()?;
             chain(kernel, holder).iter().position(|&task| task == kernel.running)
         };
         match self.random.below(100) {
@@ -234,7 +232,7 @@ impl Author {
     }
 
     /// "of any wait"; with a hold mostly 0.
-    fn any_wait(&mut self) -> u32 {
+    pub(super) fn any_wait(&mut self) -> u32 {
         let held = self.kernel().hold > 0;
         match self.random.below(100) {
             0..=64 if held => 0,
@@ -248,21 +246,33 @@ impl Author {
     fn wake_a_holder(&mut self) -> Option<Fields> {
         let kernel = &self.machine.kernel;
         let holder = TaskSlot::all().find(|&task| has_waiters(kernel, task) && chain(kernel, task).is_empty());
-        let Some(holder) = holder else { return self.bring_a_task() };
-        match kernel.task(holder).stand {
-            Stand::Suspended => Some(call(&[4, kernel.task_number(holder)])),
-            Stand::Waiting { object, role, .. } => {
+        match holder {
+            Some(holder) => Some(self.wake(holder)),
+            None => self.bring_a_task(),
+        }
+    }
+
+    /// For idle: this task is resumed, or gets what it waits for on a queue; else a tick.
+    pub(super) fn wake(&mut self, task: TaskSlot) -> Fields {
+        let kernel = &self.machine.kernel;
+        match kernel.task(task).stand {
+            Stand::Suspended => call(&[4, kernel.task_number(task)]),
+            Stand::Waiting { object, role: role @ (Role::Sender | Role::Receiver), .. } => {
                 let number = kernel.object_number(object);
                 let mut fields = call(&[if role == Role::Receiver { 13 } else { 14 }, number]);
                 if role == Role::Receiver {
                     fields.push(self.item(number, 0));
                 }
                 fields.push(decimal(0));
-                Some(fields)
+                fields
             }
             _ => {
-                let ticks = kernel.distance(holder).unwrap_or(1).min(MOST_AHEAD);
-                Some(if self.random.percent(50) { call(&[17]) } else { call(&[18, ticks]) })
+                let ticks = kernel.distance(task).unwrap_or(1).min(MOST_AHEAD);
+                if self.random.percent(50) {
+                    call(&[17])
+                } else {
+                    call(&[18, ticks])
+                }
             }
         }
     }

@@ -2,8 +2,9 @@
 #![allow(dead_code)]
 
 use model::filter;
-use model::kernel::{Kernel, ObjectSlot, TaskSlot};
+use model::kernel::{Kernel, Kind, Mutex, ObjectSlot, TaskSlot};
 use model::machine::Machine;
+use model::random::Random;
 
 /// The filter's answers to these bytes, with the self-check on.
 pub fn answers(journal: &[u8]) -> Vec<u8> {
@@ -44,6 +45,18 @@ pub fn task(slot: usize) -> TaskSlot {
 
 pub fn object(slot: usize) -> ObjectSlot {
     ObjectSlot::all().nth(slot).unwrap()
+}
+
+/// An ordinary mutex that this task holds.
+pub fn held_by(slot: usize) -> Kind {
+    Kind::Mutex(Mutex { recursive: false, holder: Some(task(slot)), count: 1 })
+}
+
+/// A mutex of either kind that this task holds, at a low or a high count.
+pub fn any_held_by(holder: TaskSlot, random: &mut Random) -> Kind {
+    let recursive = random.percent(50);
+    let count = if recursive { random.pick(&[1, 2, 254, 255]) } else { 1 };
+    Kind::Mutex(Mutex { recursive, holder: Some(holder), count })
 }
 
 /// The slots of a line's tasks.

@@ -113,10 +113,18 @@ returns-18 c =
     let k = c .before .before .self13 .given in
     (c .of18 .ensures ∙ ap frameOf (sym (k .1)), rw (k .1) (search needs))
 
+returns-19 : tie.Need-returns-19
+unfolding asked
+returns-19 c =
+    let k = c .before .enum-told6 .given in
+    (c .of19 .ensures ∙ ap frameOf (sym (k .1)), rw (k .1) (search needs))
+
 pub frame-spec : {M : Type 1} → statement M
 frame-spec =
     tie.close
     (tie.spec
+    (λ c. search needs)
+    (λ c κs. search needs)
     (λ c. search needs)
     (λ c κs. search needs)
     (λ c. search needs)
@@ -170,4 +178,5 @@ frame-spec =
     returns-15
     returns-16
     returns-17
-    returns-18)
+    returns-18
+    returns-19)

@@ -10,12 +10,12 @@ use Rattle.calls.proofs.Ranges.{NotUpto, outside}
 use Rattle.calls.proofs.Call.of.Statement.{statement}
 use Rattle.calls.proofs.Call.of.Tie as tie
 
-other-call : (n : ℕ) (vs : List ℕ) → NotUpto 18 n → Tick ≡ callOf n vs
+other-call : (n : ℕ) (vs : List ℕ) → NotUpto 19 n → Tick ≡ callOf n vs
 unfolding callOf
 other-call n vs h =
     ⊎-elim (λ (e : n ≡ 0). rw e)
-    (λ (l : 18 < n). sym (List·getD-eq-default (entries vs) Tick {n = n} l))
-    (outside 18 n h)
+    (λ (l : 19 < n). sym (List·getD-eq-default (entries vs) Tick {n = n} l))
+    (outside 19 n h)
 
 returns : tie.Need-returns
 unfolding callOf
@@ -90,7 +90,11 @@ unfolding callOf
 returns-18 c = rw (c .match .keys18)
 
 returns-19 : tie.Need-returns-19
-returns-19 c = other-call _ _ (c .match .rest)
+unfolding callOf
+returns-19 c = rw (c .match .keys19)
+
+returns-20 : tie.Need-returns-20
+returns-20 c = other-call _ _ (c .match .rest)
 
 pub of-spec : {M : Type 1} → statement M
 of-spec =
@@ -116,4 +120,5 @@ of-spec =
     returns-16
     returns-17
     returns-18
-    returns-19)
+    returns-19
+    returns-20)

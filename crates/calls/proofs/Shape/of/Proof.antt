@@ -15,15 +15,15 @@ use Rattle.calls.proofs.Shape.of.Tie as tie
 
 -- the keys of the arms, the last arm first
 abbrev arms : List (List ℕ)
-arms = (13 ∷ []) ∷ (5 ∷ 10 ∷ []) ∷ (6 ∷ 12 ∷ 16 ∷ 18 ∷ []) ∷ (11 ∷ 17 ∷ []) ∷ []
+arms = (13 ∷ []) ∷ (5 ∷ 10 ∷ []) ∷ (6 ∷ 12 ∷ 16 ∷ 18 ∷ []) ∷ (11 ∷ 17 ∷ 19 ∷ []) ∷ []
 
--- past the ranges only the keys 17 and 18 are a call's
+-- past the ranges only the keys 17 to 19 are a call's
 beyond : (n : ℕ) → 16 ≤ n → Nones arms n → unknown ≡ shapeOf n
 unfolding shapeOf any index
 beyond n l o =
-    ⊎-elim (λ (e : n < 19). ranged unknown arms 16 3 refl n l e o)
-    (λ (e : 19 ≤ n). sym (List·getD-eq-default shapes unknown {n = n} e))
-    (below-or n 19)
+    ⊎-elim (λ (e : n < 20). ranged unknown arms 16 4 refl n l e o)
+    (λ (e : 20 ≤ n). sym (List·getD-eq-default shapes unknown {n = n} e))
+    (below-or n 20)
 
 returns : tie.Need-returns
 unfolding shapeOf any index
@@ -40,7 +40,7 @@ returns-3 c = beyond _ (c .if4 .left) (c .before .before .before .before .match 
 returns-4 : tie.Need-returns-4
 unfolding shapeOf any index
 returns-4 c =
-    c .plain .ensures ∙ ⊎-elim (λ k. keyed (numbersOnly 0) (11 ∷ 17 ∷ []) refl _ (k .keys1)) (λ w. ranged (numbersOnly 0) arms 5 5 refl _ (w .2 .left) (w .3 .taken) (w .0 .rest))
+    c .plain .ensures ∙ ⊎-elim (λ k. keyed (numbersOnly 0) (11 ∷ 17 ∷ 19 ∷ []) refl _ (k .keys1)) (λ w. ranged (numbersOnly 0) arms 5 5 refl _ (w .2 .left) (w .3 .taken) (w .0 .rest))
     (c .before .match .came)
 
 returns-5 : tie.Need-returns-5

@@ -8,7 +8,7 @@ use native.Mathlib.Omega.{arith}
 use Rattle.rules.specs.Effects.{effect, yielded}
 use Rattle.rules.specs.Steps.{stored}
 use Rattle.kernel.proofs.LevelWorks.{firm-reckons}
-use Rattle.kernel.proofs.RowPassed.{in-range, whole, right-size, may-hold, may-release, may-tick, may-turn, task-slot, queue-slot, mutex-slot}
+use Rattle.kernel.proofs.RowPassed.{in-range, whole, right-size, may-take, may-hold, may-release, may-tick, may-turn, task-slot, object-slot}
 use Rattle.kernel.proofs.Core.served.Statement.{statement}
 use Rattle.kernel.proofs.Core.served.Tie as tie
 
@@ -51,10 +51,10 @@ cast-make-queue-2 c =
     let r = in-range (o .args .self) (o .pre .0) (o .args .a) (length (o .args .item .now)) (length (o .args .store .now)) (o .pre .1) in omega (arith, r .small)
 
 make-queue-requires : tie.Need-make-queue-requires
-make-queue-requires c κs = let o = c .before .before .before .before .before in queue-slot (o .args .a) (o .pre .2) (c .before .before .match .keys10)
+make-queue-requires c κs = let o = c .before .before .before .before .before in object-slot (o .args .a) (o .pre .2) (rw (c .before .before .match .keys10)) (rw (c .before .before .match .keys10))
 
 make-mutex-requires : tie.Need-make-mutex-requires
-make-mutex-requires c κs = let o = c .before .before .before in mutex-slot (o .args .a) (o .pre .2) (c .match .keys11)
+make-mutex-requires c κs = let o = c .before .before .before in object-slot (o .args .a) (o .pre .2) (rw (c .match .keys11)) (rw (c .match .keys11))
 
 send-requires : tie.Need-send-requires
 send-requires c κs =
@@ -68,6 +68,14 @@ receive-requires : tie.Need-receive-requires
 receive-requires c κs =
     let o = c .before .before .before .before in
     (o .pre .0, whole (o .args .self) (o .pre .0) (o .args .a) (length (o .args .item .now)) (length (o .args .store .now)) (o .pre .1))
+
+recursive-requires : tie.Need-make-mutex-requires-2
+recursive-requires c κs = let o = c .before .before .before in object-slot (o .args .a) (o .pre .2) (rw (c .match .keys18)) (rw (c .match .keys18))
+
+take-requires : tie.Need-take-requires
+take-requires c κs =
+    let o = c .before .before .before in
+    (o .pre .0, may-take (o .args .self) (o .pre .0) (o .args .a) (length (o .args .item .now)) (length (o .args .store .now)) (o .pre .1) (c .match .keys15))
 
 tick-on-requires : tie.Need-tick-on-requires
 tick-on-requires c κs =
@@ -154,30 +162,35 @@ returns-17 c = (λ s h. rw (c .before .match .keys17) (c .tick-on .ensures s h),
 
 returns-18 : tie.Need-returns-18
 unfolding effect stored
-returns-18 c =
+returns-18 c = (λ s h. rw (c .before .match .keys18) (c .make-mutex2 .ensures s h), λ s h. rw (c .before .match .keys18))
+
+returns-19 : tie.Need-returns-19
+unfolding effect stored
+returns-19 c =
     let r = c .match .rest in
     let a = c .before .before .before .args .a .number in (
       λ s h. rw (
-        ne-eqb a 1 (r .0 .0 .0 .0 .0 .0 .0 .0 .0 .0 .0 .0 .0 .0 .0 .0 .1),
-        ne-eqb a 2 (r .0 .0 .0 .0 .0 .0 .0 .0 .0 .0 .0 .0 .0 .0 .0 .1),
-        ne-eqb a 3 (r .0 .0 .0 .0 .0 .0 .0 .0 .0 .0 .0 .0 .0 .0 .1),
-        ne-eqb a 4 (r .0 .0 .0 .0 .0 .0 .0 .0 .0 .0 .0 .0 .0 .1),
-        ne-eqb a 5 (r .0 .0 .0 .0 .0 .0 .0 .0 .0 .0 .0 .0 .1),
-        ne-eqb a 6 (r .0 .0 .0 .0 .0 .0 .0 .0 .0 .0 .0 .1),
-        ne-eqb a 7 (r .0 .0 .0 .0 .0 .0 .0 .0 .0 .0 .1),
-        ne-eqb a 8 (r .0 .0 .0 .0 .0 .0 .0 .0 .0 .1),
-        ne-eqb a 9 (λ e. r .0 .0 .0 .0 .0 .0 .0 .0 .1 (inl e)),
-        ne-eqb a 10 (r .0 .0 .0 .0 .0 .0 .0 .1),
-        ne-eqb a 11 (r .0 .0 .0 .0 .0 .0 .1),
-        ne-eqb a 12 (r .0 .0 .0 .0 .0 .1),
-        ne-eqb a 13 (r .0 .0 .0 .0 .1),
-        ne-eqb a 14 (r .0 .0 .0 .1),
-        ne-eqb a 15 (r .0 .0 .1),
-        ne-eqb a 16 (r .0 .1),
-        ne-eqb a 17 (r .1),
-        ne-eqb a 18 (λ e. r .0 .0 .0 .0 .0 .0 .0 .0 .1 (inr e)),
+        ne-eqb a 1 (r .0 .0 .0 .0 .0 .0 .0 .0 .0 .0 .0 .0 .0 .0 .0 .0 .0 .1),
+        ne-eqb a 2 (r .0 .0 .0 .0 .0 .0 .0 .0 .0 .0 .0 .0 .0 .0 .0 .0 .1),
+        ne-eqb a 3 (r .0 .0 .0 .0 .0 .0 .0 .0 .0 .0 .0 .0 .0 .0 .0 .1),
+        ne-eqb a 4 (r .0 .0 .0 .0 .0 .0 .0 .0 .0 .0 .0 .0 .0 .0 .1),
+        ne-eqb a 5 (r .0 .0 .0 .0 .0 .0 .0 .0 .0 .0 .0 .0 .0 .1),
+        ne-eqb a 6 (r .0 .0 .0 .0 .0 .0 .0 .0 .0 .0 .0 .0 .1),
+        ne-eqb a 7 (r .0 .0 .0 .0 .0 .0 .0 .0 .0 .0 .0 .1),
+        ne-eqb a 8 (r .0 .0 .0 .0 .0 .0 .0 .0 .0 .0 .1),
+        ne-eqb a 9 (λ e. r .0 .0 .0 .0 .0 .0 .0 .0 .0 .1 (inl e)),
+        ne-eqb a 10 (r .0 .0 .0 .0 .0 .0 .0 .0 .1),
+        ne-eqb a 11 (r .0 .0 .0 .0 .0 .0 .0 .1),
+        ne-eqb a 12 (r .0 .0 .0 .0 .0 .0 .1),
+        ne-eqb a 13 (r .0 .0 .0 .0 .0 .1),
+        ne-eqb a 14 (r .0 .0 .0 .0 .1),
+        ne-eqb a 15 (r .0 .0 .0 .1),
+        ne-eqb a 16 (r .0 .0 .1),
+        ne-eqb a 17 (r .0 .1),
+        ne-eqb a 19 (r .1),
+        ne-eqb a 18 (λ e. r .0 .0 .0 .0 .0 .0 .0 .0 .0 .1 (inr e)),
       ) h,
-      λ s h. rw (ne-eqb a 13 (r .0 .0 .0 .0 .1), ne-eqb a 14 (r .0 .0 .0 .1)),
+      λ s h. rw (ne-eqb a 13 (r .0 .0 .0 .0 .0 .1), ne-eqb a 14 (r .0 .0 .0 .0 .1)),
     )
 
 pub served-spec : {M : Type 1} → statement M
@@ -202,9 +215,10 @@ served-spec =
     (λ c κs. search needs)
     send-requires
     receive-requires
-    (λ c κs. search needs)
+    take-requires
     (λ c κs. search needs)
     tick-on-requires
+    recursive-requires
     returns
     returns-2
     returns-3
@@ -224,4 +238,5 @@ served-spec =
     returns-15
     returns-16
     returns-17
-    returns-18)
+    returns-18
+    returns-19)

@@ -12,10 +12,10 @@ returns-3 : tie.Need-returns-3
 returns-3 c = rw (c .before .k .given .1)
 
 returns-4 : tie.Need-returns-4
-returns-4 c = rw (c .before .before .before .before .k2 .given .1, c .before .enum-told3 .given .1) (c .bare3 .ensures)
+returns-4 c = rw (c .before .before .before .before .k2 .given .1, c .before .enum-told3 .given .1) (c .mutex .ensures)
 
 returns-5 : tie.Need-returns-5
-returns-5 c = rw (c .before .before .before .before .before .k2 .given .1, c .before .before .h .given .1) (c .bare4 .ensures)
+returns-5 c = rw (c .before .before .before .before .before .k2 .given .1, c .before .before .h .given .1) (c .mutex2 .ensures)
 
 pub of-spec : {M : Type 1} → statement M
 of-spec =

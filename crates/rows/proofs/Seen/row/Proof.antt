@@ -14,7 +14,8 @@ returns c =
     let r14 = r15 .before .before in
     let r17 = r14 .before .before in
     let r13 = r17 .before in
-    let r12 = r13 .before .before in
+    let r18 = r13 .before .before in
+    let r12 = r18 .before .before in
     let r11 = r12 .before .before in
     let r10 = r11 .before .before in
     let r9 = r10 .before in
@@ -35,16 +36,19 @@ returns c =
     let e10 = then-row 10 e9 (r10 .or-row8 .ensures) (refl {a = a .self .used}) in
     let e11 = then-row 11 e10 (r11 .or-row9 .ensures) (r11 .before .not-his .ensures) in
     let e12 = then-row 12 e11 (r12 .or-row10 .ensures) (r12 .before .his-already .ensures) in
-    let e13 = then-row 13 e12 (r13 .or-row11 .ensures) (r13 .before .not-suspended .ensures) in
-    let e17 = then-row 17 e13 (r17 .or-row12 .ensures) (refl {a = a .self .circle}) in
-    let e14 = then-row 14 e17 (r14 .or-row13 .ensures) (r14 .before .must-wait .ensures) in
-    let e15 = then-row 15 e14 (r15 .or-row14 .ensures) (r15 .before .no-depth .ensures) in
-    all-rows (then-row 16 e15 (c .or-row15 .ensures) (c .before .no-tick .ensures)) refl
+    let e18 = then-row 18 e12 (r18 .or-row11 .ensures) (r18 .before .count-full .ensures) in
+    let e13 = then-row 13 e18 (r13 .or-row12 .ensures) (r13 .before .not-suspended .ensures) in
+    let e17 = then-row 17 e13 (r17 .or-row13 .ensures) (refl {a = a .self .circle}) in
+    let e14 = then-row 14 e17 (r14 .or-row14 .ensures) (r14 .before .must-wait .ensures) in
+    let e15 = then-row 15 e14 (r15 .or-row15 .ensures) (r15 .before .no-depth .ensures) in
+    all-rows (then-row 16 e15 (c .or-row16 .ensures) (c .before .no-tick .ensures)) refl
 
 pub row-spec : {M : Type 1} → statement M
 row-spec =
     tie.close
     (tie.spec
+    (λ c κs. search needs)
+    (λ c κs. search needs)
     (λ c κs. search needs)
     (λ c κs. search needs)
     (λ c κs. search needs)
