@@ -340,7 +340,7 @@ unfolding removed
 removed-ordinary k o true = put-ordinary k o SpentObject
 removed-ordinary k o false = put-ordinary k o Unused
 
--- what a give is asked for: the caller has it, so that it goes by the count, or it is the last
+-- a give by its holder that does not go by the count is the last
 last-give : (t : TaskSlot) (x : Kind) → heldBy t x ≡ true → (recursiveBy t x && ltb 1 (countIn x)) ≡ false → ltb 1 (countIn x) ≡ false
 last-give t Unused h e = refl
 last-give t SpentObject h e = refl
@@ -457,7 +457,7 @@ answered-ordinary : (k : State) (a : Asked) (j : State) → answered (allOrdinar
 unfolding answered
 answered-ordinary k a j = rw (free-ordinary (k .objects))
 
--- b does what a does with every mutex ordinary, and is told and stored so
+-- what a call does where every mutex is ordinary and another where they are not; 11 and 19, or one call
 accepted-ordinary : (k : State) (a b : Asked) (item s : List ℕ) → effect (allOrdinary k) a ≡ allOrdinary (effect k b) → answered (allOrdinary k) a ≡ answered (allOrdinary k) b
     → stored (allOrdinary k) a item s ≡ stored (allOrdinary k) b item s → usesAfter (k .uses) a ≡ usesAfter (k .uses) b
     → accepted (allOrdinary k) a item s ≡ stepOrdinary (accepted k b item s)
