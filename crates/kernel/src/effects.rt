@@ -205,7 +205,7 @@ impl Core {
     {
         let n = m.count();
         if 1 < n {
-            return self.with_object(o, Kind::Mutex(Sort::Recursive(n - 1), h));
+            return self.with_object(o, Kind::Mutex(m.counting(n - 1), h));
         }
         let free = self.with_object(o, Kind::Mutex(m.counting(0), Holder::Nobody));
         match free.first_waiter(o) {

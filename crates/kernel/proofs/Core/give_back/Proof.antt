@@ -1,22 +1,16 @@
-use Prim.Native.Nat.{ℕ, _<_}
 use mathlib.Core.Path.{_≡_, refl, ap, _∙_}
 use native.Mathlib.Omega.{arith}
 use lib.Seq.{set-set}
 use borrow.Author.Needs.{needs}
 use borrow.Author.Tests.{lt-ltb, le-ltb}
-use Rattle.slots.specs.Kinds.{countOf, counting}
+use Rattle.slots.specs.Kinds.{countOf}
 use Rattle.rules.specs.Tables.{withObject}
 use Rattle.rules.specs.Lines.{first, toTail}
 use Rattle.rules.specs.Waits.{arrives}
-use Rattle.rules.specs.Types.{TaskSlot, ObjSlot, Ready, Who, Sort, Ordinary, Recursive, Kind, State}
+use Rattle.rules.specs.Types.{TaskSlot, ObjSlot, Ready, Who, Kind, State}
 use Rattle.kernel.specs.Stands.{coreOf}
 use Rattle.kernel.proofs.Core.give_back.Statement.{statement}
 use Rattle.kernel.proofs.Core.give_back.Tie as tie
-
--- what counts more than one is recursive
-recursive-one : (m : Sort) (n : ℕ) → 1 < countOf m → Recursive n ≡ counting m n
-recursive-one Ordinary n l = absurd (omega arith)
-recursive-one (Recursive c) n l = refl
 
 -- who waits first, and whom it makes ready, is the same with the mutex free
 first-still : (s : State) (o : ObjSlot) (x : Kind) (w : Who) → first (withObject s o x) w ≡ first s w
@@ -29,16 +23,16 @@ then-handed s o x y t = rw (set-set (s .objects) (o .0) (record { kind = x }) (r
 
 returns : tie.Need-returns
 returns c = λ s h.
-    let m = c .before .before .before .args .m in
-    let l : 1 < countOf m = omega (arith, c .before .if1 .taken, c .before .before .count .ensures) in
-    rw (lt-ltb 1 (countOf m) l, ← recursive-one m _ l, ← c .before .before .count .ensures) (c .with-object .ensures s h)
+    let one = c .before .before in
+    rw (lt-ltb 1 (countOf (one .before .before .args .m)) (omega (arith, one .if1 .taken, one .before .count .ensures)), ← one .before .count .ensures, ← c .before .counting .ensures)
+    (c .with-object .ensures s h)
 
 returns-2 : tie.Need-returns-2
 returns-2 c = λ s h.
     let one = c .before .before .before .before .before in
     let free = c .before .before .before .with-object2 .ensures s h in
     rw (le-ltb 1 (countOf (one .before .before .args .m)) (omega (arith, one .if1 .left, one .before .count .ensures)), ← (c .before .before .first-waiter .ensures _ free ∙ first-still s _ _ _))
-    (rw (c .enum-told .given .1, ← c .before .before .before .before .counting .ensures) free)
+    (rw (c .enum-told .given .1, ← c .before .before .before .before .counting2 .ensures) free)
 
 returns-3 : tie.Need-returns-3
 returns-3 c = λ s h.
@@ -46,7 +40,7 @@ returns-3 c = λ s h.
     let found = c .before .before .before .before .before .before in
     let free = found .before .with-object2 .ensures s h in
     rw (le-ltb 1 (countOf (one .before .before .args .m)) (omega (arith, one .if1 .left, one .before .count .ensures)), ← (found .first-waiter .ensures _ free ∙ first-still s _ _ _))
-    (rw (c .before .before .before .before .t .given .1, ← c .before .counting2 .ensures) (c .with-object3 .ensures _ (c .before .before .arrives .ensures _ free) ∙ ap coreOf (then-handed s _ _ _ _)))
+    (rw (c .before .before .before .before .t .given .1, ← c .before .counting3 .ensures) (c .with-object3 .ensures _ (c .before .before .arrives .ensures _ free) ∙ ap coreOf (then-handed s _ _ _ _)))
 
 pub give-back-spec : {M : Type 1} → statement M
 give-back-spec =
@@ -54,6 +48,7 @@ give-back-spec =
     (tie.spec
     (λ c κs. search needs)
     (λ c. search needs)
+    (λ c κs. search needs)
     (λ c κs. search needs)
     returns
     (λ c κs. search needs)
