@@ -76,7 +76,7 @@ impl Coverage {
                 let task = before.find_task(task).expect("accepted");
                 self.event_if(nested_by(before, task).next().is_some(), "resume: a holder at count above 1");
             }
-            Call::MakeQueue { .. } | Call::MakeMutex | Call::MakeRecursiveMutex => {
+            Call::MakeQueue { .. } | Call::MakeMutex | Call::MakeRecursiveMutex | Call::MakeGroup => {
                 let made = before.free_object().expect("accepted");
                 let was_recursive = self.nesting[made.index()].was_recursive;
                 self.nesting[made.index()] = Nesting { was_recursive, ..Nesting::default() };
@@ -86,6 +86,7 @@ impl Coverage {
                         self.event_if(was_recursive, "make: an ordinary mutex where a recursive one was")
                     }
                     Call::MakeRecursiveMutex => self.event_if(again, "make: a recursive mutex in a slot used again"),
+                    Call::MakeGroup => self.event_if(was_recursive, "make: an event group where a recursive mutex was"),
                     _ => self.event_if(was_recursive, "make: a queue where a recursive mutex was"),
                 }
             }

@@ -1,11 +1,13 @@
-//! The nineteen calls: what each does once it is not turned away.
+//! The 23 calls: what each does once it is not turned away.
 
+use crate::groups::{self, Group, Wish};
 use crate::kernel::{Kernel, Kind, Mutex, ObjectSlot, Outcome, Queue, Role, Stand, Task, TaskSlot};
 use crate::refusals::refusal;
 use crate::store;
 
 /// "Call numbers 1 to 17, arguments in this order"; "call 18, advance: n ticks"; "call 19, make
-/// recursive mutex". Numbers are as the line has them.
+/// recursive mutex"; "20 make; 21 set bits: object, bits; 22 clear bits: object, bits; 23 wait:
+/// object, mask, all, clear, wait". Numbers are as the line has them.
 #[derive(Clone, Copy, PartialEq, Eq, Debug)]
 pub enum Call<'a> {
     Create { priority: u32 },
@@ -27,6 +29,10 @@ pub enum Call<'a> {
     Tick,
     Advance { ticks: u32 },
     MakeRecursiveMutex,
+    MakeGroup,
+    SetBits { object: u32, bits: u32 },
+    ClearBits { object: u32, bits: u32 },
+    WaitBits { object: u32, mask: u32, all: u32, clear: u32, wait: u32 },
 }
 
 impl Call<'_> {
@@ -51,6 +57,10 @@ impl Call<'_> {
             Call::Tick => 17,
             Call::Advance { .. } => 18,
             Call::MakeRecursiveMutex => 19,
+            Call::MakeGroup => 20,
+            Call::SetBits { .. } => 21,
+            Call::ClearBits { .. } => 22,
+            Call::WaitBits { .. } => 23,
         }
     }
 
@@ -64,7 +74,10 @@ impl Call<'_> {
             | Call::Send { object, .. }
             | Call::Receive { object, .. }
             | Call::Take { object, .. }
-            | Call::Give { object } => Named::Object(object),
+            | Call::Give { object }
+            | Call::SetBits { object, .. }
+            | Call::ClearBits { object, .. }
+            | Call::WaitBits { object, .. } => Named::Object(object),
             _ => Named::Nothing,
         }
     }
@@ -79,7 +92,10 @@ impl Call<'_> {
             | Call::Send { object, .. }
             | Call::Receive { object, .. }
             | Call::Take { object, .. }
-            | Call::Give { object } => *object = number,
+            | Call::Give { object }
+            | Call::SetBits { object, .. }
+            | Call::ClearBits { object, .. }
+            | Call::WaitBits { object, .. } => *object = number,
             _ => {}
         }
         self
@@ -149,15 +165,23 @@ fn take_effect(kernel: &mut Kernel, store: &mut [u8], call: &Call) -> Option<u32
         // "depth up, down"
         Call::Hold => kernel.hold += 1,
         Call::Release => release(kernel),
+        Call::Tick => tick(kernel),
+        Call::Advance { ticks } => advance(kernel, ticks),
         Call::MakeQueue { capacity, size } => {
-            // "lowest free object; empty, first 0"
-            let queue = Queue { capacity: capacity as u8, size: size as u8, first: 0, count: 0 };
-            return Some(make(kernel, Kind::Queue(queue)));
+            return Some(make(kernel, Kind::Queue(Queue::empty(capacity as u8, size as u8))));
         }
-        // "lowest free object"
         Call::MakeMutex => return Some(make(kernel, Kind::Mutex(Mutex::free(false)))),
         Call::MakeRecursiveMutex => return Some(make(kernel, Kind::Mutex(Mutex::free(true)))),
+        Call::MakeGroup => return Some(make(kernel, Kind::Group(Group::default()))),
         Call::Remove { object } => remove(kernel, kernel.find_object(object).expect(NAMED)),
+        _ => on_an_object(kernel, store, call),
+    }
+    None
+}
+
+/// The effect of a call on an object that stays.
+fn on_an_object(kernel: &mut Kernel, store: &mut [u8], call: &Call) {
+    match *call {
         Call::Send { object, item, wait } => {
             let (object, queue) = kernel.find_queue(object).expect(NAMED);
             send(kernel, store, object, queue, item, wait);
@@ -174,10 +198,21 @@ fn take_effect(kernel: &mut Kernel, store: &mut [u8], call: &Call) -> Option<u32
             let (object, mutex) = kernel.find_mutex(object).expect(NAMED);
             give(kernel, object, mutex);
         }
-        Call::Tick => tick(kernel),
-        Call::Advance { ticks } => advance(kernel, ticks),
+        Call::SetBits { object, bits } => {
+            let (object, group) = kernel.find_group(object).expect(NAMED);
+            groups::set(kernel, store, object, group, bits);
+        }
+        Call::ClearBits { object, bits } => {
+            let (object, group) = kernel.find_group(object).expect(NAMED);
+            groups::clear(kernel, object, group, bits);
+        }
+        Call::WaitBits { object, mask, all, clear, wait } => {
+            let (object, group) = kernel.find_group(object).expect(NAMED);
+            let wish = Wish { mask, all: all == 1, clear: clear == 1 };
+            groups::wait(kernel, store, object, group, wish, wait);
+        }
+        _ => unreachable!("no call on an object: {call:?}"),
     }
-    None
 }
 
 /// "lowest free slot; ready"
@@ -228,6 +263,7 @@ fn release(kernel: &mut Kernel) {
     }
 }
 
+/// "lowest free object"
 fn make(kernel: &mut Kernel, kind: Kind) -> u32 {
     let object = kernel.free_object().expect("row 9 has passed");
     kernel.object_mut(object).kind = kind;

@@ -1,10 +1,13 @@
 //! The self-check: document 01's soundness sentence, with request 1's clauses on uses,
-//! request 3's on the remembered order, request 5's on loans, request 6's on circles and request
-//! 7's on counts, over the kernel's own structures, and what can be said of one step by looking at
-//! the kernel before and after: the lines, by when each task was last put into one; the takes that
-//! are not given back; of an advance, that it is as many single ticks.
+//! request 3's on the remembered order, request 5's on loans, request 6's on circles, request 7's on
+//! counts and request 8's on event groups, over the kernel's own structures, and what can be said of
+//! one step by looking at the kernel before and after: the lines, by when each task was last put into
+//! one; the takes that are not given back; of an advance, that it is as many single ticks. What a call
+//! did to event groups is in `group_check`.
 
 use crate::calls::{single_ticks, step, Answer, Call, Named};
+use crate::group_check::{check_bits, check_group_step, check_watcher};
+use crate::groups::Group;
 use crate::kernel::{
     Kernel, Kind, Mutex, ObjectSlot, Outcome, Role, Stand, Task, TaskSlot, FOR_EVER, IDLE, LAST_USE, MOST_HOLD,
     MOST_PENDED, MOST_TAKES, PRIORITIES, RETIRED, TASKS,
@@ -12,12 +15,19 @@ use crate::kernel::{
 use crate::loans::{by_search, by_walks};
 use crate::refusals::{refusal, refusal_by_rows, CIRCLE};
 
-fn must(holds: bool, sentence: &str) -> Result<(), String> {
+pub(crate) fn must(holds: bool, sentence: &str) -> Result<(), String> {
     if holds {
         Ok(())
     } else {
         Err(sentence.to_string())
     }
+}
+
+/// The kernel and the store, before a call or after it.
+#[derive(Clone, Copy)]
+pub struct Seen<'s> {
+    pub kernel: &'s Kernel,
+    pub store: &'s [u8],
 }
 
 /// "A kernel value is sound when: ..."
@@ -92,6 +102,7 @@ fn check_waiters(kernel: &Kernel) -> Result<(), String> {
                 (Role::Taker, Kind::Mutex(Mutex { holder: Some(holder), .. })) => {
                     must(holder != task, "takers only on a mutex held by another")?
                 }
+                (Role::Watcher(wish), Kind::Group(group)) => check_watcher(wish, group)?,
                 _ => must(false, "a waiter fits its object")?,
             }
         }
@@ -176,6 +187,7 @@ fn check_object(kernel: &Kernel, object: ObjectSlot) -> Result<(), String> {
             must(exists, "holders exist")?;
             check_count(mutex)
         }
+        Kind::Group(group) => check_bits(group),
     }
 }
 
@@ -198,43 +210,36 @@ pub fn checked_step(kernel: &mut Kernel, store: &mut [u8], call: &Call) -> Answe
     let by_call = refusal(kernel, store, call);
     assert_eq!(by_call, by_rows, "the two readings of the refusal table differ on {call:?} in {before:?}");
     let answer = step(kernel, store, call);
-    let verdict = soundness(kernel).and_then(|()| check_step(&before, &store_before, call, answer, kernel, store));
+    let (old, new) = (Seen { kernel: &before, store: &store_before }, Seen { kernel, store });
+    let verdict = soundness(kernel).and_then(|()| check_step(old, call, answer, new));
     if let Err(sentence) = verdict {
         panic!("{sentence}\ncall {call:?}\nanswer {answer:?}\nbefore {before:?}\nafter {kernel:?}");
     }
     answer
 }
 
-fn check_step(
-    before: &Kernel,
-    store_before: &[u8],
-    call: &Call,
-    answer: Answer,
-    after: &Kernel,
-    store_after: &[u8],
-) -> Result<(), String> {
-    if let Answer::Refused(_) = answer {
-        must(before == after && store_before == store_after, "the kernel and all lent bytes stay")?;
-    }
-    if let (Call::Take { object, .. }, Answer::Refused(CIRCLE)) = (*call, answer) {
-        check_turned_down(before, object)?;
+fn check_step(old: Seen, call: &Call, answer: Answer, new: Seen) -> Result<(), String> {
+    let (before, after) = (old.kernel, new.kernel);
+    if let Answer::Refused(row) = answer {
+        must(before == after && old.store == new.store, "the kernel and all lent bytes stay")?;
+        return match *call {
+            Call::Take { object, .. } if row == CIRCLE => check_turned_down(before, object),
+            _ => Ok(()),
+        };
     }
     let caller = before.running;
     must(
         (answer == Answer::Waiting) == after.is_blocked(caller),
         "waiting is given exactly if the caller is now delayed or waits",
     )?;
-    must(
-        store_before == store_after || matches!(call, Call::Send { .. } | Call::Receive { .. }),
-        "no other call changes the store",
-    )?;
-    must(
-        before.hold == 0 || after.hold == 0 || before.running == after.running,
-        "with a hold, the running task stays",
-    )?;
+    let may_store =
+        matches!(call, Call::Send { .. } | Call::Receive { .. } | Call::SetBits { .. } | Call::WaitBits { .. });
+    must(old.store == new.store || may_store, "no other call changes the store")?;
+    must(before.hold == 0 || after.hold == 0 || caller == after.running, "with a hold, the running task stays")?;
     must(by_search(after) == by_walks(after, |_| true), "a search and walks find the same loans")?;
     check_uses(before, call, answer, after)?;
     check_takes(before, call, answer, after)?;
+    check_group_step(old, call, answer, new)?;
     if let Answer::Made(number) = answer {
         check_made(before, call, number, after)?;
     }
@@ -243,7 +248,6 @@ fn check_step(
     }
     check_arrival(&before.began, &after.began, caller)?;
     match *call {
-        _ if matches!(answer, Answer::Refused(_)) => Ok(()),
         Call::Advance { ticks } => check_advance(before, ticks, after),
         _ if after.tick != before.tick => check_places(before, &moments_of_ticks(before, after.tick), call, after),
         _ => check_places(before, &moments_of_call(before, after), call, after),
@@ -302,15 +306,18 @@ fn moments_of_ticks(before: &Kernel, count: u32) -> [Option<Moment>; TASKS] {
     moments
 }
 
-/// The same for a call that runs no tick: at most one task is made ready, and then those whose
-/// line changes move.
+/// The same for a call that runs no tick: a set makes several ready in first-waiter order, which in
+/// one line is that of arrival, another call at most one; and then those whose line changes move.
 fn moments_of_call(before: &Kernel, after: &Kernel) -> [Option<Moment>; TASKS] {
     std::array::from_fn(|slot| {
         let (old, new) = (&before.tasks[slot], &after.tasks[slot]);
         let was = if old.is_free() { new.own } else { old.effective };
         match new.stand {
             Stand::Ready if new.effective != was => Some((0, true, slot)),
-            Stand::Ready if old.stand != Stand::Ready => Some((0, false, slot)),
+            Stand::Ready if old.stand != Stand::Ready => {
+                let place = before.began.iter().position(|task| task.index() == slot);
+                Some((0, false, place.unwrap_or(0)))
+            }
             _ => None,
         }
     })
@@ -415,6 +422,10 @@ fn check_made(before: &Kernel, call: &Call, number: u32, after: &Kernel) -> Resu
         Call::Create { .. } => before.find_task(number).is_none() && after.find_task(number).is_some(),
         Call::MakeQueue { .. } => before.find_object(number).is_none() && after.find_queue(number).is_some(),
         Call::MakeMutex => before.find_object(number).is_none() && is_mutex(false),
+        Call::MakeGroup => {
+            let made = after.find_group(number).map(|(_, group)| group);
+            before.find_object(number).is_none() && made == Some(Group { bits: 0 })
+        }
         _ => before.find_object(number).is_none() && is_mutex(true),
     };
     must(is_new, "made with the new number")

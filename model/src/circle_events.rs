@@ -3,7 +3,7 @@
 
 use crate::chains::{chain, has_waiters, leads_back};
 use crate::coverage::Coverage;
-use crate::kernel::{Kernel, Stand, TaskSlot, FOR_EVER};
+use crate::kernel::{Kernel, Role, Stand, TaskSlot, FOR_EVER};
 use crate::refusals::CIRCLE;
 
 /// How many tasks would be on the circle that this caller closes.
@@ -94,6 +94,7 @@ impl Coverage {
             match after.task(last).stand {
                 Stand::Delayed { .. } => "take: a chain to a delayed task",
                 Stand::Suspended => "take: a chain to a suspended task",
+                Stand::Waiting { role: Role::Watcher(_), .. } => "take: a chain to a task that waits on an event group",
                 Stand::Waiting { .. } => "take: a chain to a task that waits on a queue",
                 _ => "take: a chain to a ready task",
             },

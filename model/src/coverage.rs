@@ -125,8 +125,8 @@ impl Ticks {
 #[derive(Default)]
 pub struct Coverage {
     pub lines: u64,
-    pub accepted: [u64; 20],
-    pub waiting: [u64; 20],
+    pub accepted: [u64; 24],
+    pub waiting: [u64; 24],
     pub refused: [u64; 19],
     pub refused_by_call: BTreeMap<(usize, u8), u64>,
     pub damaged: BTreeMap<&'static str, u64>,
@@ -175,6 +175,7 @@ impl Coverage {
             self.observe_refused_take(kernel, object, wait, row);
         }
         self.observe_refused_again(kernel, call, row);
+        self.observe_refused_groups(kernel, call, row);
         if let Call::Advance { ticks } = *call {
             let held = kernel.hold > 0;
             self.event_if(row == 4 && ticks == 0, "advance: 0 ticks refused");
@@ -211,6 +212,7 @@ impl Coverage {
     pub fn observe(&mut self, before: &Kernel, call: &Call, after: &Kernel) {
         self.observe_loans(before, call, after);
         self.observe_again(before, call, after);
+        self.observe_groups(before, call, after);
         let caller = before.running;
         let woken = |outcome: Outcome| {
             TaskSlot::all()
@@ -356,7 +358,7 @@ impl Coverage {
                 self.event_if(before.task(made).uses > 0, "create: a slot used again");
                 self.event_if(before.task(made).uses > 255, "create: a use above 255");
             }
-            Call::MakeQueue { .. } | Call::MakeMutex | Call::MakeRecursiveMutex => {
+            Call::MakeQueue { .. } | Call::MakeMutex | Call::MakeRecursiveMutex | Call::MakeGroup => {
                 let last = before.objects.iter().rposition(|object| !object.is_free());
                 let made = before.free_object().expect("accepted");
                 self.event_if(Some(made.index()) < last, "make: a slot below the last one");
@@ -454,7 +456,7 @@ impl Coverage {
     }
 
     pub fn report(&self) -> String {
-        const NAMES: [&str; 20] = [
+        const NAMES: [&str; 24] = [
             "-",
             "create",
             "delete",
@@ -475,6 +477,10 @@ impl Coverage {
             "tick",
             "advance",
             "make recursive",
+            "make group",
+            "set bits",
+            "clear bits",
+            "wait for bits",
         ];
         let mut text = format!("lines {}\n\naccepted (of these waiting)\n", self.lines);
         for (number, name) in NAMES.iter().enumerate().skip(1) {

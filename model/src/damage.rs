@@ -23,7 +23,7 @@ pub const KINDS: [&str; 36] = [
     "20 digits",
     "11 digits",
     "unknown call 0",
-    "unknown call 20",
+    "unknown call 24",
     "unknown call 99",
     "unknown larger call",
     "65-byte item",
@@ -123,10 +123,11 @@ pub fn damaged(kind: &str, fields: &[Vec<u8>], random: &mut Random) -> Vec<u8> {
             join(&fields)
         }
         "unknown call 0" => with_call(fields, "0"),
-        "unknown call 20" => with_call(fields, "20"),
+        "unknown call 24" => with_call(fields, "24"),
         "unknown call 99" => with_call(fields, "99"),
         "unknown larger call" => {
-            let call = random.pick(&["21", "24", "170", "190", "257", "273", "275", "65537", "65555", "4294967295"]);
+            let call =
+                random.pick(&["25", "170", "190", "230", "257", "273", "276", "279", "65537", "65559", "4294967295"]);
             with_call(fields, call)
         }
         "65-byte item" => {

@@ -5,6 +5,7 @@ use crate::calls::{Answer, Call};
 use crate::chains;
 use crate::coverage::Coverage;
 use crate::damage;
+use crate::groups::ALL_BITS;
 use crate::kernel::{
     apart, number_of, Kernel, Kind, Mutex, ObjectSlot, Stand, TaskSlot, FOR_EVER, IDLE, LAST_USE, MOST_ADVANCE,
     MOST_HOLD, MOST_PENDED, RETIRED, TASKS,
@@ -15,44 +16,47 @@ use crate::random::Random;
 use crate::refusals::{refusal, CIRCLE};
 use again::Nest;
 use circles::{held_by_others, links_from, Rest, MOST_LINKS};
+use events::Gate;
 
 mod again;
 mod circles;
+mod events;
 
 /// How often each call is tried, by call number; one row for each mood.
 #[rustfmt::skip]
-const MOODS: [[u32; 20]; 10] = [
-    // cre del sus res set dly yld hld rel mkq mkm rem snd rcv tak giv tick adv mkr
-    [0,  6,  2,  4,  6,  5,  7,  4,  2,  4,  3,  3,  2, 17, 17,  9,  8, 12, 17,  2], // mixed
-    [0,  6,  2,  3,  4,  2, 16,  4,  2,  4,  2,  1,  1, 10, 10,  6,  4, 30, 12,  1], // time
-    [0,  6,  2,  3,  4,  3,  3,  2,  1,  3,  4,  0,  2, 32, 32,  1,  2,  8, 12,  0], // queues
-    [0,  6,  2,  4,  5,  8,  4,  2,  1,  3,  0,  4,  1,  2,  2, 26, 16,  8, 16,  3], // mutexes
-    [0,  4,  2,  4,  4,  5,  6,  1, 12, 12,  2,  1,  1,  9,  9,  5,  5, 24, 11,  1], // holds
-    [0, 12, 12,  8, 10,  6,  4,  2,  1,  3, 10,  7, 14, 10, 10,  6,  5,  6, 13,  5], // slots
-    [0,  8,  1,  2,  4,  6,  4, 16,  1,  3,  1,  1,  1,  5,  5,  6,  6, 24, 13,  1], // crowd
-    [0,  2,  1,  6,  2,  3, 24,  2,  2,  6,  3,  1,  2, 14, 23,  6,  2,  6, 10,  1], // quiet: idle runs often
-    [0,  6,  2,  3,  5,  4, 20,  4,  1,  3,  2,  1,  1, 10, 11,  9,  4,  3, 64,  1], // sleep
-    [0,  9,  1,  2,  4,  6,  9,  6,  1,  3,  2,  1,  1,  9,  9,  9,  7,  3, 64,  1], // sleep in a crowd
+const MOODS: [[u32; 24]; 11] = [
+    // cre del sus res set dly yld hld rel mkq mkm rem snd rcv tak giv tick adv mkr mkg sbt cbt wbt
+    [0,  6,  2,  4,  6,  5,  7,  4,  2,  4,  4,  3,  2, 17, 17,  9,  8, 12, 21,  2,  1,  4,  2,  5], // mixed
+    [0,  6,  2,  3,  4,  2, 16,  4,  2,  4,  3,  1,  1, 10, 10,  6,  4, 30, 16,  1,  1,  2,  1,  4], // time
+    [0,  6,  2,  3,  4,  3,  3,  2,  1,  3,  4,  0,  2, 32, 32,  1,  2,  8, 16,  0,  0,  1,  1,  1], // queues
+    [0,  6,  2,  4,  5,  8,  4,  2,  1,  3,  0,  4,  1,  2,  2, 26, 16,  8, 20,  3,  0,  1,  1,  2], // mutexes
+    [0,  4,  2,  4,  4,  5,  6,  1, 12, 12,  3,  1,  1,  9,  9,  5,  5, 24, 15,  1,  1,  3,  2,  3], // holds
+    [0, 12, 12,  8, 10,  6,  4,  2,  1,  3, 10,  7, 14, 10, 10,  6,  5,  6, 16,  5,  5,  2,  1,  3], // slots
+    [0,  8,  1,  2,  4,  6,  4, 16,  1,  3,  2,  1,  1,  5,  5,  6,  6, 24, 17,  1,  1,  2,  1,  3], // crowd
+    [0,  2,  1,  6,  2,  3, 24,  2,  2,  6,  4,  1,  2, 14, 23,  6,  2,  6, 13,  1,  1,  4,  2,  5], // quiet: idle runs often
+    [0,  6,  2,  3,  5,  4, 20,  4,  1,  3,  3,  1,  1, 10, 11,  9,  4,  3, 72,  1,  1,  2,  1,  4], // sleep
+    [0,  9,  1,  2,  4,  6,  9,  6,  1,  3,  3,  1,  1,  9,  9,  9,  7,  3, 72,  1,  1,  2,  1,  4], // sleep in a crowd
+    [0,  8,  2,  3,  4,  5,  5,  4,  2,  4,  2,  1,  2,  4,  4,  7,  5,  8, 16,  1,  3, 16,  6, 28], // events
 ];
 
 /// The refusals that are aimed at. The count is full only after 255 takes, which `Nest` makes.
 const AIMED: [u8; 13] = [4, 5, 6, 7, 8, 9, 10, 11, 12, 13, 14, 15, CIRCLE];
 
-/// Calls that can get each refusal that is aimed at.
+/// Calls that can get each refusal that is aimed at, some more often.
 #[rustfmt::skip]
 const CALLS_OF_ROW: [&[u32]; 18] = [
     &[], &[], &[], &[],
-    &[1, 5, 6, 10, 18],
-    &[2, 3, 4, 5, 12, 13, 14, 15, 16],
+    &[1, 5, 6, 10, 18, 18, 18, 21, 22, 23],
+    &[2, 2, 3, 3, 4, 5, 5, 12, 12, 13, 13, 14, 15, 16, 21, 22, 23],
     &[13],
-    &[2, 3, 5, 6, 13, 14, 15],
-    &[2, 3, 6, 7, 13, 14, 15, 18],
-    &[1, 10, 11, 19],
+    &[2, 3, 5, 6, 13, 14, 15, 23],
+    &[2, 3, 6, 7, 13, 14, 15, 18, 18, 23],
+    &[1, 10, 11, 19, 20],
     &[2, 12],
     &[16],
     &[15],
     &[4],
-    &[13, 14, 15],
+    &[13, 14, 15, 23],
     &[8, 9],
     &[],
     &[15],
@@ -100,6 +104,8 @@ enum Plan {
     Pair(u32, u32, (u32, u32)),
     /// One recursive mutex is taken again, waited on and given, for this many lines.
     Nest(u32, Nest),
+    /// Several wait on one event group, and bits are set and cleared, for this many lines.
+    Gate(u32, Gate),
     /// Waits that end about when the count returns to 0, for this many lines, then `Lap`.
     Await(u32),
     /// Advances up to this count, each by a task alone in its line; then `Gather`, or `Pass` over the return to 0.
@@ -284,7 +290,7 @@ impl Author {
         if self.plan == Plan::None && self.kernel().hold == 0 && self.random.below(14) == 0 {
             self.plan = self.gather_tasks();
         }
-        if self.plan == Plan::None && self.kernel().hold == 0 && self.random.below(25) == 0 {
+        if self.plan == Plan::None && self.kernel().hold == 0 && self.random.below(26) == 0 {
             self.plan = if self.random.percent(25) { self.link_tasks() } else { Plan::Clear(24, TASKS / 2) };
         }
         if self.plan == Plan::None && self.kernel().hold == 0 && self.random.below(120) == 0 {
@@ -292,18 +298,21 @@ impl Author {
             self.plan = self.stretch_tasks(links as usize);
         }
         // Long enough for a chain of all tasks.
-        if self.plan == Plan::None && self.kernel().hold == 0 && self.random.below(900) == 0 {
+        if self.plan == Plan::None && self.kernel().hold == 0 && self.random.below(800) == 0 {
             self.plan = Plan::Clear(60, MOST_LINKS);
         }
-        if self.plan == Plan::None && self.random.below(140) == 0 {
+        if self.plan == Plan::None && self.random.below(130) == 0 {
             self.plan = self.nest_a_few();
+        }
+        if self.plan == Plan::None && self.random.below(72) == 0 {
+            self.plan = self.open_a_gate();
         }
         // Long enough for a task to fill the count and give all back; mostly another does so after it.
         if self.plan == Plan::None && left > 700 && self.written >= self.nest_at {
             self.nest_at = self.written + u64::from(self.random.between(8_000, 24_000));
             self.plan = self.nest_all();
         }
-        if self.plan == Plan::None && self.random.below(300) == 0 {
+        if self.plan == Plan::None && self.random.below(210) == 0 {
             self.plan = self.fill_a_queue();
         }
         if self.plan == Plan::None && self.random.below(240) == 0 {
@@ -320,7 +329,7 @@ impl Author {
         match self.random.below(100) {
             0..=7 => self.aimed_call(),
             8..=9 => self.faulty_call(),
-            10..=15 => self.misnamed_call(),
+            10..=16 => self.misnamed_call(),
             _ => self.accepted_call(),
         }
     }
@@ -366,8 +375,8 @@ impl Author {
     fn pass_to(&mut self, due: u32) -> Plan {
         let until = due.wrapping_add(2);
         let way = match self.random.below(100) {
-            0..=42 => Way::Single,
-            43..=77 => Way::Pended,
+            0..=40 => Way::Single,
+            41..=73 => Way::Pended,
             _ if until < self.kernel().tick => Way::Pended,
             _ => Way::Advance,
         };
@@ -384,7 +393,7 @@ impl Author {
         largest.map_or(Plan::None, |object| Plan::Fill(object, 12))
     }
 
-    /// A plan for one slot: the next to be taken, or any but idle's.
+    /// A plan for one slot: the next to be taken, one that can be given up, or any but idle's.
     fn renew_a_slot(&mut self, lines: u32) -> Plan {
         let next = self.random.percent(75);
         if self.random.percent(45) {
@@ -392,9 +401,14 @@ impl Author {
             let any = self.random.pick(&slots);
             Plan::RenewTask(self.kernel().free_task().filter(|_| next).unwrap_or(any), lines)
         } else {
+            let kernel = &self.machine.kernel;
             let slots: Vec<ObjectSlot> = ObjectSlot::all().collect();
             let any = self.random.pick(&slots);
-            Plan::RenewObject(self.kernel().free_object().filter(|_| next).unwrap_or(any), lines)
+            let unused = |object: &ObjectSlot| {
+                kernel.object(*object).holder().is_none() && kernel.object(*object).waiters.is_empty()
+            };
+            let next = kernel.free_object().or_else(|| ObjectSlot::all().find(unused)).filter(|_| next);
+            Plan::RenewObject(next.unwrap_or(any), lines)
         }
     }
 
@@ -583,6 +597,7 @@ impl Author {
                 fields.filter(|fields| often && self.refusal_of(fields).is_none())
             }
             Plan::Nest(left, nest) => self.nest_call(left, nest),
+            Plan::Gate(left, gate) => self.gate_call(left, gate),
             Plan::Untie(0) => {
                 self.plan = Plan::None;
                 None
@@ -669,12 +684,18 @@ impl Author {
                 let number = self.kernel().object_number(object);
                 if !self.kernel().object(object).is_free() {
                     let own = self.kernel().object(object).holder() == Some(self.kernel().running);
-                    return self.mostly(call(&[if own { 16 } else { 12 }, number]));
+                    let waited_on = !self.kernel().object(object).waiters.is_empty();
+                    let is_group = matches!(self.kernel().object(object).kind, Kind::Group(_));
+                    return self.mostly(match (is_group && waited_on, own) {
+                        (true, _) => call(&[21, number, ALL_BITS]),
+                        (_, true) => call(&[16, number]),
+                        _ => call(&[12, number]),
+                    });
                 }
                 if self.random.percent(20) {
-                    return Some(self.freed_call(number, &[12, 13, 14, 15, 16]));
+                    return Some(self.freed_call(number, &[12, 13, 14, 15, 16, 21, 22, 23]));
                 }
-                let kind = self.random.pick(&[10, 10, 11, 19]);
+                let kind = self.random.pick(&[10, 10, 10, 11, 11, 19, 19, 20, 20, 20]);
                 let make = self.candidate(kind, 0);
                 self.mostly(make)
             }
@@ -880,7 +901,7 @@ impl Author {
     /// A delay of so many ticks, or a wait of so many on an object that makes the caller wait.
     fn begin(&mut self, wait: u32) -> Fields {
         let kernel = &self.machine.kernel;
-        let waits: Vec<(u32, u32)> = ObjectSlot::all()
+        let waits: Vec<(u32, ObjectSlot)> = ObjectSlot::all()
             .filter_map(|object| {
                 let number = match kernel.object(object).kind {
                     Kind::Queue(queue) if queue.count == queue.capacity => 13,
@@ -890,15 +911,20 @@ impl Author {
                     {
                         15
                     }
+                    Kind::Group(group) if group.bits != ALL_BITS => 23,
                     _ => return None,
                 };
-                Some((number, kernel.object_number(object)))
+                Some((number, object))
             })
             .collect();
         if waits.is_empty() || self.random.percent(45) {
             return call(&[6, wait]);
         }
         let (number, object) = self.random.pick(&waits);
+        if number == 23 {
+            return self.begin_at(object, wait);
+        }
+        let object = self.kernel().object_number(object);
         let mut fields = call(&[number, object]);
         if number == 13 {
             fields.push(self.item(object, 0));
@@ -978,7 +1004,7 @@ impl Author {
 
     /// Any call with wild arguments; often several refusals apply.
     fn faulty_call(&mut self) -> Fields {
-        let number = self.random.between(1, 19);
+        let number = self.random.between(1, 23);
         self.candidate(number, 50)
     }
 
@@ -1039,6 +1065,7 @@ impl Author {
             }
             16 => fields.push(decimal(self.object(number, wildness))),
             18 => fields.push(decimal(self.ticks(wildness))),
+            21..=23 => fields.extend(self.on_bits(number, wildness)),
             _ => {}
         }
         fields
@@ -1100,7 +1127,7 @@ impl Author {
                     (3 | 5, 40..=64) => kernel.holds_a_mutex(task),
                     (2, 40..=64) => !kernel.holds_a_mutex(task) && stand != Stand::Free,
                     (_, 65..=79) => task == kernel.running,
-                    (_, 80..=81) | (5, 82) => task == IDLE,
+                    (_, 80..=81) | (5, 82..=83) => task == IDLE,
                     _ => stand != Stand::Free && task != IDLE,
                 }
             })
@@ -1135,6 +1162,7 @@ impl Author {
                         _ => true,
                     },
                     (16, Kind::Mutex(mutex)) => choice >= 90 || mutex.holder == Some(caller),
+                    (21..=23, Kind::Group(_)) => choice >= 40 || !slot.waiters.is_empty(),
                     _ => false,
                 }
             })
@@ -1193,7 +1221,7 @@ impl Author {
             return self.random.pick(&[0, 0, 1, 65_534, 65_535, 65_536, 65_536, 65_537, 131_071, 1 << 31, FOR_EVER]);
         }
         let line = self.kernel().running_line().len() as u32;
-        let most = if line == 1 || self.random.percent(10) { MOST_ADVANCE } else { MOST_TURNS };
+        let most = if line == 1 || self.random.percent(14) { MOST_ADVANCE } else { MOST_TURNS };
         let ticks = match self.random.below(100) {
             0..=29 => self.random.between(1, 5),
             // Around the next wake, or any.

@@ -1,12 +1,13 @@
 //! The kernel value: task slots, object slots, the lines of ready tasks and the order in
 //! which delayed and waiting tasks began. Quoted sentences are document 01's, and those of
-//! requests 1 and 3 to 7 in document 02.
+//! requests 1 and 3 to 8 in document 02.
 
+use crate::groups::{Group, Wish};
 use crate::loans;
 
 /// "16 task slots, 0 to 15."
 pub const TASKS: usize = 16;
-/// "16 object slots, 0 to 15, each free, a queue or a mutex."
+/// "16 object slots, 0 to 15, each free, a queue or a mutex", or an event group.
 pub const OBJECTS: usize = 16;
 /// "each number slot + 16 × use"
 pub const SLOTS: u32 = 16;
@@ -90,6 +91,8 @@ pub enum Role {
     Sender,
     Receiver,
     Taker,
+    /// On an event group. No other waiter has a mask or flags.
+    Watcher(Wish),
 }
 
 /// "An existing task is ready, delayed, waiting on one object, or suspended."
@@ -150,6 +153,13 @@ pub struct Queue {
     pub count: u8,
 }
 
+impl Queue {
+    /// "empty, first 0"
+    pub const fn empty(capacity: u8, size: u8) -> Queue {
+        Queue { capacity, size, first: 0, count: 0 }
+    }
+}
+
 /// A mutex of either kind. They differ in how often the holder may take it.
 #[derive(Clone, Copy, PartialEq, Eq, Debug)]
 pub struct Mutex {
@@ -175,6 +185,7 @@ pub enum Kind {
     Free,
     Queue(Queue),
     Mutex(Mutex),
+    Group(Group),
 }
 
 /// "each object lists its waiters once, in order of arrival"
@@ -260,7 +271,7 @@ impl Kernel {
         (task.uses == uses && !task.is_free()).then_some(TaskSlot(slot as u8))
     }
 
-    /// The door of object numbers, for either kind.
+    /// The door of object numbers, for any kind.
     pub fn find_object(&self, number: u32) -> Option<ObjectSlot> {
         let (slot, uses) = apart(number);
         let object = &self.objects[slot];
@@ -281,6 +292,15 @@ impl Kernel {
         let object = self.find_object(number)?;
         match self.object(object).kind {
             Kind::Mutex(mutex) => Some((object, mutex)),
+            _ => None,
+        }
+    }
+
+    /// The event group of this number.
+    pub fn find_group(&self, number: u32) -> Option<(ObjectSlot, Group)> {
+        let object = self.find_object(number)?;
+        match self.object(object).kind {
+            Kind::Group(group) => Some((object, group)),
             _ => None,
         }
     }
@@ -423,8 +443,13 @@ impl Kernel {
 
     /// "First waiter: highest effective priority, then earliest arrival."
     pub fn first_waiter(&self, object: ObjectSlot) -> Option<TaskSlot> {
+        self.first_waiter_that(object, |_| true)
+    }
+
+    /// The same among those who are meant.
+    pub fn first_waiter_that(&self, object: ObjectSlot, is_meant: impl Fn(TaskSlot) -> bool) -> Option<TaskSlot> {
         let mut first: Option<TaskSlot> = None;
-        for &waiter in &self.object(object).waiters {
+        for &waiter in self.object(object).waiters.iter().filter(|&&waiter| is_meant(waiter)) {
             match first {
                 Some(best) if self.task(best).effective >= self.task(waiter).effective => {}
                 _ => first = Some(waiter),
@@ -433,12 +458,17 @@ impl Kernel {
         first
     }
 
-    /// The first waiter leaves the object "and is made ready, outcome 1".
-    pub fn wake_first_waiter(&mut self, object: ObjectSlot) -> Option<TaskSlot> {
-        let waiter = self.first_waiter(object)?;
+    /// A waiter leaves its object "and is made ready, outcome 1".
+    pub fn wake_waiter(&mut self, waiter: TaskSlot) {
         self.leave_wait(waiter);
         self.task_mut(waiter).outcome = Outcome::Done;
         self.make_ready(waiter);
+    }
+
+    /// The same for the first waiter.
+    pub fn wake_first_waiter(&mut self, object: ObjectSlot) -> Option<TaskSlot> {
+        let waiter = self.first_waiter(object)?;
+        self.wake_waiter(waiter);
         Some(waiter)
     }
 

@@ -1,4 +1,4 @@
-//! A second opinion on the kernel of document 01 and requests 1 and 3 to 7 of document 02, written from these and
+//! A second opinion on the kernel of document 01 and requests 1 and 3 to 8 of document 02, written from these and
 //! the readings in docs/DECISIONS.md.
 
 pub mod again_events;
@@ -9,6 +9,9 @@ pub mod circle_events;
 pub mod coverage;
 pub mod damage;
 pub mod filter;
+pub mod group_check;
+pub mod group_events;
+pub mod groups;
 pub mod journal;
 pub mod kernel;
 pub mod line;
@@ -18,5 +21,6 @@ pub mod machine;
 pub mod random;
 pub mod refusals;
 pub mod retire;
+pub mod set_events;
 pub mod store;
 pub mod wrap;

@@ -66,6 +66,22 @@ impl Reader<'_> {
         Some(digits / 2)
     }
 
+    /// The arguments of a call of this number, 20 to 23.
+    fn call_on_bits(&mut self, number: u32) -> Option<Call<'static>> {
+        Some(match number {
+            20 => Call::MakeGroup,
+            21 => Call::SetBits { object: self.argument()?, bits: self.argument()? },
+            22 => Call::ClearBits { object: self.argument()?, bits: self.argument()? },
+            _ => Call::WaitBits {
+                object: self.argument()?,
+                mask: self.argument()?,
+                all: self.argument()?,
+                clear: self.argument()?,
+                wait: self.argument()?,
+            },
+        })
+    }
+
     /// "then a newline"; "a byte after its newline makes it refusal 3"
     fn end(&mut self) -> Option<()> {
         self.expect(b'\n')?;
@@ -138,6 +154,7 @@ pub fn read_call<'a>(line: &[u8], item: &'a mut [u8; ITEM_BYTES]) -> Option<Call
         17 => Call::Tick,
         18 => Call::Advance { ticks: r.argument()? },
         19 => Call::MakeRecursiveMutex,
+        number @ 20..=23 => r.call_on_bits(number)?,
         _ => return None,
     };
     reader.end()?;

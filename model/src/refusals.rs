@@ -7,6 +7,7 @@
 
 use crate::calls::{Call, Named};
 use crate::chains::leads_back;
+use crate::groups::{Wish, ALL_BITS};
 use crate::kernel::{
     Kernel, Kind, Mutex, ObjectSlot, Stand, TaskSlot, FOR_EVER, IDLE, MOST_ADVANCE, MOST_CAPACITY, MOST_HOLD,
     MOST_ITEM, MOST_PENDED, MOST_PRODUCT, MOST_TAKES, PRIORITIES,
@@ -32,6 +33,16 @@ fn bad_priority(priority: u32) -> bool {
 
 fn bad_queue(capacity: u32, size: u32) -> bool {
     !(1..=MOST_CAPACITY).contains(&capacity) || size > MOST_ITEM || capacity * size > MOST_PRODUCT
+}
+
+/// "bits above the 24"
+fn bad_bits(bits: u32) -> bool {
+    bits > ALL_BITS
+}
+
+/// "bits above the 24, a flag above 1 or an empty wait mask"
+fn bad_wish(mask: u32, all: u32, clear: u32) -> bool {
+    bad_bits(mask) || mask == 0 || all > 1 || clear > 1
 }
 
 /// The refusal of this call, if it is turned away.
@@ -70,7 +81,9 @@ pub fn refusal(kernel: &Kernel, store: &[u8], call: &Call) -> Option<u8> {
         Call::MakeQueue { capacity, size } => {
             first_of(&[(4, bad_queue(capacity, size)), (9, kernel.free_object().is_none())])
         }
-        Call::MakeMutex | Call::MakeRecursiveMutex => first_of(&[(9, kernel.free_object().is_none())]),
+        Call::MakeMutex | Call::MakeRecursiveMutex | Call::MakeGroup => {
+            first_of(&[(9, kernel.free_object().is_none())])
+        }
         Call::Remove { object } => {
             let Some(object) = kernel.find_object(object) else { return Some(5) };
             let object = kernel.object(object);
@@ -108,7 +121,26 @@ pub fn refusal(kernel: &Kernel, store: &[u8], call: &Call) -> Option<u8> {
         }
         Call::Tick => first_of(&[(16, held && kernel.pended == MOST_PENDED)]),
         Call::Advance { ticks } => first_of(&[(4, !(1..=MOST_ADVANCE).contains(&ticks)), (8, held)]),
+        Call::SetBits { object, bits } | Call::ClearBits { object, bits } => {
+            first_of(&[(4, bad_bits(bits)), (5, kernel.find_group(object).is_none())])
+        }
+        Call::WaitBits { object, mask, all, clear, wait } => {
+            if bad_wish(mask, all, clear) {
+                return Some(4);
+            }
+            refusal_of_wait(kernel, object, Wish { mask, all: all == 1, clear: clear == 1 }, wait)
+        }
     }
+}
+
+/// The refusal of a wait on an event group whose numbers are in range: "all others as for queues".
+fn refusal_of_wait(kernel: &Kernel, object: u32, wish: Wish, wait: u32) -> Option<u8> {
+    let Some((_, group)) = kernel.find_group(object) else { return Some(5) };
+    first_of(&[
+        (7, wait != 0 && kernel.running == IDLE),
+        (8, wait != 0 && kernel.hold > 0),
+        (14, wait == 0 && !wish.satisfied_by(group.bits)),
+    ])
 }
 
 /// The same, read off the table: the first row that applies.
@@ -124,7 +156,8 @@ fn row_applies(row: u8, kernel: &Kernel, store: &[u8], call: &Call) -> bool {
         // "the store is not 9,216 bytes long"
         2 => store.len() != STORE_BYTES,
         // "priority, capacity, size or product out of range; delay of 4,294,967,295"; request
-        // 4: "4 for n out of range"
+        // 4: "4 for n out of range"; request 8: "4 for bits above the 24, a flag above 1 or an empty
+        // wait mask"
         4 => match *call {
             Call::Create { priority } | Call::SetPriority { priority, .. } => priority > 31,
             Call::MakeQueue { capacity, size } => {
@@ -132,6 +165,10 @@ fn row_applies(row: u8, kernel: &Kernel, store: &[u8], call: &Call) -> bool {
             }
             Call::Delay { ticks } => ticks == 4_294_967_295,
             Call::Advance { ticks } => ticks == 0 || ticks > 65_535,
+            Call::SetBits { bits, .. } | Call::ClearBits { bits, .. } => bits >> 24 != 0,
+            Call::WaitBits { mask, all, clear, .. } => {
+                !(1..1 << 24).contains(&mask) || [all, clear].iter().any(|flag| ![0, 1].contains(flag))
+            }
             _ => false,
         },
         // "task or object number names none, or an object of the wrong kind"; "5 covers a
@@ -154,7 +191,9 @@ fn row_applies(row: u8, kernel: &Kernel, store: &[u8], call: &Call) -> bool {
             Call::Delete { task } | Call::Suspend { task } => is_idle(task),
             Call::SetPriority { task, priority } => is_idle(task) && priority != 0,
             Call::Delay { .. } | Call::Take { .. } => caller == IDLE,
-            Call::Send { wait, .. } | Call::Receive { wait, .. } => caller == IDLE && wait != 0,
+            Call::Send { wait, .. } | Call::Receive { wait, .. } | Call::WaitBits { wait, .. } => {
+                caller == IDLE && wait != 0
+            }
             _ => false,
         },
         // "with a hold: delay, yield, any wait other than 0, delete or suspend of the
@@ -163,7 +202,10 @@ fn row_applies(row: u8, kernel: &Kernel, store: &[u8], call: &Call) -> bool {
             kernel.hold != 0
                 && match *call {
                     Call::Delay { .. } | Call::Yield | Call::Advance { .. } => true,
-                    Call::Send { wait, .. } | Call::Receive { wait, .. } | Call::Take { wait, .. } => wait != 0,
+                    Call::Send { wait, .. }
+                    | Call::Receive { wait, .. }
+                    | Call::Take { wait, .. }
+                    | Call::WaitBits { wait, .. } => wait != 0,
                     Call::Delete { task } | Call::Suspend { task } => is_caller(task),
                     _ => false,
                 }
@@ -171,7 +213,7 @@ fn row_applies(row: u8, kernel: &Kernel, store: &[u8], call: &Call) -> bool {
         // "create or make with no free slot"; "9 means no slot that may still be used"
         9 => match *call {
             Call::Create { .. } => kernel.tasks.iter().all(|task| !task.is_free() || task.uses == 65_536),
-            Call::MakeQueue { .. } | Call::MakeMutex | Call::MakeRecursiveMutex => {
+            Call::MakeQueue { .. } | Call::MakeMutex | Call::MakeRecursiveMutex | Call::MakeGroup => {
                 kernel.objects.iter().all(|object| !object.is_free() || object.uses == 65_536)
             }
             _ => false,
@@ -211,8 +253,11 @@ fn row_applies(row: u8, kernel: &Kernel, store: &[u8], call: &Call) -> bool {
             }
             _ => false,
         },
-        // "wait 0 where the caller would have to wait"
+        // "wait 0 where the caller would have to wait"; request 8: "14 with wait 0 unsatisfied"
         14 => match *call {
+            Call::WaitBits { object, mask, all, wait: 0, .. } => {
+                kernel.find_group(object).is_some_and(|(_, group)| !has_bits(group.bits, mask, all == 1))
+            }
             Call::Send { object, wait: 0, .. } => {
                 kernel.find_queue(object).is_some_and(|(_, queue)| queue.count == queue.capacity)
             }
@@ -247,6 +292,17 @@ fn object_of(kernel: &Kernel, number: u32) -> Option<Kind> {
         .map(|object| kernel.object(object).kind)
 }
 
+/// "any bit of the mask or all of them", bit by bit.
+pub fn has_bits(bits: u32, mask: u32, all: bool) -> bool {
+    let is_set = |bit: u32| bits >> bit & 1 == 1;
+    let mut asked = (0..24).filter(|bit| mask >> bit & 1 == 1);
+    if all {
+        asked.all(is_set)
+    } else {
+        asked.any(is_set)
+    }
+}
+
 /// The mutex that this call takes, if the caller is its holder.
 fn own_take(kernel: &Kernel, call: &Call) -> Option<Mutex> {
     let Call::Take { object, .. } = *call else { return None };
@@ -258,6 +314,7 @@ fn fits(call: &Call, kind: Kind) -> bool {
     match call {
         Call::Send { .. } | Call::Receive { .. } => matches!(kind, Kind::Queue(_)),
         Call::Take { .. } | Call::Give { .. } => matches!(kind, Kind::Mutex(_)),
+        Call::SetBits { .. } | Call::ClearBits { .. } | Call::WaitBits { .. } => matches!(kind, Kind::Group(_)),
         _ => true,
     }
 }

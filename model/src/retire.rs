@@ -62,28 +62,32 @@ fn retire_a_task(text: &mut String) {
     call(text, &[1, 3]);
 }
 
+/// Two or three of these fit what the number names: a queue's, a mutex's or a group's.
+fn calls_of_each_kind(text: &mut String, object: u32) {
+    send(text, object);
+    call(text, &[14, object, 0]);
+    call(text, &[15, object, 0]);
+    call(text, &[16, object]);
+    call(text, &[21, object, 7]);
+    call(text, &[22, object, 4]);
+    call(text, &[23, object, 3, 1, 1, 0]);
+}
+
 fn retire_an_object(text: &mut String) {
     for _ in 0..OBJECT_SLOT {
         call(text, &[11]);
     }
     for uses in 0..=LAST_USE {
         let object = number_of(OBJECT_SLOT, uses);
-        // A queue and a mutex by turns; from one such use to the next the mutex is of the other kind.
-        let mutex = [if (uses / EACH).is_multiple_of(2) { 11 } else { 19 }];
-        call(text, if uses % 2 == 0 { &[10, 2, 1][..] } else { &mutex });
+        // A queue and another kind by turns; from one such use to the next that is a mutex of either kind or a group.
+        let other = [[11, 19, 20][(uses / EACH % 3) as usize]];
+        call(text, if uses % 2 == 0 { &[10, 2, 1][..] } else { &other });
         if uses % EACH < 2 || uses == LAST_USE {
             for wrong in others(uses).map(|wrong| number_of(OBJECT_SLOT, wrong)) {
-                send(text, wrong);
-                call(text, &[14, wrong, 0]);
-                call(text, &[15, wrong, 0]);
-                call(text, &[16, wrong]);
+                calls_of_each_kind(text, wrong);
                 call(text, &[12, wrong]);
             }
-            // One pair fits the queue, the other the mutex.
-            send(text, object);
-            call(text, &[14, object, 0]);
-            call(text, &[15, object, 0]);
-            call(text, &[16, object]);
+            calls_of_each_kind(text, object);
         }
         call(text, &[12, object]);
     }
@@ -93,10 +97,12 @@ fn retire_an_object(text: &mut String) {
     // None at once; slot 9 once given up; then none again.
     call(text, &[11]);
     call(text, &[19]);
+    call(text, &[20]);
     call(text, &[10, 2, 1]);
     call(text, &[12, 9]);
-    call(text, &[10, 2, 1]);
+    call(text, &[20]);
     call(text, &[10, 2, 1]);
     call(text, &[11]);
     call(text, &[19]);
+    call(text, &[20]);
 }

@@ -213,14 +213,14 @@ fn a_wrong_store_stands_first() {
 #[test]
 fn no_other_line_is_a_call_18() {
     for line in
-        ["18", "18\t", "18\t1\t", "18\t1\t1", "18\t01", "18\t-1", "18\t4294967296", "18 1", "018\t1", "19\t1", "20"]
+        ["18", "18\t", "18\t1\t", "18\t1\t1", "18\t01", "18\t-1", "18\t4294967296", "18 1", "018\t1", "19\t1", "24"]
     {
         assert_eq!(answers(format!("{line}\n").as_bytes()), b"no\t3\t0\n", "{line}");
     }
     assert_eq!(answers(b"18\t1"), b"no\t3\t0\n");
-    for call in 20..=40 {
-        let lines = format!("{call}\n{call}\t1\n{call}\t1\t1\n");
-        assert_eq!(answers(lines.as_bytes()), b"no\t3\t0\n".repeat(3), "{call}");
+    for call in 24..=40 {
+        let lines = format!("{call}\n{call}\t1\n{call}\t1\t1\n{call}\t1\t1\t1\t1\t1\n");
+        assert_eq!(answers(lines.as_bytes()), b"no\t3\t0\n".repeat(4), "{call}");
     }
 }
 

@@ -440,7 +440,7 @@ fn a_free_one_is_taken_at_count_1_by_anyone() {
 #[test]
 fn counts_beside_a_list_of_takes() {
     let (mut again, mut full, mut inner, mut handed_on) = (0, 0, 0, 0);
-    for seed in 7_000..7_025 {
+    for seed in 7_000..7_035 {
         let mut machine = Machine::new(false);
         let mut takes: BTreeMap<u32, Vec<u32>> = BTreeMap::new();
         for line in journal(seed, 6_000).split_inclusive(|&byte| byte == b'\n') {

@@ -6,7 +6,8 @@ use common::answers;
 use std::fs;
 
 const EXAMPLES: &str = concat!(env!("CARGO_MANIFEST_DIR"), "/../examples");
-const NAMES: [&str; 9] = ["milking", "loan", "chain", "standstill", "calibration", "timeout", "old-number", "meters", "night"];
+const NAMES: [&str; 10] =
+    ["milking", "loan", "chain", "standstill", "calibration", "gate", "timeout", "old-number", "meters", "night"];
 
 fn read(file: &str) -> String {
     fs::read_to_string(format!("{EXAMPLES}/{file}")).unwrap_or_else(|error| panic!("{file}: {error}"))

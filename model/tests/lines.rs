@@ -21,7 +21,7 @@ fn empty_input_answers_nothing() {
 
 #[test]
 fn lines_that_are_no_call() {
-    let lines: [&[u8]; 52] = [
+    let lines: [&[u8]; 75] = [
         b"\n",
         b" \n",
         b"\t\n",
@@ -37,8 +37,31 @@ fn lines_that_are_no_call() {
         b"19\t1\t1\n",
         b"019\n",
         b"19 \n",
-        b"20\n",
+        b"20\t\n",
         b"20\t1\n",
+        b"020\n",
+        b"20 \n",
+        b"21\n",
+        b"21\t0\n",
+        b"21\t0\t\n",
+        b"21\t0\t01\n",
+        b"21\t0\tff\n",
+        b"21\t0\t1\t1\n",
+        b"21\t0\t4294967296\n",
+        b"22\n",
+        b"22\t0\n",
+        b"22\t0\t1\t\n",
+        b"22\t0\t-1\n",
+        b"22\t0 1\n",
+        b"23\n",
+        b"23\t0\t1\t0\t0\n",
+        b"23\t0\t1\t0\t0\t\n",
+        b"23\t0\t1\t0\t0\t0\t0\n",
+        b"23\t0\t1\t00\t0\t0\n",
+        b"23\t0\t1\t0\t\t0\n",
+        b"23\t0\t1\t0\t4294967296\t0\n",
+        b"24\n",
+        b"24\t1\n",
         b"99\n",
         b"017\n",
         b"00\n",
@@ -87,6 +110,9 @@ fn lines_that_are_no_call() {
 fn the_largest_numbers_are_read() {
     assert_eq!(answers(b"2\t4294967295\n1\t0\n"), b"no\t5\t0\nok\t1\t0\n");
     assert_eq!(answers(b"13\t4294967295\t\t4294967295\n"), b"no\t5\t0\n");
+    assert_eq!(answers(b"21\t4294967295\t16777215\n22\t0\t4294967295\n"), b"no\t5\t0\nno\t4\t0\n");
+    let wait = b"20\n23\t4294967295\t16777215\t1\t1\t4294967295\n23\t0\t1\t4294967295\t4294967295\t0\n";
+    assert_eq!(answers(wait), b"ok\t0\t0\nno\t5\t0\nno\t4\t0\n");
 }
 
 #[test]
@@ -170,8 +196,18 @@ fn answers_do_not_depend_on_how_the_input_is_cut() {
 
 #[test]
 fn damaged_lines_are_no_calls() {
-    let drafts: [&[&str]; 7] =
-        [&["17"], &["1", "3"], &["5", "1", "2"], &["13", "0", "0a0b", "5"], &["15", "0", "0"], &["18", "7"], &["19"]];
+    let drafts: [&[&str]; 10] = [
+        &["17"],
+        &["1", "3"],
+        &["5", "1", "2"],
+        &["13", "0", "0a0b", "5"],
+        &["15", "0", "0"],
+        &["18", "7"],
+        &["19"],
+        &["20"],
+        &["21", "0", "7"],
+        &["23", "0", "7", "1", "0", "5"],
+    ];
     let mut random = Random::new(1);
     for kind in damage::KINDS {
         for round in 0..500 {

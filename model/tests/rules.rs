@@ -15,6 +15,8 @@ fn a_wrong_store_is_refused_on_every_call() {
         assert_eq!(step(&mut kernel, &mut store, &Call::Yield), Answer::Refused(2));
         assert_eq!(step(&mut kernel, &mut store, &Call::Create { priority: 99 }), Answer::Refused(2));
         assert_eq!(step(&mut kernel, &mut store, &Call::MakeRecursiveMutex), Answer::Refused(2));
+        assert_eq!(step(&mut kernel, &mut store, &Call::MakeGroup), Answer::Refused(2));
+        assert_eq!(step(&mut kernel, &mut store, &Call::SetBits { object: 9, bits: u32::MAX }), Answer::Refused(2));
     }
     assert_eq!(kernel, Kernel::fresh());
 }

@@ -4,6 +4,7 @@ mod common;
 
 use common::{held_by, object, order_of, session, task};
 use model::check::soundness;
+use model::groups::{Group, Wish, ALL_BITS};
 use model::kernel::{Kernel, Kind, Mutex, Outcome, Queue, Role, Stand};
 
 /// Task 1 (priority 3, holds mutex 0) runs; task 2 (5) waits on it; task 3 (4) is ready;
@@ -47,6 +48,10 @@ const CIRCLE: &str = "there is no circle";
 const COUNT: &str = "the count of a held mutex is 1 to 255, of an ordinary one 1";
 const NO_COUNT: &str = "a free mutex has no count";
 const LOANS: &str = "effective is what the rule of loans says";
+const BITS: &str = "an event group has 24 bits";
+const MASK: &str = "a waiter on an event group has a mask that the call accepts";
+const UNSATISFIED: &str = "waiters stand only where unsatisfied";
+const FITS: &str = "a waiter fits its object";
 const MOST: &str = "a use is at most 65,536";
 const MOST_TAKEN: &str = "in a taken slot 65,535";
 
@@ -56,6 +61,108 @@ fn queue(capacity: u8, size: u8, first: u8, count: u8) -> Kind {
 
 fn mutex(recursive: bool, holder: Option<usize>, count: u32) -> Kind {
     Kind::Mutex(Mutex { recursive, holder: holder.map(task), count })
+}
+
+fn group(bits: u32) -> Kind {
+    Kind::Group(Group { bits })
+}
+
+/// Task 1 (3) runs and holds mutex 2. Event group 0 has bits 1 and 16; task 2 (5) waits on it for all of 3, task 3 (6)
+/// for any of 12, and task 4 (9) on the empty queue 1.
+fn gated() -> Kernel {
+    session(
+        "20 -> ok 0 0
+         10 2 1 -> ok 1 0
+         11 -> ok 2 0
+         21 0 17 -> ok 0 0
+         1 3 -> ok 1 1
+         15 2 0 -> ok 0 1
+         1 5 -> ok 2 2
+         23 0 3 1 1 7 -> wait 0 1
+         1 6 -> ok 3 3
+         23 0 12 0 0 4294967295 -> wait 0 1
+         1 9 -> ok 4 4
+         14 1 9 -> wait 0 1",
+    )
+    .kernel
+}
+
+/// The kernel with this task waiting for something else, on the same object.
+fn set_role(kernel: &mut Kernel, slot: usize, new: Role) {
+    if let Stand::Waiting { role, .. } = &mut kernel.tasks[slot].stand {
+        *role = new;
+    }
+}
+
+fn set_wish(kernel: &mut Kernel, slot: usize, mask: u32, all: bool, clear: bool) {
+    set_role(kernel, slot, Role::Watcher(Wish { mask, all, clear }));
+}
+
+#[test]
+fn waiters_on_an_event_group_are_sound_where_unsatisfied_alone() {
+    assert_eq!(soundness(&gated()), Ok(()));
+    for mask in [1, 2, 3, 16, 17, 18, 1 << 23, (1 << 23) + 1, ALL_BITS - 17, ALL_BITS] {
+        for (all, clear) in [(false, false), (false, true), (true, false), (true, true)] {
+            let mut kernel = gated();
+            set_wish(&mut kernel, 3, mask, all, clear);
+            let satisfied = if all { mask & !17 == 0 } else { mask & 17 != 0 };
+            let verdict = if satisfied { Err(UNSATISFIED.to_string()) } else { Ok(()) };
+            assert_eq!(soundness(&kernel), verdict, "{mask} {all} {clear}");
+        }
+    }
+    // Any bits are sound where nobody waits.
+    for bits in [0, 1, 17, 1 << 23, ALL_BITS] {
+        let mut kernel = gated();
+        kernel.objects[3].kind = group(bits);
+        assert_eq!(soundness(&kernel), Ok(()), "{bits}");
+    }
+}
+
+#[test]
+fn each_breach_of_event_groups_is_found() {
+    let breaches: [Breach; 26] = [
+        ("a 25th bit", BITS, |k| k.objects[0].kind = group(1 << 24)),
+        ("a 25th bit, nobody waits", BITS, |k| k.objects[3].kind = group(1 << 24)),
+        ("the 32nd bit", BITS, |k| k.objects[3].kind = group(1 << 31)),
+        ("all 32 bits", BITS, |k| k.objects[3].kind = group(u32::MAX)),
+        ("an empty mask, all", MASK, |k| set_wish(k, 2, 0, true, false)),
+        ("an empty mask, any", MASK, |k| set_wish(k, 3, 0, false, true)),
+        ("a mask of the 25th bit", MASK, |k| set_wish(k, 2, 1 << 24, true, true)),
+        ("a mask with the 25th bit", MASK, |k| set_wish(k, 3, (1 << 24) + 4, false, false)),
+        ("a mask with the 32nd bit", MASK, |k| set_wish(k, 3, (1 << 31) + 2, true, false)),
+        ("satisfied by all", UNSATISFIED, |k| k.objects[0].kind = group(3)),
+        ("satisfied by all and more", UNSATISFIED, |k| k.objects[0].kind = group(19)),
+        ("satisfied by any", UNSATISFIED, |k| k.objects[0].kind = group(4)),
+        ("satisfied by all of any", UNSATISFIED, |k| k.objects[0].kind = group(12)),
+        ("satisfied by every bit", UNSATISFIED, |k| k.objects[0].kind = group(ALL_BITS)),
+        ("a receiver on an event group", FITS, |k| set_role(k, 2, Role::Receiver)),
+        ("a sender on an event group", FITS, |k| set_role(k, 3, Role::Sender)),
+        ("a taker on an event group", FITS, |k| set_role(k, 3, Role::Taker)),
+        ("a mask of a waiter on a queue", FITS, |k| set_wish(k, 4, 3, true, true)),
+        ("a mask of a waiter on a mutex", FITS, |k| k.objects[0].kind = held_by(1)),
+        ("a mask of a waiter on a free mutex", FITS, |k| k.objects[0].kind = mutex(true, None, 0)),
+        ("a mask of a waiter on a free slot", FITS, |k| k.objects[0].kind = Kind::Free),
+        ("waiter not listed", "each object lists its waiters", |k| k.objects[0].waiters.truncate(1)),
+        ("another listed", "and no one else", |k| k.objects[0].waiters.push(task(4))),
+        ("waiters swapped in the order", ORDER_AGREES, |k| k.began.swap(0, 1)),
+        ("outcome of a waiter", OUTCOME, |k| k.tasks[2].outcome = Outcome::Done),
+        ("wake tick is the count", "no wake tick of a delayed or waiting task equals the tick count", |k| k.tick = 7),
+    ];
+    for (name, sentence, breach) in breaches {
+        let mut kernel = gated();
+        breach(&mut kernel);
+        assert_eq!(soundness(&kernel), Err(sentence.to_string()), "{name}");
+    }
+}
+
+/// It "lends no priority": with a loan to a holder of anything the kernel is not sound.
+#[test]
+fn a_wait_on_an_event_group_lends_nothing() {
+    for effective in [4, 5, 6] {
+        let mut kernel = gated();
+        kernel.set_effective(task(1), effective);
+        assert_eq!(soundness(&kernel), Err(LOANS.to_string()), "{effective}");
+    }
 }
 
 #[test]
@@ -191,7 +298,7 @@ fn each_breach_is_found() {
         ("sender on a queue with room", "senders only on a full one", |k| {
             k.tasks[5].stand = Stand::Waiting { object: object(1), role: Role::Sender, wake: None }
         }),
-        ("taker on a free mutex", "a waiter fits its object", |k| {
+        ("taker on a free mutex", FITS, |k| {
             k.objects[0].kind = Kind::Mutex(Mutex::free(false));
             k.tasks[1].own = 5;
         }),
@@ -238,7 +345,7 @@ fn each_breach_is_found() {
         ("count 1 of nobody", NO_COUNT, |k| k.objects[2].kind = mutex(true, None, 1)),
         ("count 255 of nobody", NO_COUNT, |k| k.objects[2].kind = mutex(true, None, 255)),
         ("count of nobody, ordinary mutex", NO_COUNT, |k| k.objects[2].kind = mutex(false, None, 1)),
-        ("taker on a free recursive mutex", "a waiter fits its object", |k| {
+        ("taker on a free recursive mutex", FITS, |k| {
             k.objects[0].kind = mutex(true, None, 0);
             k.tasks[1].own = 5;
         }),

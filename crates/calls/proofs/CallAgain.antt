@@ -12,6 +12,7 @@ use borrow.Author.Tests.{eqb-true, leb-true}
 use Rattle.lists.specs.Lists.{any, index, every, allBelow}
 use Rattle.lists.proofs.Bools.{at, all-below, or-second}
 use Rattle.calls.specs.Types.{Call, Create, Delete, Suspend, Resume, SetPriority, Delay, Yield, Hold, Release, MakeQueue, MakeMutex, Remove, Send, Receive, Take, Give, Tick, Advance, MakeRecursive}
+use Rattle.calls.specs.Types.{MakeGroup, SetBits, ClearBits, Await}
 use Rattle.calls.specs.Types.{Uses, Names, Shape, Frame, Asked}
 use Rattle.calls.specs.Table.{called, word, entries, callOf}
 use Rattle.calls.specs.Behind.{asked}
@@ -46,19 +47,19 @@ module _ {A : Type 0} (f : Call → A) (g : List ℕ → Shape → A)
 -- ---- the number
 
 -- a number past the table is no call's
-pub known-below : (n : ℕ) → shapeOf n .known ≡ true → n < 20
+pub known-below : (n : ℕ) → shapeOf n .known ≡ true → n < 24
 unfolding shapeOf index any
 known-below n k =
-    ⊎-elim (λ (l : n < 20). l)
-    (λ (l : 20 ≤ n). absurd (false≢true (sym (ap (λ (s : Shape). s .known) (List·getD-eq-default shapes unknown {n = n} l)) ∙ k)))
-    (below-or n 20)
+    ⊎-elim (λ (l : n < 24). l)
+    (λ (l : 24 ≤ n). absurd (false≢true (sym (ap (λ (s : Shape). s .known) (List·getD-eq-default shapes unknown {n = n} l)) ∙ k)))
+    (below-or n 24)
 
 -- the number of a shape that is known is the call's
 pub row-number : (n : ℕ) (ws : List ℕ) → shapeOf n .known ≡ true → called (callOf n ws) .number ≡ n
 unfolding shapeOf callOf allBelow index any
 row-number n ws k =
     let t : (not (shapeOf n .known) || eqb (numbered n) n) ≡ true =
-    all-below 20 (λ m. not (shapeOf m .known) || eqb (numbered m) m) refl n (known-below n k) in
+    all-below 24 (λ m. not (shapeOf m .known) || eqb (numbered m) m) refl n (known-below n k) in
     sym (List·getD-map (λ c. called c .number) (entries ws) n Tick)
     ∙ eqb-true (numbered n) n (or-second (not (shapeOf n .known)) (eqb (numbered n) n) t (rw k refl))
   where
@@ -117,6 +118,10 @@ call-again (Give o) = again _ _ _ refl refl refl
 call-again Tick = again _ _ _ refl refl refl
 call-again (Advance n) = again _ _ _ refl refl refl
 call-again MakeRecursive = again _ _ _ refl refl refl
+call-again MakeGroup = again _ _ _ refl refl refl
+call-again (SetBits o b) = again _ _ _ refl refl refl
+call-again (ClearBits o b) = again _ _ _ refl refl refl
+call-again (Await o m a c w) = again _ _ _ refl refl refl
 
 pub frame-five : (c : Call) → length (frameOf c .words) ≡ 5
 frame-five c = length-sets noWords 0 (numbersIn (fieldsOf c))
@@ -141,7 +146,7 @@ module _ {A : Type 0} (f g : Call → A)
 
 module _ (us : Uses) where
   abbrev askedIn : Frame → Asked
-  askedIn f = askedBy us (f .names) (f .number) (word (f .words) 0) (word (f .words) 1)
+  askedIn f = askedBy us (f .names) (f .number) (f .words)
 
   asked-frame : (c : Call) → askedIn (frameOf c) ≡ asked us c
   unfolding asked
@@ -149,6 +154,6 @@ module _ (us : Uses) where
 
   -- by what the code found in the frame
   pub asked-by : (c : Call) (f : Frame) (m : Names) → f ≡ frameOf c → f .names ≡ m
-      → askedBy us m (f .number) (word (f .words) 0) (word (f .words) 1) ≡ asked us c
+      → askedBy us m (f .number) (f .words) ≡ asked us c
   asked-by c f m e h =
-      ap (λ (n : Names). askedBy us n (f .number) (word (f .words) 0) (word (f .words) 1)) (sym h) ∙ ap askedIn e ∙ asked-frame c
+      ap (λ (n : Names). askedBy us n (f .number) (f .words)) (sym h) ∙ ap askedIn e ∙ asked-frame c

@@ -1,16 +1,18 @@
 -- The table of calls: "Call numbers 1 to 17, arguments in this order"; "call 18, advance: n ticks", "call 19, make recursive mutex".
+-- Of event groups: "Calls, with arguments: 20 make; 21 set bits: object, bits; 22 clear bits: object, bits; 23 wait: object, mask, all, clear, wait".
 use Prim.Native.Nat.{ℕ}
 use mathlib.Core.List.{List, [], _∷_}
 use lib.ListN.{getD}
 use Rattle.calls.specs.Types.{TaskNo, ObjNo, Call, Create, Delete, Suspend, Resume, SetPriority, Delay, Yield, Hold, Release}
-use Rattle.calls.specs.Types.{MakeQueue, MakeMutex, Remove, Send, Receive, Take, Give, Tick, Advance, MakeRecursive}
+use Rattle.calls.specs.Types.{MakeQueue, MakeMutex, Remove, Send, Receive, Take, Give, Tick, Advance, MakeRecursive, MakeGroup, SetBits, ClearBits, Await}
 use Rattle.calls.specs.Named.{taskOf, objectOf}
 
 -- an argument, and what it stands for; the bytes of an item are lent beside the call
 pub data Argument : Type 0 where
   aTask : TaskNo → Argument
-  anObject aQueue aMutex : ObjNo → Argument
+  anObject aQueue aMutex aGroup : ObjNo → Argument
   aPriority someTicks aCapacity aSize aWait : ℕ → Argument
+  someBits anAll aClear : ℕ → Argument
   anItem : Argument
 
 pub record Entry : Type 0 where
@@ -41,6 +43,10 @@ called (Give o) = entry 16 (aMutex o ∷ [])
 called Tick = entry 17 []
 called (Advance n) = entry 18 (someTicks n ∷ [])
 called MakeRecursive = entry 19 []
+called MakeGroup = entry 20 []
+called (SetBits o b) = entry 21 (aGroup o ∷ someBits b ∷ [])
+called (ClearBits o b) = entry 22 (aGroup o ∷ someBits b ∷ [])
+called (Await o m a c w) = entry 23 (aGroup o ∷ someBits m ∷ anAll a ∷ aClear c ∷ aWait w ∷ [])
 
 -- a word of a call, and 0 past the last
 abbrev pub word : List ℕ → ℕ → ℕ
@@ -69,6 +75,10 @@ calls ws =
     ∷ Tick
     ∷ Advance (word ws 0)
     ∷ MakeRecursive
+    ∷ MakeGroup
+    ∷ SetBits (objectOf (word ws 0)) (word ws 1)
+    ∷ ClearBits (objectOf (word ws 0)) (word ws 1)
+    ∷ Await (objectOf (word ws 0)) (word ws 1) (word ws 2) (word ws 3) (word ws 4)
     ∷ []
 
 -- all rows, by number; no call has the number 0

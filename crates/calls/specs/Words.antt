@@ -8,11 +8,11 @@ use lib.Seq.{sets}
 use lib.Dec.{eqb}
 use Rattle.lists.specs.Choice.{if_then_else_}
 use Rattle.lists.specs.Lists.{any, index}
-use Rattle.calls.specs.Types.{Call, Uses, Names, Nothing, ATask, AnObject, AQueue, AMutex, Shape, Frame, Asked}
-use Rattle.calls.specs.Table.{Argument, aTask, anObject, aQueue, aMutex, aPriority, someTicks, aCapacity, aSize, aWait, anItem, called, calls}
+use Rattle.calls.specs.Types.{Call, Uses, Names, Nothing, ATask, AnObject, AQueue, AMutex, AGroup, Shape, Frame, Asked}
+use Rattle.calls.specs.Table.{Argument, aTask, anObject, aQueue, aMutex, aGroup, aPriority, someTicks, aCapacity, aSize, aWait, someBits, anAll, aClear, anItem, called, word, calls}
 use Rattle.calls.specs.Named.{taskOf, objectOf}
 use Rattle.calls.specs.Door.{lastIn, taskSlot, objSlot}
-use Rattle.calls.specs.Behind.{namesOf, nothing, onTask, onObject}
+use Rattle.calls.specs.Behind.{namesOf, nothing, onTask, onObject, onGroup}
 
 -- what stands for an argument: a number, or the item's bytes
 pub data Field : Type 0 where
@@ -25,11 +25,15 @@ fieldOf (aTask t) = aNumber (t .0)
 fieldOf (anObject o) = aNumber (o .0)
 fieldOf (aQueue o) = aNumber (o .0)
 fieldOf (aMutex o) = aNumber (o .0)
+fieldOf (aGroup o) = aNumber (o .0)
 fieldOf (aPriority p) = aNumber p
 fieldOf (someTicks n) = aNumber n
 fieldOf (aCapacity c) = aNumber c
 fieldOf (aSize s) = aNumber s
 fieldOf (aWait w) = aNumber w
+fieldOf (someBits b) = aNumber b
+fieldOf (anAll e) = aNumber e
+fieldOf (aClear e) = aNumber e
 fieldOf anItem = bytes
 
 -- "arguments in this order"
@@ -97,9 +101,11 @@ unnamed n a b =
     else nothing n 0 0 1 0
 
 -- what a word is follows from what the call names
-abbrev pub askedBy : Uses → Names → ℕ → ℕ → ℕ → Asked
-askedBy us Nothing n a b = unnamed n a b
-askedBy us ATask n a b = let t = taskSlot us (taskOf a) in onTask n t (lastIn (us .tasks) (t .0)) b
-askedBy us AnObject n a b = let o = objSlot us (objectOf a) in onObject n AnObject o (lastIn (us .objects) (o .0)) b
-askedBy us AQueue n a b = let o = objSlot us (objectOf a) in onObject n AQueue o (lastIn (us .objects) (o .0)) b
-askedBy us AMutex n a b = let o = objSlot us (objectOf a) in onObject n AMutex o (lastIn (us .objects) (o .0)) b
+abbrev pub askedBy : Uses → Names → ℕ → List ℕ → Asked
+askedBy us Nothing n ws = unnamed n (word ws 0) (word ws 1)
+askedBy us ATask n ws = let t = taskSlot us (taskOf (word ws 0)) in onTask n t (lastIn (us .tasks) (t .0)) (word ws 1)
+askedBy us AnObject n ws = let o = objSlot us (objectOf (word ws 0)) in onObject n AnObject o (lastIn (us .objects) (o .0)) (word ws 1)
+askedBy us AQueue n ws = let o = objSlot us (objectOf (word ws 0)) in onObject n AQueue o (lastIn (us .objects) (o .0)) (word ws 1)
+askedBy us AMutex n ws = let o = objSlot us (objectOf (word ws 0)) in onObject n AMutex o (lastIn (us .objects) (o .0)) (word ws 1)
+askedBy us AGroup n ws =
+    let o = objSlot us (objectOf (word ws 0)) in onGroup n o (lastIn (us .objects) (o .0)) (word ws 1) (word ws 2) (word ws 3) (word ws 4)

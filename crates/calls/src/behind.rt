@@ -2,7 +2,7 @@
 ghost use mathlib.Core.Path.{_≡_};
 ghost use Rattle.numbers.specs.Numbers.{task, object};
 ghost use Rattle.calls.specs.Door.{slotIn, lastIn};
-ghost use Rattle.calls.specs.Behind.{asked, nothing, onTask, onObject};
+ghost use Rattle.calls.specs.Behind.{asked, nothing, onTask, onObject, onGroup};
 ghost use Rattle.calls.specs.Words.{unnamed};
 use crate::Asked;
 use crate::Call;
@@ -30,6 +30,9 @@ impl Asked {
             capacity,
             size,
             wait: 0,
+            bits: 0,
+            all: 0,
+            clear: 0,
         }
     }
 
@@ -61,6 +64,9 @@ impl Asked {
             capacity: 1,
             size: 0,
             wait: 0,
+            bits: 0,
+            all: 0,
+            clear: 0,
         }
     }
 
@@ -79,6 +85,38 @@ impl Asked {
             capacity: 1,
             size: 0,
             wait,
+            bits: 0,
+            all: 0,
+            clear: 0,
+        }
+    }
+
+    fn on_group(
+        number: u8,
+        n: u32,
+        uses: [u16; 16],
+        bits: u32,
+        all: u32,
+        clear: u32,
+        wait: u32,
+    ) -> Asked
+        ensures { λ r. ⌜ r ≡ onGroup number (object (slotIn uses n)) (lastIn uses (slotIn uses n)) bits all clear wait ⌝ }
+    {
+        let o = ObjNo(n).slot(uses);
+        Asked {
+            number,
+            names: Names::Group,
+            task: TaskSlot(16),
+            object: o,
+            last: door::last(n, o.0),
+            priority: 0,
+            ticks: 0,
+            capacity: 1,
+            size: 0,
+            wait,
+            bits,
+            all,
+            clear,
         }
     }
 }
@@ -100,6 +138,15 @@ impl Call {
             Names::Object => Asked::on_object(f.number, Names::Object, a, objects, b),
             Names::Queue => Asked::on_object(f.number, Names::Queue, a, objects, b),
             Names::Mutex => Asked::on_object(f.number, Names::Mutex, a, objects, b),
+            Names::Group => Asked::on_group(
+                f.number,
+                a,
+                objects,
+                b,
+                f.words[2],
+                f.words[3],
+                f.words[4],
+            ),
         }
     }
 }

@@ -1,4 +1,4 @@
-// What is asked of the kernel, and what it answers: two kinds of number, the 19 calls, the four answers.
+// What is asked of the kernel, and what it answers: two kinds of number, the 23 calls, the four answers.
 mod behind;
 mod door;
 mod named;
@@ -19,7 +19,7 @@ pub struct Uses {
     pub objects: [u16; 16],
 }
 
-// The 19 calls. The bytes of a sent item are lent beside the call.
+// The 23 calls. The bytes of a sent item are lent beside the call.
 pub enum Call {
     Create(u32),
     Delete(TaskNo),
@@ -40,6 +40,10 @@ pub enum Call {
     Tick,
     Advance(u32),
     MakeRecursive,
+    MakeGroup,
+    SetBits(ObjNo, u32),
+    ClearBits(ObjNo, u32),
+    Await(ObjNo, u32, u32, u32, u32),
 }
 
 pub enum Answer {
@@ -49,13 +53,14 @@ pub enum Answer {
     Refused(u32),
 }
 
-// What a call must name: nothing, a task, an object of any kind, a queue, or a mutex.
+// What a call must name: nothing, a task, an object of any kind, a queue, a mutex, or an event group.
 pub enum Names {
     Nothing,
     Task,
     Object,
     Queue,
     Mutex,
+    Group,
 }
 
 // A call in words: its number, what it names, and the numbers among its arguments with zeros after them.
@@ -88,4 +93,7 @@ pub struct Asked {
     pub capacity: u32,
     pub size: u32,
     pub wait: u32,
+    pub bits: u32,
+    pub all: u32,
+    pub clear: u32,
 }

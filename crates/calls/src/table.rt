@@ -32,6 +32,10 @@ impl Call {
             17 => Call::Tick,
             18 => Call::Advance(a),
             19 => Call::MakeRecursive,
+            20 => Call::MakeGroup,
+            21 => Call::SetBits(ObjNo(a), b),
+            22 => Call::ClearBits(ObjNo(a), b),
+            23 => Call::Await(ObjNo(a), b, words[2], words[3], words[4]),
             _ => Call::Tick,
         }
     }

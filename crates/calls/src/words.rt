@@ -17,6 +17,16 @@ impl Frame {
             words: [a, b, 0, 0, 0],
         }
     }
+
+    fn five(number: u8, names: Names, a: u32, b: u32, c: u32, d: u32, e: u32) -> Frame
+        ensures { λ r. ⌜ r ≡ framed number names (a ∷ b ∷ c ∷ d ∷ e ∷ []) ⌝ }
+    {
+        Frame {
+            number,
+            names,
+            words: [a, b, c, d, e],
+        }
+    }
 }
 
 impl Call {
@@ -44,6 +54,10 @@ impl Call {
             Call::Tick => Frame::of(17, Names::Nothing, 0, 0),
             Call::Advance(n) => Frame::of(18, Names::Nothing, n, 0),
             Call::MakeRecursive => Frame::of(19, Names::Nothing, 0, 0),
+            Call::MakeGroup => Frame::of(20, Names::Nothing, 0, 0),
+            Call::SetBits(o, b) => Frame::of(21, Names::Group, o.0, b),
+            Call::ClearBits(o, b) => Frame::of(22, Names::Group, o.0, b),
+            Call::Await(o, m, a, c, w) => Frame::five(23, Names::Group, o.0, m, a, c, w),
         }
     }
 }
@@ -67,9 +81,10 @@ impl Shape {
         ensures { λ r. ⌜ r ≡ shapeOf number ⌝ }
     {
         match number {
-            7..=9 | 11 | 17 | 19 => Shape::plain(0),
+            7..=9 | 11 | 17 | 19..=20 => Shape::plain(0),
             1..=4 | 6 | 12 | 16 | 18 => Shape::plain(1),
-            5 | 10 | 14..=15 => Shape::plain(2),
+            5 | 10 | 14..=15 | 21..=22 => Shape::plain(2),
+            23 => Shape::plain(5),
             13 => Shape {
                 known: true,
                 before: 1,

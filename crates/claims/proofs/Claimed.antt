@@ -19,14 +19,19 @@ use Rattle.kernel.proofs.Session.end.Met as end-code
 use Rattle.journal.proofs.read_call.Met as reader-code
 use Rattle.journal.proofs.write_call.Met as writer-code
 use Rattle.journal.proofs.write_answer.Met as teller-code
+use Rattle.slots.specs.Kinds.{kindAt}
 use Rattle.rules.specs.Steps.{Stepped}
 use Rattle.kernel.specs.Stands.{shown}
 use Rattle.kernel.specs.Promises.{Is}
 use Rattle.rules.proofs.SoundSays.{sound-says}
+use Rattle.rules.proofs.SoundTables.{bits-of}
 use Rattle.kernel.proofs.Shown.{shown-of}
 use Rattle.promises.proofs.Gate.{both-sides-of-the-gate}
 use Rattle.promises.proofs.TurnedAway.{decided}
 use Rattle.promises.proofs.WholeRound.{whole-round}
+use Rattle.promises.proofs.BitByBit.{satisfied-says}
+use Rattle.promises.proofs.EventGroups.{nobody-met-so}
+use Rattle.promises.proofs.EventsCaught.{events-found, events-caught}
 use Rattle.histories.proofs.Counted.{program-counts}
 use Rattle.promises.proofs.Advances.{advance-is-ticks, advance-refused, sleeps-so}
 use Rattle.promises.proofs.Lendings.{only-the-rule}
@@ -39,11 +44,13 @@ use Rattle.histories.proofs.NeverAgain.{never-again-task, never-again-object, m
 use Rattle.histories.proofs.EarlierSteps.{each-began}
 use Rattle.histories.proofs.EarlierWakes.{woken-in-order}
 use Rattle.claims.specs.Types.{Call, Read}
-use Rattle.claims.specs.Claims.{Code, Values, Refused, Ruled, Journalled, Kept, NeverAgain, EarlierFirst, Sleeping, Lending, NoStandstill, TakenAgain, Claims}
+use Rattle.claims.specs.Claims.{Code, Values, Refused, Ruled, Journalled, Kept, NeverAgain, EarlierFirst, Sleeping, Lending, NoStandstill, TakenAgain, SeveralAtOnce, Claims}
 use Rattle.claims.proofs.Values.{test-says, says-test, full-stands}
 use Rattle.claims.proofs.Exact.{step-exactly, accepted-so, unsound-stays}
 use Rattle.claims.proofs.Lending.{rule-of-value, afresh-of-value, step-none-lent}
 use Rattle.claims.proofs.Recursion.{ordinary-on, makes-on, takes-on, gives-on, ordinary-stays, calls-count, calls-give, session-counts}
+use Rattle.claims.proofs.Events.{makes-on as makes-group-on, sets-on, clears-on, awaits-on, set-comes-to, told-on, in-any-order, no-group-on}
+use Rattle.claims.proofs.Events.{stand-unsatisfied, calls-unsatisfied, lines-unsatisfied, session-unsatisfied}
 use Rattle.claims.proofs.Standstill.{take-exactly, calls-make-none, lines-make-none, session-makes-none, circle-not-sound}
 use Rattle.claims.proofs.Unique.{line-so}
 use Rattle.claims.proofs.Fitting.{total}
@@ -166,6 +173,28 @@ taken-again =
       as-ordinary = λ k e c item s r after g. ordinary-on k e item s r after c g;
     }
 
+several-at-once : SeveralAtOnce
+several-at-once =
+    record {
+      makes = λ k e item s z r after g. makes-group-on k e item s r after z g;
+      within = λ k e o b. bits-of (kindAt (shown k .objects) o) (sound-says (shown k) e .tables .ranges o);
+      sets = λ k e n b m H item s z r after g. sets-on k e item s r after z n b H m g;
+      clears = λ k e n b m H item s z r after g. clears-on k e item s r after z n b H m g;
+      awaits = λ k e n b m all clear w H item s z r after g. awaits-on k e item s r after z n b H m all clear w g;
+      satisfied = satisfied-says;
+      wakes = λ k e n b m H few item s z r after g. set-comes-to k e item s r after z n b H m few g;
+      any-order = in-any-order;
+      nobody-met = λ k. nobody-met-so (shown k);
+      told-at-once = λ k e n b m all clear w H A M q item s z r after g. told-on k e item s r after z n b H m all clear w g A M q;
+      unsatisfied = stand-unsatisfied;
+      calls-unsatisfied = calls-unsatisfied;
+      lines-unsatisfied = lines-unsatisfied;
+      session-unsatisfied = session-unsatisfied;
+      no-group = no-group-on;
+      cases = events-found;
+      mistakes = events-caught;
+    }
+
 pub claims : Claims
 claims =
     record {
@@ -182,4 +211,5 @@ claims =
       lending = lending;
       no-standstill = no-standstill;
       taken-again = taken-again;
+      several-at-once = several-at-once;
     }

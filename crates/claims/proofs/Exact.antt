@@ -8,14 +8,18 @@ use Rattle.rules.specs.Sound.{sound}
 use Rattle.rules.specs.Steps.{step}
 use Rattle.kernel.specs.Stands.{kernelOf, shown, standing}
 use Rattle.kernel.specs.Promises.{Steps}
-use Rattle.kernel.proofs.Shown.{stays-standing}
+use Rattle.kernel.proofs.Shown.{shown-of, stays-standing}
 use Rattle.kernel.proofs.StepEnds.{stands-on, stays}
 use Rattle.promises.specs.TurnedAway.{None, notThisRow, thisRow, Exactly}
 use Rattle.promises.proofs.TurnedAway.{turned-away-exactly}
 use Rattle.claims.specs.Types.{Call, Kernel, Step}
 use Rattle.claims.specs.Values.{SoundValue, Stands}
-use Rattle.claims.specs.Exact.{ValueRefused, ValueAccepted, tableFor, ValueExactly}
+use Rattle.claims.specs.Exact.{shownStep, ValueRefused, ValueAccepted, tableFor, ValueExactly}
 use Rattle.claims.proofs.Values.{test-says}
+
+-- of a sound value the step shows what the rules say
+pub shows-step : (k : Kernel) (c : Call) (item store : List ℕ) (r : Step) (after : List ℕ) → sound (shown k) ≡ true → Steps k c item store r after → step (shown k) c item store ≡ shownStep r after
+shows-step k c item store r after e g = rw (ap shown (g .kernel ∙ stands-on k _ e) ∙ shown-of _, g .answer, g .store)
 
 module _ (k : Kernel) (c : Call) (item s : List ℕ) (r : Step) (after : List ℕ) (S : Steps k c item s r after) where
   -- what the rules say of the state that is shown

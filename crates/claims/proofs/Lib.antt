@@ -6,5 +6,6 @@ pub mod Fitting
 pub mod Reaching
 pub mod Standstill
 pub mod Recursion
+pub mod Events
 pub mod Lending
 pub mod Claimed

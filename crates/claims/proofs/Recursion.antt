@@ -12,7 +12,6 @@ use Rattle.rules.specs.Trace.{CallMade}
 use Rattle.kernel.specs.Stands.{kernelOf, shown}
 use Rattle.kernel.specs.Promises.{Steps}
 use Rattle.kernel.proofs.Shown.{shown-of}
-use Rattle.kernel.proofs.StepEnds.{stands-on}
 use Rattle.promises.specs.Program.{linesOf, program}
 use Rattle.promises.specs.Turns.{Turn}
 use Rattle.promises.specs.History.{reached}
@@ -26,11 +25,8 @@ use Rattle.histories.proofs.Counted.{counts-takes, gives-by-history, program-co
 use Rattle.claims.specs.Types.{Ordinary, Call, MakeRecursive, Take, Give, State, Kernel, Step}
 use Rattle.claims.specs.Exact.{shownStep}
 use Rattle.claims.specs.Runs.{Called, Port, CameTo}
+use Rattle.claims.proofs.Exact.{shows-step}
 use Rattle.claims.proofs.Reaching.{calls-reach}
-
--- of a sound value the step shows what the rules say
-shows-step : (k : Kernel) (c : Call) (item store : List ℕ) (r : Step) (after : List ℕ) → sound (shown k) ≡ true → Steps k c item store r after → step (shown k) c item store ≡ shownStep r after
-shows-step k c item store r after e g = rw (ap shown (g .kernel ∙ stands-on k _ e) ∙ shown-of _, g .answer, g .store)
 
 module _ (k : Kernel) (e : sound (shown k) ≡ true) (item store : List ℕ) (r : Step) (after : List ℕ) where
   pub ordinary-on : (c : Call) → Steps k c item store r after → AsOrdinary (shown k) c item store (shownStep r after)

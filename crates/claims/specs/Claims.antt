@@ -3,20 +3,27 @@ use Prim.Native.Nat.{ℕ, _≤_}
 use mathlib.Core.Path.{_≡_}
 use mathlib.Core.Bool.{Bool, true, false}
 use mathlib.Core.List.{List, [], map, _++_, _∷_}
+use lib.Bits.{bitOr}
+use lib.Dec.{eqb}
 use lib.ListN.{length, take, replicate}
-use Rattle.numbers.specs.declared.TaskSlot.{TaskSlot}
 use Rattle.calls.specs.declared.ObjNo.{ObjNo}
 use Rattle.calls.specs.Said.{said}
 use Rattle.calls.specs.Table.{called}
+use Rattle.calls.specs.Door.{objSlot}
+use Rattle.order.specs.Order.{listed}
+use Rattle.slots.specs.Kinds.{kindAt}
+use Rattle.slots.specs.Who.{WaitersOf}
+use Rattle.slots.specs.Wants.{allBits, holdsOf}
 use Rattle.journal.specs.Line.{lineOf, HasLine}
 use Rattle.journal.specs.Told.{tellsCall, refusedWith}
 use Rattle.journal.specs.Promise.{Tells, ReadsAs, WritesCall, WritesAnswer}
 use Rattle.rules.specs.Tables.{fresh}
+use Rattle.rules.specs.Lines.{those}
 use Rattle.rules.specs.Sound.{sound}
 use Rattle.rules.specs.Loans.{workedOut}
 use Rattle.rules.specs.Ticks.{sleeps}
 use Rattle.rules.specs.Sentences.{Exists, Circle, NoCircle}
-use Rattle.rules.specs.Steps.{Stepped}
+use Rattle.rules.specs.Steps.{Stepped, turnedAway}
 use Rattle.rules.specs.Trace.{CallMade}
 use Rattle.kernel.specs.Stands.{kernelOf, asRows, shown}
 use Rattle.kernel.specs.Promises.{Is, Steps, ReadsAndSteps, Answers, Closes, ticksOf, newSession}
@@ -42,6 +49,10 @@ use Rattle.promises.specs.Reached.{programCalls}
 use Rattle.promises.specs.Circles.{CirclesExactly, ChainEnds}
 use Rattle.promises.specs.Recursive.{MakesRecursive, HasOf, Has, TakesAgain, KeepsTwelve, GivesBack, AsOrdinary}
 use Rattle.promises.specs.WholeRound.{wholeRound}
+use Rattle.promises.specs.EventGroups.{SatisfiedSays, isSatisfied, SlipTold, SameTasks, AnyOrder, NobodyMet, HasBits, MakesGroup, SetsBits, ClearsBits, Accepts, MayAsk, AwaitsBits}
+use Rattle.promises.specs.EventCases.{eventCases}
+use Rattle.promises.specs.Wrong.{found, verdict}
+use Rattle.promises.specs.WrongEvents.{eventMistakes}
 use Rattle.promises.specs.Lending.{RuleHolds, Afresh, SameLoans, SameLevels, NotSlow}
 use Rattle.promises.specs.Advance.{singly, doneWith, AsTicks, AdvanceRefused, SleepsSo, FewWakings}
 use Rattle.histories.specs.ByFullNumber.{Numbered}
@@ -50,10 +61,11 @@ use Rattle.histories.specs.Uses.{UsesCount}
 use Rattle.histories.specs.Counted.{CountsTakes, GivesByHistory}
 use Rattle.histories.specs.Earlier.{EachBegan, Earlier, WokenInOrder}
 use Rattle.histories.specs.Again.{namesTask, namesObject, momentFrom, madeTask, madeObject}
-use Rattle.claims.specs.Types.{TaskNo, Call, Take, Give, Advance, MakeRecursive, Answer, Asked, Ordinary, Read, Says, Written, Count, State, Kernel, Sleep, Step, Session, Served}
+use Rattle.claims.specs.Types.{TaskSlot, ObjSlot, TaskNo, Call, Take, Give, Advance, MakeRecursive, MakeGroup, SetBits, ClearBits, Await, Answer, Asked, Ordinary, Group, Read, Says, Written, Count, State, Kernel, Sleep, Step, Session, Served}
 use Rattle.claims.specs.Values.{SoundValue, Full, Stands}
 use Rattle.claims.specs.Exact.{shownStep, ValueRefused, ValueAccepted, tableFor, ValueExactly}
 use Rattle.claims.specs.Runs.{Called, Port, servedTo, Turned, freshPort, portOutcome, CameTo}
+use Rattle.claims.specs.Events.{SetComesTo, StandUnsatisfied, NoGroup, OnGroup}
 
 -- one value fits, and no second
 pub record OneFits {A : Type 0} (P : A → Type 0) : Type 0 where
@@ -244,6 +256,50 @@ pub record TakenAgain : Type 0 where
   pub as-ordinary : (k : Kernel) → sound (shown k) ≡ true → (c : Call) (item store : List ℕ) (r : Step) (after : List ℕ) → Steps k c item store r after
       → AsOrdinary (shown k) c item store (shownStep r after)
 
+-- "Wait for several things at once. The gate must open when tag, meter and washer are all ready." Of each kernel value that is sound, and of what a step of the code shows.
+pub record SeveralAtOnce : Type 0 where
+  -- "Add FreeRTOS event groups as a third kind of object: 24 bits, at first 0": 20, make
+  pub makes : (k : Kernel) → sound (shown k) ≡ true → (item store : List ℕ) → length store ≡ 9216 → (r : Step) (after : List ℕ) → Steps k MakeGroup item store r after
+      → MakesGroup (shown k) store (shownStep r after)
+  pub within : (k : Kernel) → sound (shown k) ≡ true → (o : ObjSlot) (b : ℕ) → kindAt (shown k .objects) o ≡ Group b → b ≤ allBits
+  -- where n names a group with the bits b: "21 set bits: object, bits"
+  pub sets : (k : Kernel) → sound (shown k) ≡ true → (n : ObjNo) (b m : ℕ) → HasBits (shown k) n b → (item store : List ℕ) → length store ≡ 9216
+      → (r : Step) (after : List ℕ) → Steps k (SetBits n m) item store r after → SetsBits (shown k) n b m store (shownStep r after)
+  -- "22 clear bits: object, bits"
+  pub clears : (k : Kernel) → sound (shown k) ≡ true → (n : ObjNo) (b m : ℕ) → HasBits (shown k) n b → (item store : List ℕ) → length store ≡ 9216
+      → (r : Step) (after : List ℕ) → Steps k (ClearBits n m) item store r after → ClearsBits (shown k) n b m store (shownStep r after)
+  -- "23 wait: object, mask, all, clear, wait"; "kept or cleared when satisfied"; "4 for bits above the 24, a flag above 1 or an empty wait mask, 14 with wait 0 unsatisfied"
+  pub awaits : (k : Kernel) → sound (shown k) ≡ true → (n : ObjNo) (b m all clear w : ℕ) → HasBits (shown k) n b → (item store : List ℕ) → length store ≡ 9216
+      → (r : Step) (after : List ℕ) → Steps k (Await n m all clear w) item store r after → AwaitsBits (shown k) n b m all clear w store (shownStep r after)
+  -- "any bit of the mask or all of them"
+  pub satisfied : (b m : ℕ) → SatisfiedSays b m
+  -- "A set wakes every waiter that the bits satisfy, outcome 1, in first-waiter order, all judged on the same bits, and the clears happen together afterwards. Each woken task's slip ..
+  -- gets the bits as they were judged, four bytes, low byte first"
+  pub wakes : (k : Kernel) → sound (shown k) ≡ true → (n : ObjNo) (b m : ℕ) → HasBits (shown k) n b → m ≤ allBits → (item store : List ℕ) → length store ≡ 9216
+      → (r : Step) (after : List ℕ) → Steps k (SetBits n m) item store r after → SetComesTo (shown k) (objSlot (shown k .uses) n) (bitOr b m) store (shownStep r after)
+  -- "all judged on the same bits": so the order in which the waiters of o are judged makes no difference to whom it wakes, to what is cleared and to the slips
+  pub any-order : (k : Kernel) → sound (shown k) ≡ true → (o : ObjSlot) (b : ℕ) (q : List TaskSlot) → SameTasks q (those (shown k .tasks) (WaitersOf o) (listed (shown k .order)))
+      → AnyOrder (shown k) o b q
+  -- and where the bits satisfy nobody, only they change
+  pub nobody-met : (k : Kernel) (o : ObjSlot) (b : ℕ) → ((t : TaskSlot) → isSatisfied (shown k) o b t ≡ false) → NobodyMet (shown k) o b
+  -- "and that of a caller satisfied at once": the same four bytes, and no other byte of the store changes
+  pub told-at-once : (k : Kernel) → sound (shown k) ≡ true → (n : ObjNo) (b m all clear w : ℕ) → HasBits (shown k) n b → Accepts m all clear → MayAsk (shown k) w
+      → holdsOf b m (eqb all 1) ≡ true → (item store : List ℕ) → length store ≡ 9216
+      → (r : Step) (after : List ℕ) → Steps k (Await n m all clear w) item store r after → SlipTold (shown k .running) b store after
+  -- "Waiters stand only where unsatisfied, with a mask and flags that the call accepts": in every sound value; so after any calls, refused ones among them, after every line of
+  -- every journal, and at any time of a session
+  pub unsatisfied : (k : Kernel) → sound (shown k) ≡ true → StandUnsatisfied (shown k)
+  pub calls-unsatisfied : (ms : List CallMade) (k : Kernel) → Called (kernelOf fresh) ms k → StandUnsatisfied (shown k)
+  pub lines-unsatisfied : (ls : List (List ℕ)) → StandUnsatisfied (answering fresh (replicate 9216 0) ls .kernel)
+  pub session-unsatisfied : (ts : List Turn) (p : Port) → Turned freshPort ts p → StandUnsatisfied (shown (p .session .kernel))
+  -- "all others as for queues": 7, 8 and 9 stand in the records above; what names no group is refused 5
+  pub no-group : (k : Kernel) → sound (shown k) ≡ true → (n : ObjNo) → NoGroup (shown k) n → (c : Call) → OnGroup n c → (item store : List ℕ) → length store ≡ 9216
+      → (r : Step) (after : List ℕ) → Steps k c item store r after → shownStep r after ≡ turnedAway (shown k) 5 store
+  -- the gate opens at the third of three sets; beside it a case for each sentence, the refusals among them
+  pub cases : map ran eventCases ≡ map (λ (c : Case). c .expected) eventCases
+  -- and each of these mistakes shows in a few calls
+  pub mistakes : map found eventMistakes ≡ map verdict eventMistakes
+
 pub record Claims : Type 2 where
   pub code : Code
   pub values : Values
@@ -258,3 +314,4 @@ pub record Claims : Type 2 where
   pub lending : Lending
   pub no-standstill : NoStandstill
   pub taken-again : TakenAgain
+  pub several-at-once : SeveralAtOnce

@@ -83,6 +83,7 @@ fn plain() {
     copy(Call::MakeMutex, 64);
     copy(Call::Tick, 64);
     copy(Call::MakeRecursive, 64);
+    copy(Call::MakeGroup, 64);
 }
 
 // The others, with n for each number.
@@ -100,6 +101,14 @@ fn numbered(n: u32) {
     copy(Call::Take(ObjNo::of(n), n), 64);
     copy(Call::Give(ObjNo::of(n)), 64);
     copy(Call::Advance(n), 64);
+    copy(Call::SetBits(ObjNo::of(n), n), 64);
+    copy(Call::ClearBits(ObjNo::of(n), n), 64);
+    copy(Call::Await(ObjNo::of(n), n, n, n, n), 64);
+}
+
+// Five numbers that differ: object, mask, all, clear, wait.
+fn five() {
+    copy(Call::Await(ObjNo::of(17), 6, 1, 0, 500), 64);
 }
 
 // Items of 0, 1, 63 and 64 bytes.
@@ -138,6 +147,7 @@ fn main() {
     numbered(15);
     numbered(16);
     numbered(4294967295);
+    five();
     sent(Call::Send(ObjNo::of(0), 0));
     refusals();
 }

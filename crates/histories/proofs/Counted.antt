@@ -6,6 +6,7 @@ use mathlib.Core.Bool.{Bool, true, false, _&&_, false≢true, and-false}
 use mathlib.Core.List.{List, [], _∷_}
 use native.Mathlib.Omega.{arith}
 use lib.Dec.{eqb}
+use lib.Bits.{bitOr}
 use lib.ListN.{length, replicate}
 use borrow.Author.Tests.{eqb-true, eqb-false, eq-eqb, ne-eqb}
 use Rattle.lists.specs.Choice.{if_then_else_}
@@ -28,6 +29,7 @@ use Rattle.rules.specs.Sentences.{KindFits, Sound}
 use Rattle.rules.specs.Ticks.{held, ticks, released, advanced}
 use Rattle.rules.specs.Rings.{oneMore, oneLess}
 use Rattle.rules.specs.Queues.{sentBy, sent, sentTo, refilledBy, received, receivedFrom}
+use Rattle.rules.specs.Events.{groupMade, setOn, clearedOn, awaitedOn}
 use Rattle.rules.specs.Effects.{created, deleted, resumed, yielded, queueMade, mutexMade, removed, taken, given, effect}
 use Rattle.rules.specs.Steps.{Stepped, after, accepted, step}
 use Rattle.rules.specs.Trace.{Moment, momentOf, trace, stateAfter, CallMade, stepMade}
@@ -35,6 +37,7 @@ use Rattle.rules.proofs.SoundSays.{sound-says}
 use Rattle.rules.proofs.TableSlots.{by-kind}
 use Rattle.rules.proofs.TableWithin.{first-meant, first-single, by-outlet}
 use Rattle.rules.proofs.TableHolds.{held-one}
+use Rattle.rules.proofs.EventCases.{by-bits, by-set, by-clear, by-await}
 use Rattle.rules.proofs.MutexCases.{callersWith, by-take, by-give}
 use Rattle.rules.proofs.RowPasses.{Passed}
 use Rattle.rules.proofs.Keeps.{apart}
@@ -53,8 +56,9 @@ use Rattle.promises.proofs.Recursive.{once-at-least, gives-back-so}
 use Rattle.promises.proofs.Reaches.{program-reached}
 use Rattle.promises.specs.Reached.{programCalls}
 use Rattle.promises.specs.Program.{answering}
-use Rattle.histories.specs.Types.{TaskSlot, ObjSlot, Ready, WaitersOf, Ring, Holder, Nobody, By, Sort, Ordinary, Recursive, Kind, Unused, SpentObject, Queue, Mutex, Object, State}
+use Rattle.histories.specs.Types.{TaskSlot, ObjSlot, Want, Turn, Ready, WaitersOf, Ring, Holder, Nobody, By, Sort, Ordinary, Recursive, Kind, Unused, SpentObject, Queue, Mutex, Group, Object, State}
 use Rattle.histories.specs.Types.{Call, Create, Delete, Suspend, Resume, SetPriority, Delay, Yield, Hold, Release, MakeQueue, MakeMutex, Remove, Send, Receive, Take, Give, Tick, Advance, MakeRecursive}
+use Rattle.histories.specs.Types.{MakeGroup, SetBits, ClearBits, Await}
 use Rattle.histories.specs.Moments.{onto}
 use Rattle.histories.specs.Counted.{takesIt, givesIt, becomesHis, since, takesSince, givesSince, CountsTakes, GivesByHistory}
 use Rattle.histories.proofs.NeverAgain.{step-cases, answered-accepts}
@@ -87,16 +91,31 @@ module _ (k : State) where
   unfolding received arrives waitFor toTail
   received-still p q w o = go (eqb (q .count) 0) (first k (WaitersOf p))
     where
-      go : (b : Bool) (l : List TaskSlot) → Still k o (if b then waitFor k p w else refilledBy k p (oneLess q) l)
+      go : (b : Bool) (l : List TaskSlot) → Still k o (if b then waitFor k p Turn w else refilledBy k p (oneLess q) l)
       go true l = inl refl
       go false [] = unheld-still k p (Queue (oneLess q)) refl o
       go false (t ∷ l) = unheld-still k p (Queue (oneMore (oneLess q))) refl o
 
   send-still : (p : ObjSlot) (w : ℕ) (o : ObjSlot) → Still k o (sentTo k p (kindAt (k .objects) p) w)
-  send-still p w o = by-kind (kindAt (k .objects) p) (λ x. Still k o (sentTo k p x w)) (inl refl) (inl refl) (λ q e. sent-still p q w o) (λ s h e. inl refl)
+  send-still p w o = by-kind (kindAt (k .objects) p) (λ x. Still k o (sentTo k p x w)) (inl refl) (inl refl) (λ q e. sent-still p q w o) (λ s h e. inl refl) (λ b e. inl refl)
 
   receive-still : (p : ObjSlot) (w : ℕ) (o : ObjSlot) → Still k o (receivedFrom k p (kindAt (k .objects) p) w)
-  receive-still p w o = by-kind (kindAt (k .objects) p) (λ x. Still k o (receivedFrom k p x w)) (inl refl) (inl refl) (λ q e. received-still p q w o) (λ s h e. inl refl)
+  receive-still p w o = by-kind (kindAt (k .objects) p) (λ x. Still k o (receivedFrom k p x w)) (inl refl) (inl refl) (λ q e. received-still p q w o) (λ s h e. inl refl) (λ b e. inl refl)
+
+  -- so does a group
+  group-still : (p : ObjSlot) (c : ℕ) (o : ObjSlot) (j : State) → Still k o j → Still k o (withObject j p (Group c))
+  group-still p c o j = each-kind (j .objects) p (Group c) (λ q x. Still k q j → (x ≡ kindAt (k .objects) q) ⊎ (isHeld x ≡ false)) (λ s. inr refl) (λ q s. s) o
+
+  set-still : (p : ObjSlot) (m : ℕ) (o : ObjSlot) → Still k o (setOn k p (kindAt (k .objects) p) m)
+  unfolding arrives toTail
+  set-still p m o = by-set k p (Still k o) (λ e. inl refl) m (λ b e. by-bits p (bitOr b m) (Still k o) (λ j t s f. s) (λ j c s. group-still p c o j s) k (inl refl))
+
+  clear-still : (p : ObjSlot) (m : ℕ) (o : ObjSlot) → Still k o (clearedOn k p (kindAt (k .objects) p) m)
+  clear-still p m o = by-clear k p (Still k o) (λ e. inl refl) m (λ b e. group-still p _ o k (inl refl))
+
+  await-still : (p : ObjSlot) (x : Want) (w : ℕ) (o : ObjSlot) → Still k o (awaitedOn k p (kindAt (k .objects) p) x w)
+  unfolding waitFor arrives toTail
+  await-still p x w o = by-await k p (Still k o) (λ e. inl refl) x w (λ b e q. group-still p _ o k (inl refl)) (λ b e q. inl refl)
 
 -- ── what becomes of the count
 -- of a recursive mutex that the task t then has n times: it became the task's, and is had once; or it was the task's, and a take or a give by it was counted
@@ -186,7 +205,7 @@ module _ (k : State) (S : Sound k) (t : TaskSlot) (o : ObjSlot) where
           let none = and-false (sameTask caller t) in
           by-take k p (FollowsIn (sameTask caller t && false) false) w (λ m. still-follows k none refl (inl refl)) (λ s q. other-follows p _ e none refl k refl)
           (λ s q. other-follows p _ e none refl k refl)
-          (λ s h q d. still-follows (waitFor k p w) none refl (inl refl))
+          (λ s h q d. still-follows (waitFor k p Turn w) none refl (inl refl))
 
   give-follows : (p : ObjSlot) → hands (kindAt (k .objects) p) ≡ By caller → FollowsIn false (sameTask caller t && sameObject p o) (given k p)
   unfolding arrives toTail
@@ -211,7 +230,7 @@ module _ (k : State) (S : Sound k) (t : TaskSlot) (o : ObjSlot) where
   quiet c a b e = still-follows (effect k (asked (k .uses) c)) (rw a (and-false (sameTask caller t))) (rw b (and-false (sameTask caller t))) e
 
   effect-follows : (i : ℕ) (c : Call) → Passed k (asked (k .uses) c) i → FollowsIn (touches 15 c) (touches 16 c) (effect k (asked (k .uses) c))
-  unfolding effect asked notHis created deleted resumed newPriority yielded held advanced queueMade mutexMade removed arrives leaves toTail
+  unfolding effect asked notHis created deleted resumed newPriority yielded held advanced queueMade mutexMade groupMade removed arrives leaves toTail
   effect-follows i (Create p) P = quiet (Create p) refl refl (inl refl)
   effect-follows i (Delete u) P = quiet (Delete u) refl refl (inl refl)
   effect-follows i (Suspend u) P = quiet (Suspend u) refl refl (inl (ap (λ os. kindAt os o) (suspended-same k (taskSlot (k .uses) u) .objects)))
@@ -239,6 +258,10 @@ module _ (k : State) (S : Sound k) (t : TaskSlot) (o : ObjSlot) where
   effect-follows i Tick P = quiet Tick refl refl (inl (ap (λ os. kindAt os o) (ticked-aside k .objects)))
   effect-follows i (Advance d) P = quiet (Advance d) refl refl (inl (ap (λ os. kindAt os o) (ticks-aside true d k .objects)))
   effect-follows i MakeRecursive P = quiet MakeRecursive refl refl (unheld-still k (object (freeObject (k .objects))) (Mutex (Recursive 0) Nobody) refl o)
+  effect-follows i MakeGroup P = quiet MakeGroup refl refl (unheld-still k (object (freeObject (k .objects))) (Group 0) refl o)
+  effect-follows i (SetBits p m) P = quiet (SetBits p m) refl refl (set-still k (objSlot (k .uses) p) m o)
+  effect-follows i (ClearBits p m) P = quiet (ClearBits p m) refl refl (clear-still k (objSlot (k .uses) p) m o)
+  effect-follows i (Await p m a c w) P = quiet (Await p m a c w) refl refl (await-still k (objSlot (k .uses) p) _ w o)
 
 -- ── a step
 module _ (k : State) (e : sound k ≡ true) (t : TaskSlot) (o : ObjSlot) (m : CallMade) where

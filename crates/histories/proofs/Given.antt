@@ -24,6 +24,7 @@ use Rattle.rules.specs.Lines.{chosen, toTail, leaves}
 use Rattle.rules.specs.Sound.{sound}
 use Rattle.rules.specs.Sentences.{Sound}
 use Rattle.rules.specs.Loans.{newPriority, workedOut}
+use Rattle.rules.specs.Events.{groupMade}
 use Rattle.rules.specs.Effects.{created, deleted, queueMade, mutexMade, removed, effect}
 use Rattle.rules.specs.Steps.{Stepped, answered, usesAfter, after, accepted, turnedAway}
 use Rattle.rules.specs.Trace.{Moment, momentOf, trace, stateAfter, CallMade, stepMade}
@@ -43,6 +44,7 @@ use Rattle.promises.specs.Reached.{programCalls}
 use Rattle.promises.proofs.Reaches.{program-reached, session-so-far}
 use Rattle.histories.specs.Types.{TaskNo, TaskSlot, Task, State}
 use Rattle.histories.specs.Types.{Call, Create, Delete, Suspend, Resume, SetPriority, Delay, Yield, Hold, Release, MakeQueue, MakeMutex, Remove, Send, Receive, Take, Give, Tick, Advance, MakeRecursive}
+use Rattle.histories.specs.Types.{MakeGroup, SetBits, ClearBits, Await}
 use Rattle.histories.specs.Moments.{onto, moments, isRefusal}
 use Rattle.histories.specs.Again.{namesTask, isMade}
 use Rattle.histories.specs.ByFullNumber.{slotOf}
@@ -154,7 +156,7 @@ module _ (k : State) (S : Sound k) (i : ℕ) (t : TaskSlot) (n : ℕ) (low : t .
 
   call-gives : (x : State) (c : Call) → Passed k (asked (k .uses) c) i → isFree (taskAt (effect k (asked (k .uses) c) .tasks) t .place) ≡ false
       → Gives t k (effect k (asked (k .uses) c)) (givenBy n k c (answered k (asked (k .uses) c) x))
-  unfolding effect asked answered queueMade mutexMade removed
+  unfolding effect asked answered queueMade mutexMade groupMade removed
   call-gives x (Create p) P f = create-gives p P f
   call-gives x (Delete u) P f = delete-gives (taskSlot (k .uses) u) _ f
   call-gives x (Suspend u) P f = quiet-gives (Suspend u) refl (effect-stays k S i (Suspend u) refl P .tasks t) f
@@ -173,6 +175,10 @@ module _ (k : State) (S : Sound k) (i : ℕ) (t : TaskSlot) (n : ℕ) (low : t .
   call-gives x (Give o) P f = quiet-gives (Give o) refl (effect-stays k S i (Give o) refl P .tasks t) f
   call-gives x Tick P f = quiet-gives Tick refl (effect-stays k S i Tick refl P .tasks t) f
   call-gives x MakeRecursive P f = quiet-gives MakeRecursive refl refl f
+  call-gives x MakeGroup P f = quiet-gives MakeGroup refl refl f
+  call-gives x (SetBits o m) P f = quiet-gives (SetBits o m) refl (effect-stays k S i (SetBits o m) refl P .tasks t) f
+  call-gives x (ClearBits o m) P f = quiet-gives (ClearBits o m) refl (effect-stays k S i (ClearBits o m) refl P .tasks t) f
+  call-gives x (Await o m a c w) P f = quiet-gives (Await o m a c w) refl (effect-stays k S i (Await o m a c w) refl P .tasks t) f
   call-gives x (Advance d) P f = quiet-gives (Advance d) refl (effect-stays k S i (Advance d) refl P .tasks t) f
 
 -- ── a moment

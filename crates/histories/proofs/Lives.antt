@@ -24,6 +24,7 @@ use Rattle.rows.specs.Asking.{is, makes}
 use Rattle.rows.specs.Applies.{namesNone, noneFree}
 use Rattle.rules.specs.Refusals.{newSlot}
 use Rattle.rules.specs.Loans.{workedOut}
+use Rattle.rules.specs.Events.{groupMade}
 use Rattle.rules.specs.Effects.{created, deleted, queueMade, mutexMade, removed, effect}
 use Rattle.rules.specs.Steps.{newNumber, usesAfter}
 use Rattle.rules.proofs.RowPasses.{Passed}
@@ -34,8 +35,9 @@ use Rattle.rules.proofs.KeepObjects.{object-low}
 use Rattle.rules.proofs.KeepUses.{up-other}
 use Rattle.rules.proofs.KeepTaken.{stands, standsAs, there-stands, used-stands, Stays, effect-stays, worked-stays}
 use Rattle.rules.proofs.TickJumps.{chosen-only}
-use Rattle.histories.specs.Types.{TaskSlot, ObjSlot, Place, Free, Ready, Delayed, Waiting, Suspended, Spent, Task, Ring, Nobody, Ordinary, Recursive, Kind, Unused, SpentObject, Queue, Mutex, Object, State}
+use Rattle.histories.specs.Types.{TaskSlot, ObjSlot, Place, Free, Ready, Delayed, Waiting, Suspended, Spent, Task, Ring, Nobody, Ordinary, Recursive, Kind, Unused, SpentObject, Queue, Mutex, Group, Object, State}
 use Rattle.histories.specs.Types.{Call, Create, Delete, Suspend, Resume, SetPriority, Delay, Yield, Hold, Release, MakeQueue, MakeMutex, Remove, Send, Receive, Take, Give, Tick, Advance, MakeRecursive}
+use Rattle.histories.specs.Types.{MakeGroup, SetBits, ClearBits, Await}
 
 -- of a slot where nothing, something, or nothing ever after stands
 abbrev pub lifeIn : ℕ → ℕ → ℕ
@@ -108,6 +110,7 @@ takes-object Unused e = refl
 takes-object SpentObject e = absurd (false≢true e)
 takes-object (Queue q) e = absurd (false≢true e)
 takes-object (Mutex s h) e = absurd (false≢true e)
+takes-object (Group b) e = absurd (false≢true e)
 
 -- a number of a slot tells the slot and the use
 pub number-slot : (s u : ℕ) → s < 16 → (s + 16 * u) % 16 ≡ s
@@ -258,7 +261,7 @@ left-alone k j us a T e f g false s = as-it-was (rw g) (T .objects (object s)) (
 
 pub effect-becomes : (k : State) → Sound k → (n : ℕ) (c : Call) → Passed k (asked (k .uses) c) n → (b : Bool) (s : ℕ)
     → Becomes (givesUp b (asked (k .uses) c) s) (standsIn b k s) (keptUse b k s) (standsIn b (next k c) s) (keptUse b (next k c) s)
-unfolding effect asked usesAfter namesNone noneFree created deleted queueMade mutexMade removed toTail leaves
+unfolding effect asked usesAfter namesNone noneFree created deleted queueMade mutexMade groupMade removed toTail leaves
 effect-becomes k S n (Create p) P true s = create-becomes k S n (P .slot) p s
 effect-becomes k S n (Create p) P false s = as-it-was refl refl refl
 effect-becomes k S n (Delete t) P true s = delete-becomes k S n (taskSlot (k .uses) t) (P .named) s
@@ -283,6 +286,11 @@ effect-becomes k S n (Give o) P b s = left-alone k _ _ _ (effect-stays k S n (Gi
 effect-becomes k S n Tick P b s = left-alone k _ _ _ (effect-stays k S n Tick refl P) refl refl refl b s
 effect-becomes k S n MakeRecursive P true s = as-it-was refl refl refl
 effect-becomes k S n MakeRecursive P false s = make-becomes k S n (P .slot) (Mutex (Recursive 0) Nobody) refl s
+effect-becomes k S n MakeGroup P true s = as-it-was refl refl refl
+effect-becomes k S n MakeGroup P false s = make-becomes k S n (P .slot) (Group 0) refl s
+effect-becomes k S n (SetBits o m) P b s = left-alone k _ _ _ (effect-stays k S n (SetBits o m) refl P) refl refl refl b s
+effect-becomes k S n (ClearBits o m) P b s = left-alone k _ _ _ (effect-stays k S n (ClearBits o m) refl P) refl refl refl b s
+effect-becomes k S n (Await o m a c w) P b s = left-alone k _ _ _ (effect-stays k S n (Await o m a c w) refl P) refl refl refl b s
 effect-becomes k S n (Advance d) P b s = left-alone k _ _ _ (effect-stays k S n (Advance d) refl P) refl refl refl b s
 
 pub effect-grows : (k : State) → Sound k → (n : ℕ) (c : Call) → Passed k (asked (k .uses) c) n → Grows k (next k c)
@@ -295,7 +303,7 @@ effect-grows k S n c P b s = becomes-life _ _ _ _ _ (effect-becomes k S n c P b 
 -- a create or make takes the slot of the number that it answers
 pub effect-takes : (k : State) → Sound k → (n : ℕ) (c : Call) → Passed k (asked (k .uses) c) n → makes (asked (k .uses) c) ≡ true
     → let a = asked (k .uses) c in Takes (lifeOf (is 1 a) k) (lifeOf (is 1 a) (next k c)) (newNumber (k .uses) a (newSlot k a))
-unfolding effect asked usesAfter noneFree created queueMade mutexMade toTail
+unfolding effect asked usesAfter noneFree created queueMade mutexMade groupMade toTail
 effect-takes k S n (Create p) P x =
     takes-number (lifeOf true k) (lifeOf true (next k (Create p))) (k .uses .tasks) (freeSlot (k .tasks)) (new-low k S n (P .slot))
     (ap (λ i. lifeIn i (useIn (k .uses .tasks) (freeSlot (k .tasks)))) (new-stands k S n (P .slot)))
@@ -303,6 +311,7 @@ effect-takes k S n (Create p) P x =
 effect-takes k S n (MakeQueue c z) P x = make-takes k S n (P .slot) (Queue (ring c z)) refl (lifeOf false (next k (MakeQueue c z))) refl
 effect-takes k S n MakeMutex P x = make-takes k S n (P .slot) (Mutex Ordinary Nobody) refl (lifeOf false (next k MakeMutex)) refl
 effect-takes k S n MakeRecursive P x = make-takes k S n (P .slot) (Mutex (Recursive 0) Nobody) refl (lifeOf false (next k MakeRecursive)) refl
+effect-takes k S n MakeGroup P x = make-takes k S n (P .slot) (Group 0) refl (lifeOf false (next k MakeGroup)) refl
 effect-takes k S n (Delete t) P x = absurd (false≢true x)
 effect-takes k S n (Suspend t) P x = absurd (false≢true x)
 effect-takes k S n (Resume t) P x = absurd (false≢true x)
@@ -318,6 +327,9 @@ effect-takes k S n (Take o w) P x = absurd (false≢true x)
 effect-takes k S n (Give o) P x = absurd (false≢true x)
 effect-takes k S n Tick P x = absurd (false≢true x)
 effect-takes k S n (Advance d) P x = absurd (false≢true x)
+effect-takes k S n (SetBits o m) P x = absurd (false≢true x)
+effect-takes k S n (ClearBits o m) P x = absurd (false≢true x)
+effect-takes k S n (Await o m a c w) P x = absurd (false≢true x)
 
 -- neither the effective priorities worked out nor choose change a slot
 pub end-slot : (f : ℕ → ℕ → ℕ) (b : Bool) (j : State) (us : Uses) (s : ℕ)

@@ -26,7 +26,7 @@ use Rattle.rules.proofs.KeepTaken.{stands, standsAs}
 use Rattle.rules.proofs.KeepEvery.{fresh-sound, step-kept}
 use Rattle.promises.specs.History.{reached}
 use Rattle.promises.proofs.Histories.{reached-sound}
-use Rattle.histories.specs.Types.{TaskSlot, ObjSlot, Place, Free, Ready, Delayed, Waiting, Suspended, Spent, Kind, Unused, SpentObject, Queue, Mutex, State}
+use Rattle.histories.specs.Types.{TaskSlot, ObjSlot, Place, Free, Ready, Delayed, Waiting, Suspended, Spent, Kind, Unused, SpentObject, Queue, Mutex, Group, State}
 use Rattle.histories.specs.Moments.{onto, moments, isRefusal}
 use Rattle.histories.specs.Uses.{useOf, taskUse, objectUse, times, UsesCount}
 use Rattle.histories.proofs.Lives.{standsIn, keptUse, Becomes, as-it-was, now-taken, now-empty, givesUp, effect-becomes, end-slot}
@@ -51,6 +51,7 @@ object-by Unused u = refl
 object-by SpentObject u = refl
 object-by (Queue q) u = refl
 object-by (Mutex s h) u = refl
+object-by (Group b) u = refl
 
 abbrev pub one : Bool → ℕ
 one b = if b then 1 else 0

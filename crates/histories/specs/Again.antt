@@ -35,7 +35,7 @@ isMade refused = false
 abbrev pub answersMade : Moment CallMade → ℕ → Bool
 answersMade m n = isMade (m .gave .answer .word) && eqb (m .gave .answer .number) n
 
--- a create, or a make of a queue or of a mutex of either sort, that answered made n
+-- a create, or a make of a queue, of a mutex of either sort or of an event group, that answered made n
 abbrev pub madeTask : Moment CallMade → ℕ → Bool
 madeTask m n = is 1 (asked (m .before .uses) (m .made .call)) && answersMade m n
 

@@ -66,7 +66,7 @@ module _ (ts : List Task) (os : List Object) (full : length ts ≡ 16) (few : le
   next-is Free = refl
   next-is Ready = refl
   next-is (Delayed w) = refl
-  next-is (Waiting o w) = says-map (λ (x : Object). holderOf (x .kind) .0) unused refl os few (o .0)
+  next-is (Waiting y w) = says-map (λ (x : Object). holderOf (x .kind) .0) unused refl os few (y .object .0)
   next-is Suspended = refl
   next-is Spent = refl
 

@@ -7,3 +7,7 @@ pub mod Shown
 pub mod SessionRuns
 pub mod SoundQuick
 pub mod LevelWorks
+pub mod EventTurns
+pub mod Makes
+pub mod Awaited
+pub mod InUse

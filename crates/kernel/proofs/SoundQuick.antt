@@ -1,7 +1,7 @@
 -- The test of the code, one pass over each table's columns, is the plain one of the state that is shownCore.
 use Prim.Native.Nat.{ℕ, _<_, _≤_}
 use mathlib.Core.Path.{_≡_, refl, sym, ap, _∙_}
-use mathlib.Core.Bool.{Bool, true, false, false≢true, not, _&&_, _||_, and-assoc}
+use mathlib.Core.Bool.{Bool, true, false, false≢true, not, _&&_, _||_, and-assoc, and-true}
 use mathlib.Core.List.{List, [], _∷_}
 use native.Mathlib.Omega.{arith}
 use lib.Dec.{eqb, ltb, leb}
@@ -34,19 +34,26 @@ use Rattle.slots.specs.Who.{AllReady}
 use Rattle.slots.specs.Places.{isReady, waitedOn}
 use Rattle.slots.specs.Values.{freeTask, taskAt, inLine}
 use Rattle.slots.specs.Kinds.{hands, kindAt, marksOf}
-use Rattle.slots.specs.SoundSlots.{idleFine, standsFine, remembersFine, ordersFine, mayWait, mayWaitOn, waitsFine, prioritiesFine, holderSlot, freeHolds, notDue, kindInRange, outcomeFine, freshIfFree}
+use Rattle.numbers.specs.declared.ObjSlot.{ObjSlot}
+use Rattle.slots.specs.declared.Want.{Want}
+use Rattle.slots.specs.declared.Want.the-variants.{Turn, Bits}
+use Rattle.slots.specs.declared.Kind.{Kind}
+use Rattle.slots.specs.declared.Kind.the-variants.{Unused}
+use Rattle.slots.specs.SoundSlots.{idleFine, standsFine, remembersFine, ordersFine, awaitsTurn, awaitsBits, mayWait, mayWaitOn, waitsFine, prioritiesFine, holderSlot, freeHolds, notDue, kindInRange, outcomeFine, freshIfFree}
 use Rattle.slots.proofs.Marks.{marks-hold}
 use Rattle.slots.proofs.Holders.{holders-exist}
 use Rattle.tasks.specs.declared.Tasks.{Tasks}
 use Rattle.tasks.specs.Numbering.{placeOf}
 use Rattle.tasks.specs.Columns.{rowAt, rowsOf}
 use Rattle.tasks.specs.Known.{known, wakeKnown, canonical}
+use Rattle.tasks.specs.Masks.{maskFine}
 use Rattle.tasks.specs.Walks.{lineIn, levelAt, topIn}
-use Rattle.tasks.specs.Fine.{aloneFine, rowsFine, wakesFine, idleAlone, waitsBy, waitsAt, headed, headsIn, runsIn, Fine}
+use Rattle.tasks.specs.Fine.{aloneFine, rowsFine, wakesFine, idleAlone, waitsTurn, waitsBy, waitsAt, headed, headsIn, runsIn, Fine}
 use Rattle.tasks.proofs.Columns.{row-at, rows-many}
 use Rattle.objects.specs.declared.Objects.{Objects}
 use Rattle.objects.specs.declared.Holdings.{Holdings}
-use Rattle.objects.specs.Columns.{kindIn, rowsOf as kindsOf, holdersIn, canonical as canonicalKinds}
+use Rattle.kernel.specs.Waited.{wantMay, awaitsIn, awaitsAt}
+use Rattle.objects.specs.Columns.{kindOf, kindIn, rowsOf as kindsOf, holdersIn, canonical as canonicalKinds}
 use Rattle.objects.specs.Fine.{fineAt, HoldingsAre}
 use Rattle.objects.proofs.Columns.{row-at as kind-row, rows-many as kinds-many}
 use Rattle.objects.proofs.Fines.{fine-canonical}
@@ -208,19 +215,38 @@ module _ (os : Objects) (hs : Holdings) (H : HoldingsAre os hs) where
   unfolding kindAt
   at-kind n l = kind-row os n (omega (arith, fewer))
 
-  pub waits-is : (t : TaskSlot) (p : Place) → waitsBy (hs .open) (hs .taken) (hs .holder) t p ≡ waitsFine t (kindsOf os) p
+  -- past the table there is nothing to wait on
+  past-kind : (n : ℕ) → 16 ≤ n → kindIn os n ≡ Unused
+  unfolding kindIn kindOf
+  past-kind n l = rw (List·getD-eq-default (os .state) 0 {n = n} (omega (arith, fewer)))
+
+  each-kind-same : (P : Kind → Bool) (o : ObjSlot) → P (kindIn os (o .0)) ≡ P (kindAt (kindsOf os) o)
+  each-kind-same P o = go (ltb (o .0) 16) refl
+    where
+      go : (b : Bool) → ltb (o .0) 16 ≡ b → P (kindIn os (o .0)) ≡ P (kindAt (kindsOf os) o)
+      go true q = ap P (sym (at-kind (o .0) (ltb-true (o .0) 16 q)))
+      go false q =
+          let l = ltb-false (o .0) 16 q in
+          ap P (past-kind (o .0) l ∙ sym (past-objects (kindsOf os) o (omega (arith, H .many, l))))
+
+  -- for its turn, and for bits
+  want-is : (t : TaskSlot) (x : Want) (o : ObjSlot) → (waitsTurn (hs .open) (hs .taken) (hs .holder) t x (o .0) && wantMay x (kindIn os (o .0))) ≡ mayWait t x (kindAt (kindsOf os) o)
+  want-is t (Bits m all clear) o = each-kind-same (awaitsBits m all) o
+  want-is t Turn o = and-true _ ∙ go (ltb (o .0) 16) refl
+    where
+      go : (b : Bool) → ltb (o .0) 16 ≡ b → (b && mayWaitOn (hs .open) (hs .taken) (hs .holder) t (o .0)) ≡ awaitsTurn t (kindAt (kindsOf os) o)
+      go true q =
+          let low = ltb-true (o .0) 16 q in
+          H .waited t (o .0) low ∙ ap (awaitsTurn t) (sym (at-kind (o .0) low))
+      go false q = sym (ap (awaitsTurn t) (past-objects (kindsOf os) o (omega (arith, H .many, ltb-false (o .0) 16 q))))
+
+  pub waits-is : (t : TaskSlot) (p : Place) → (waitsBy (hs .open) (hs .taken) (hs .holder) t p && awaitsIn os p) ≡ waitsFine t (kindsOf os) p
   waits-is t Free = refl
   waits-is t Ready = refl
   waits-is t (Delayed w) = refl
   waits-is t Suspended = refl
   waits-is t Spent = refl
-  waits-is t (Waiting o w) = go (ltb (o .0) 16) refl
-    where
-      go : (b : Bool) → ltb (o .0) 16 ≡ b → (b && mayWaitOn (hs .open) (hs .taken) (hs .holder) t (o .0)) ≡ mayWait t (kindAt (kindsOf os) o)
-      go true q =
-          let low = ltb-true (o .0) 16 q in
-          H .waited t (o .0) low ∙ ap (mayWait t) (sym (at-kind (o .0) low))
-      go false q = sym (ap (mayWait t) (past-objects (kindsOf os) o (omega (arith, H .many, ltb-false (o .0) 16 q))))
+  waits-is t (Waiting y w) = want-is t (y .want) (y .object)
 
 -- ── the whole test
 module _ (k : Core) (stands : List ℕ) (hs : Holdings) (fine : Bool) (F : Fine (k .tasks) (k .tick) stands (hs .held) fine) (H : HoldingsAre (k .objects) hs)
@@ -242,8 +268,23 @@ module _ (k : Core) (stands : List ℕ) (hs : Holdings) (fine : Bool) (F : Fine 
   unfolding holds
   holding-at n l = marked n ∙ marks-hold (s .objects) n l
 
+  abbrev turns : Bool
+  turns = allBelow 16 (waitsAt ts (hs .open) (hs .taken) (hs .holder))
+
   abbrev waits : Bool
-  waits = allBelow 16 (waitsAt ts (hs .open) (hs .taken) (hs .holder))
+  waits = turns && allBelow 16 (awaitsAt ts (k .objects))
+
+  abbrev knownAt : ℕ → Bool
+  knownAt n = known (getD (ts .state) n 0) (getD (ts .object) n 0) (getD (ts .wants .flags) n 0)
+
+  abbrev wakeAt : ℕ → Bool
+  wakeAt n = wakeKnown (getD (ts .state) n 0) (getD (ts .wake) n 0)
+
+  abbrev maskAt : ℕ → Bool
+  maskAt n = maskFine (getD (ts .wants .mask) n 0) (getD (ts .wants .flags) n 0)
+
+  abbrev dueAt : ℕ → Bool
+  dueAt n = wakeAt n && notDue (k .tick) (rowAt ts n .place)
 
   abbrev runs : Bool
   runs = runsIn ts (listed (k .order)) (k .running) (ltb 0 (k .hold))
@@ -295,11 +336,11 @@ module _ (k : Core) (stands : List ℕ) (hs : Holdings) (fine : Bool) (F : Fine 
     unfolding plain canonical
     is-plain =
         and-intro _ _ (below-all 16 _
-        (λ n l. and-intro _ _ (and-left (known (getD (ts .state) n 0) (getD (ts .object) n 0)) _ (each n l)) (and-left (wakeKnown (getD (ts .state) n 0) (getD (ts .wake) n 0)) _ (wake n l))))
+        (λ n l. and-intro _ _ (and-left (knownAt n) _ (each n l)) (and-intro _ _ (and-left (wakeAt n) _ (and-left (dueAt n) _ (wake n l))) (and-right (dueAt n) _ (wake n l)))))
         (fine-canonical (k .objects) kinds)
 
     alone : (n : ℕ) → n < 16 → AloneTested (getD stands n 0) (getD (hs .held) n false) (slotTask (s .tasks) n)
-    alone n l = alone-tested _ _ _ (rw (row n l) (and-right (known (getD (ts .state) n 0) (getD (ts .object) n 0)) _ (each n l)))
+    alone n l = alone-tested _ _ _ (rw (row n l) (and-right (knownAt n) _ (each n l)))
 
     once : (n : ℕ) → n < 16 → standsFine (count n (listed (k .order))) (slotTask (s .tasks) n .place) ≡ true
     once n l = rw (← stands-at n l) (alone n l .stands)
@@ -316,7 +357,8 @@ module _ (k : Core) (stands : List ℕ) (hs : Holdings) (fine : Bool) (F : Fine 
           slots = rw (F .many, H .many);
           as-idle = rw (row 0 (omega arith)) (and-left (idleFine (rowAt ts 0)) _ idles);
           waits = below-all 16 _ (λ n l. rw (row n l) (sym (waits-is (k .objects) hs H (task n) (rowAt ts n .place))
-              ∙ all-below 16 (waitsAt ts (hs .open) (hs .taken) (hs .holder)) (and-left waits _ (and-right fine _ tables)) n l));
+              ∙ and-intro (waitsAt ts (hs .open) (hs .taken) (hs .holder) n) _ (all-below 16 (waitsAt ts (hs .open) (hs .taken) (hs .holder)) (and-left turns _ (and-left waits _ (and-right fine _ tables))) n l)
+              (all-below 16 (awaitsAt ts (k .objects)) (and-right turns _ (and-left waits _ (and-right fine _ tables))) n l)));
           idle-holds = rw (← holding-at 0 (omega arith)) (and-right (idleFine (rowAt ts 0)) _ idles);
           holders = sym (holders-exist (s .tasks) (s .objects) (F .many) (H .many))
               ∙ and-intro _ _ (below-all 16 _ (λ n l. rw (kind n l) (and-right (kindInRange (kindIn (k .objects) n)) _ (ranges-at n l))))
@@ -341,7 +383,7 @@ module _ (k : Core) (stands : List ℕ) (hs : Holdings) (fine : Bool) (F : Fine 
             none-else = below-all 16 _ (λ n l. rw (← stands-at n l) (alone n l .orders));
           };
           clock = tested-clock _ _ _ _ record {
-            wakes = below-all 16 _ (λ n l. rw (row n l) (and-right (wakeKnown (getD (ts .state) n 0) (getD (ts .wake) n 0)) _ (wake n l)));
+            wakes = below-all 16 _ (λ n l. rw (row n l) (and-right (wakeAt n) _ (and-left (dueAt n) _ (wake n l))));
             ranges = ranges;
             pends = and-right (tidy (k .order)) pends orders;
           };
@@ -368,13 +410,11 @@ module _ (k : Core) (stands : List ℕ) (hs : Holdings) (fine : Bool) (F : Fine 
     unfolding levelsFine plain canonical
     from-plain =
         and-intro _ _ (and-intro fine _ (F .said ∙ and-intro _ _ idles (and-intro _ _ (below-all 16 _ each-row) (below-all 16 _ each-wake)))
-        (and-intro waits _ (below-all 16 _ each-wait) (and-intro levels _ (Q ∙ and-intro (endedIn ts (hs .by)) _ (straight ∙ E .circles) (below-all 16 _ each-level)) (H .said ∙ below-all 16 _ each-kind))))
+        (and-intro waits _ (and-intro turns _ (below-all 16 _ each-wait) (below-all 16 _ each-await)) (and-intro levels _ (Q ∙ and-intro (endedIn ts (hs .by)) _ (straight ∙ E .circles) (below-all 16 _ each-level)) (H .said ∙ below-all 16 _ each-kind))))
         (and-intro runs _ (runs-is ts (F .many) (listed (k .order)) (k .running) (k .hold) ∙ E .runs) (and-intro (tidy (k .order)) pends (L .tidied) (C .pends)))
       where
-        cells : (n : ℕ) → n < 16 → (known (getD (ts .state) n 0) (getD (ts .object) n 0) && wakeKnown (getD (ts .state) n 0) (getD (ts .wake) n 0)) ≡ true
-        cells n l =
-            all-below 16 (λ i. known (getD (ts .state) i 0) (getD (ts .object) i 0) && wakeKnown (getD (ts .state) i 0) (getD (ts .wake) i 0))
-            (and-left (canonical ts) (canonicalKinds (k .objects)) p) n l
+        cells : (n : ℕ) → n < 16 → (knownAt n && (wakeAt n && maskAt n)) ≡ true
+        cells n l = all-below 16 (λ i. knownAt i && (wakeAt i && maskAt i)) (and-left (canonical ts) (canonicalKinds (k .objects)) p) n l
 
         slotted : Bool
         slotted = allBelow 16 (λ n. holderSlot (hands (kindAt (s .objects) (object n))))
@@ -390,7 +430,7 @@ module _ (k : Core) (stands : List ℕ) (hs : Holdings) (fine : Bool) (F : Fine 
 
         each-row : (n : ℕ) → n < 16 → rowsFine ts stands (hs .held) n ≡ true
         each-row n l =
-            and-intro (known (getD (ts .state) n 0) (getD (ts .object) n 0)) _ (and-left _ _ (cells n l))
+            and-intro (knownAt n) _ (and-left _ _ (cells n l))
             (rw (← row n l)
             (tested-alone (getD stands n 0) (getD (hs .held) n false) (slotTask (s .tasks) n) record {
               stands = rw (stands-at n l) (all-below 16 _ (L .stands) n l);
@@ -407,11 +447,18 @@ module _ (k : Core) (stands : List ℕ) (hs : Holdings) (fine : Bool) (F : Fine 
 
         each-wake : (n : ℕ) → n < 16 → wakesFine ts (k .tick) n ≡ true
         each-wake n l =
-            and-intro (wakeKnown (getD (ts .state) n 0) (getD (ts .wake) n 0)) (notDue (k .tick) (rowAt ts n .place))
-            (and-right (known (getD (ts .state) n 0) (getD (ts .object) n 0)) _ (cells n l)) (rw (← row n l) (all-below 16 _ (C .wakes) n l))
+            let numbers = and-right (knownAt n) _ (cells n l) in
+            and-intro (dueAt n) _ (and-intro (wakeAt n) (notDue (k .tick) (rowAt ts n .place)) (and-left (wakeAt n) _ numbers) (rw (← row n l) (all-below 16 _ (C .wakes) n l)))
+            (and-right (wakeAt n) _ numbers)
+
+        may : (n : ℕ) → n < 16 → (waitsAt ts (hs .open) (hs .taken) (hs .holder) n && awaitsAt ts (k .objects) n) ≡ true
+        may n l = waits-is (k .objects) hs H (task n) (rowAt ts n .place) ∙ rw (← row n l) (all-below 16 _ (T .waits) n l)
 
         each-wait : (n : ℕ) → n < 16 → waitsAt ts (hs .open) (hs .taken) (hs .holder) n ≡ true
-        each-wait n l = waits-is (k .objects) hs H (task n) (rowAt ts n .place) ∙ rw (← row n l) (all-below 16 _ (T .waits) n l)
+        each-wait n l = and-left (waitsAt ts (hs .open) (hs .taken) (hs .holder) n) _ (may n l)
+
+        each-await : (n : ℕ) → n < 16 → awaitsAt ts (k .objects) n ≡ true
+        each-await n l = and-right (waitsAt ts (hs .open) (hs .taken) (hs .holder) n) _ (may n l)
 
         each-kind : (n : ℕ) → n < 16 → fineAt (k .objects) n ≡ true
         each-kind n l =

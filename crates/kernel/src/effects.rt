@@ -1,19 +1,23 @@
-// The 19 calls, accepted: each does its row of the call table.
+// The 23 calls, accepted: each does its row of the call table.
 ghost use mathlib.Core.Path.{_≡_};
 ghost use mathlib.Core.Bool.{_&&_, true, false};
 ghost use lib.Dec.{eqb, ltb};
 ghost use lib.ListN.{length};
 ghost use Rattle.slots.specs.Kinds.{kindAt};
-ghost use Rattle.rules.specs.Tables.{freeSlot, freeObject};
+ghost use Rattle.rules.specs.Tables.{freeSlot, freeObject, withObject};
 ghost use Rattle.lists.specs.Choice.{if_then_else_};
 ghost use Rattle.rows.specs.Asking.{is, makes};
 ghost use Rattle.rules.specs.Refusals.{newSlot};
 ghost use Rattle.rows.specs.Applies.{sizeDiffers, takesFull};
-ghost use Rattle.slots.specs.declared.Kind.the-variants.{Mutex};
+ghost use Prim.Native.Nat.{_≤_};
+ghost use Rattle.numbers.specs.Numbers.{object};
+ghost use Rattle.slots.specs.declared.Kind.the-variants.{Unused, Spent as SpentObject, Mutex};
+ghost use Rattle.slots.specs.Values.{freeTask, spentTask};
+ghost use Rattle.kernel.specs.Made.{newObject};
 ghost use Rattle.rules.specs.Refusals.{laterRow};
 ghost use Rattle.rules.specs.Ticks.{ticked, held, released, advanced};
 ghost use Rattle.rules.specs.Queues.{sentTo, receivedFrom, storeSentTo, storeReceivedFrom};
-ghost use Rattle.rules.specs.Effects.{created, deleted, suspended, resumed, delayed, queueMade, mutexMade, removed, takenFrom, taken, givenBack, given, effect};
+ghost use Rattle.rules.specs.Effects.{created, deleted, suspended, resumed, delayed, removed, takenFrom, taken, givenBack, given, effect};
 ghost use Rattle.rules.specs.Steps.{stored};
 ghost use Rattle.kernel.specs.Stands.{shownCore};
 ghost use Rattle.kernel.specs.Does.{Reads, Does, Firm, Turning, Reckons};
@@ -28,6 +32,7 @@ use slots::Place;
 use slots::Ring;
 use slots::Sort;
 use slots::Task;
+use slots::Want;
 
 // How many ticks pass.
 fn so_many(a: Asked, pended: u16) -> u32
@@ -40,38 +45,61 @@ fn so_many(a: Asked, pended: u16) -> u32
     }
 }
 
+// What a delete leaves in its slot, and what a remove does.
+fn gone_task(last: bool) -> Task
+    ensures { λ r. ⌜ r ≡ if last then spentTask else freeTask ⌝ }
+{
+    let place = if last { Place::Spent } else { Place::Free };
+    Task {
+        place,
+        own: 0,
+        effective: 0,
+        outcome: 0,
+    }
+}
+
+fn gone_object(last: bool) -> Kind
+    ensures { λ r. ⌜ r ≡ if last then SpentObject else Unused ⌝ }
+{
+    if last { Kind::Spent } else { Kind::Unused }
+}
+
+// What a make puts into its slot.
+fn new_object(a: Asked) -> Kind
+    requires { ⌜ (a .capacity ≤ 64) × (a .size ≤ 64) ⌝ }
+    ensures { λ r. ⌜ r ≡ newObject a ⌝ }
+{
+    let number = a.number;
+    match number {
+        10 => Kind::Queue(Ring {
+            capacity: a.capacity as u8,
+            size: a.size as u8,
+            first: 0,
+            count: 0,
+        }),
+        11 => Kind::Mutex(Sort::Ordinary, Holder::Nobody),
+        19 => Kind::Mutex(Sort::Recursive(0), Holder::Nobody),
+        _ => Kind::Group(0),
+    }
+}
+
 impl Core {
-    fn create(self, n: u8, p: u8) -> Core
+    fn create(mut self, n: u8, p: u8) -> Core
         requires { ⌜ Reads self (λ s. freeSlot (s .tasks)) n ⌝ }
         ensures { λ r. ⌜ Does self (λ s. created s p) r ⌝ }
     {
         let t = TaskSlot::of(n);
-        self.with_task(t, Task::ready_at(p)).to_tail(t)
+        self.tasks = self.tasks.set(t, Task::ready_at(p));
+        self.order = self.order.to_tail(t);
+        self
     }
 
-    fn delete(self, t: TaskSlot, last: bool) -> Core
+    fn delete(mut self, t: TaskSlot, last: bool) -> Core
         ensures { λ r. ⌜ Does self (λ s. deleted s t last) r ⌝ }
     {
-        if last {
-            let spent = Task {
-                place: Place::Spent,
-                own: 0,
-                effective: 0,
-                outcome: 0,
-            };
-            return self.with_task(t, spent).leaves(t);
-        }
-        self.with_task(t, Task::free()).leaves(t)
-    }
-
-    fn remove(self, o: ObjSlot, last: bool) -> Core
-        ensures { λ r. ⌜ Does self (λ s. removed s o last) r ⌝ }
-    {
-        if last {
-            self.with_object(o, Kind::Spent)
-        } else {
-            self.with_object(o, Kind::Unused)
-        }
+        self.tasks = self.tasks.set(t, gone_task(last));
+        self.order = self.order.without(t);
+        self
     }
 
     fn suspend(self, t: TaskSlot) -> Core
@@ -80,7 +108,8 @@ impl Core {
         let x = self.task(t);
         let p = x.place;
         if p.is_listed() {
-            self.with_task(t, x.broken_off()).leaves(t)
+            self.placed(t, Place::Suspended, x.broken_off().outcome)
+                .leaves(t)
         } else {
             self
         }
@@ -127,24 +156,15 @@ impl Core {
             .ticks(so_many(a, self.pended), a.number == 18)
     }
 
-    fn make_queue(self, n: u8, capacity: u8, size: u8) -> Core
-        requires { ⌜ Reads self (λ s. freeObject (s .objects)) n ⌝ }
-        ensures { λ r. ⌜ Does self (λ s. queueMade s capacity size) r ⌝ }
+    // A make takes the slot `n`, a remove gives its object's up: one place for both, since each writes an object and nothing else.
+    fn make_or_remove(self, a: Asked, n: u8) -> Core
+        requires { ⌜ (is 12 a ≡ false → Reads self (λ s. freeObject (s .objects)) n) × (a .capacity ≤ 64) × (a .size ≤ 64) ⌝ }
+        ensures { λ r. ⌜ Does self (λ s. if is 12 a then removed s (a .object) (a .last) else withObject s (object (freeObject (s .objects))) (newObject a)) r ⌝ }
     {
-        let q = Ring {
-            capacity,
-            size,
-            first: 0,
-            count: 0,
-        };
-        self.with_object(ObjSlot::of(n), Kind::Queue(q))
-    }
-
-    fn make_mutex(self, n: u8, m: Sort) -> Core
-        requires { ⌜ Reads self (λ s. freeObject (s .objects)) n ⌝ }
-        ensures { λ r. ⌜ Does self (λ s. mutexMade s m) r ⌝ }
-    {
-        self.with_object(ObjSlot::of(n), Kind::Mutex(m, Holder::Nobody))
+        if a.number == 12 {
+            return self.with_object(a.object, gone_object(a.last));
+        }
+        self.with_object(ObjSlot::of(n), new_object(a))
     }
 
     fn send(self, o: ObjSlot, w: u32, item: &[u8], store: &mut [u8]) -> Core
@@ -157,6 +177,7 @@ impl Core {
             Kind::Spent => self,
             Kind::Queue(q) => self.send_to(o, q, w, item, store),
             Kind::Mutex(_, _) => self,
+            Kind::Group(_) => self,
         }
     }
 
@@ -169,6 +190,7 @@ impl Core {
             Kind::Spent => self,
             Kind::Queue(q) => self.receive_from(o, q, w, store),
             Kind::Mutex(_, _) => self,
+            Kind::Group(_) => self,
         }
     }
 
@@ -182,7 +204,7 @@ impl Core {
             return self.with_object(o, Kind::Mutex(m.counting(m.count() + 1), h));
         }
         if h.is_taken() {
-            return self.wait_for(o, w);
+            return self.wait_for(o, Want::Turn, w);
         }
         self.with_object(o, Kind::Mutex(m.counting(1), Holder::By(u)))
     }
@@ -196,6 +218,7 @@ impl Core {
             Kind::Spent => self,
             Kind::Queue(_) => self,
             Kind::Mutex(m, h) => self.take_mutex(o, m, h, w),
+            Kind::Group(_) => self,
         }
     }
 
@@ -223,6 +246,7 @@ impl Core {
             Kind::Spent => self,
             Kind::Queue(_) => self,
             Kind::Mutex(m, h) => self.give_back(o, m, h),
+            Kind::Group(_) => self,
         }
     }
 
@@ -253,15 +277,15 @@ impl Core {
             7 => self.to_tail(self.running),
             8 => self.hold_deeper(),
             9 | 18 => self.time_passes(a),
-            10 => self.make_queue(n, a.capacity as u8, a.size as u8),
-            11 => self.make_mutex(n, Sort::Ordinary),
-            12 => self.remove(a.object, a.last),
+            10..=12 | 19..=20 => self.make_or_remove(a, n),
             13 => self.send(a.object, a.wait, item, store),
             14 => self.receive(a.object, a.wait, store),
             15 => self.take(a.object, a.wait),
             16 => self.give(a.object),
             17 => self.tick_on(),
-            19 => self.make_mutex(n, Sort::Recursive(0)),
+            21 => self.set(a, store),
+            22 => self.clear(a, store),
+            23 => self.awaits(a, store),
             _ => self,
         }
     }

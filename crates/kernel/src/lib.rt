@@ -1,5 +1,6 @@
 // The kernel: a value that goes in with a call, and comes back with the next state, the running task and an answer.
 mod effects;
+mod events;
 mod lines;
 mod loans;
 mod parts;
@@ -55,6 +56,12 @@ pub(crate) enum Outlet {
     Waiter(TaskSlot),
     Ring,
     Caller,
+}
+
+// What a set's wakes leave, and what the woken ask to have cleared.
+pub(crate) struct Roused {
+    pub core: Core,
+    pub clears: u32,
 }
 
 // What goes on from block to block: the kernel, and what there is of a line whose newline has not come yet.

@@ -26,14 +26,17 @@ impl Core {
         0
     }
 
+    // Whoever waits stands in the order, so it is enough to walk the rows.
     fn held_or_waited(self, o: ObjSlot) -> bool
+        requires { ⌜ Firm self ⌝ }
         ensures { λ r. ⌜ Reads self (λ s. heldOrWaited s o) r ⌝ }
     {
-        lists::either(self.kind(o).is_held(), self.first_waiter(o).is_some())
+        lists::either(self.kind(o).is_held(), self.tasks.waits_on(o))
     }
 
     // A task to be deleted holds a mutex; an object to be removed is held or has waiters.
     fn used(self, a: Asked) -> bool
+        requires { ⌜ Firm self ⌝ }
         ensures { λ r. ⌜ Reads self (λ s. inUse s a) r ⌝ }
     {
         if a.number == 2 {
@@ -61,6 +64,7 @@ impl Core {
                     self.tasks.reaches(by, t, self.running)
                 }
             },
+            Kind::Group(_) => false,
         }
     }
 

@@ -46,13 +46,6 @@ impl Core {
         self.objects.get(o)
     }
 
-    pub(crate) fn with_task(mut self, t: TaskSlot, x: Task) -> Core
-        ensures { λ r. ⌜ Does self (λ s. withTask s t x) r ⌝ }
-    {
-        self.tasks = self.tasks.set(t, x);
-        self
-    }
-
     pub(crate) fn placed(mut self, t: TaskSlot, p: Place, n: u8) -> Core
         ensures { λ r. ⌜ Does self (λ s. withTask s t (placed (taskAt (s .tasks) t) p n)) r ⌝ }
     {

@@ -6,7 +6,9 @@ use crate::Core;
 use numbers::ObjSlot;
 use numbers::TaskSlot;
 use slots::Place;
+use slots::Wait;
 use slots::Wake;
+use slots::Want;
 
 // A wait of 4,294,967,295 is for ever, and has no wake tick.
 fn wake_of(now: u32, w: u32) -> Wake
@@ -24,12 +26,25 @@ impl Core {
     pub(crate) fn arrives(self, t: TaskSlot, p: Place, n: u8) -> Core
         ensures { λ r. ⌜ Does self (λ s. arrives s t p n) r ⌝ }
     {
-        self.placed(t, p, n).to_tail(t)
+        let tasks = self.tasks.placed(t, p, n);
+        let order = self.order.to_tail(t);
+        let objects = self.objects;
+        let running = self.running;
+        Core {
+            tasks,
+            objects,
+            order,
+            running,
+            tick: self.tick,
+            hold: self.hold,
+            pended: self.pended,
+        }
     }
 
-    pub(crate) fn wait_for(self, o: ObjSlot, w: u32) -> Core
-        ensures { λ r. ⌜ Does self (λ s. waitFor s o w) r ⌝ }
+    pub(crate) fn wait_for(self, object: ObjSlot, want: Want, w: u32) -> Core
+        ensures { λ r. ⌜ Does self (λ s. waitFor s object want w) r ⌝ }
     {
-        self.arrives(self.running, Place::Waiting(o, wake_of(self.tick, w)), 0)
+        let wait = Wait { object, want };
+        self.arrives(self.running, Place::Waiting(wait, wake_of(self.tick, w)), 0)
     }
 }

@@ -7,9 +7,11 @@ use native.Mathlib.Omega.{arith}
 use lib.Dec.{eqb, leb}
 use lib.ListN.{length, getD, set, length-map, List·getD-map, List·getD-eq-default}
 use lib.Seq.{set-out}
-use borrow.Author.Tests.{ne-eqb, le-leb}
+use borrow.Author.Tests.{ne-eqb, lt-ltb, le-leb}
 use Rattle.slots.proofs.Sweeps.{map-set, values-of, some-row, first-row}
-use Rattle.lists.proofs.Tests.{by-six}
+use Rattle.lists.specs.FourBytes.{lowByte, secondByte, thirdByte}
+use Rattle.lists.proofs.Bytes.{bytes-back, bytes-small}
+use Rattle.lists.proofs.Tests.{by-seven}
 use Rattle.lists.proofs.Loops.{values-many, value-at}
 use Rattle.lists.specs.Lists.{upTo, index}
 use Rattle.numbers.specs.declared.TaskSlot.{TaskSlot}
@@ -17,7 +19,7 @@ use Rattle.numbers.specs.Numbers.{task}
 use Rattle.slots.specs.declared.Holder.the-variants.{Nobody, By}
 use Rattle.slots.specs.declared.Sort.the-variants.{Ordinary, Recursive}
 use Rattle.slots.specs.declared.Kind.{Kind}
-use Rattle.slots.specs.declared.Kind.the-variants.{Unused, Spent as SpentObject, Queue, Mutex}
+use Rattle.slots.specs.declared.Kind.the-variants.{Unused, Spent as SpentObject, Queue, Mutex, Group}
 use Rattle.slots.specs.declared.Object.{Object}
 use Rattle.slots.specs.Kinds.{unused, takesObject, heldBy}
 use Rattle.objects.specs.declared.Cells.{Cells}
@@ -32,6 +34,7 @@ kind-back SpentObject = (refl, refl)
 kind-back (Queue q) = (refl, refl)
 kind-back (Mutex Ordinary Nobody) = (refl, refl)
 kind-back (Mutex (Recursive n) Nobody) = (refl, refl)
+kind-back (Group b) = (ap Group (bytes-back b), rw (lt-ltb (lowByte b) 256 (bytes-small b .0), lt-ltb (secondByte b) 256 (bytes-small b .1), lt-ltb (thirdByte b) 256 (bytes-small b .2)))
 kind-back (Mutex Ordinary (By t)) = (refl, refl)
 kind-back (Mutex (Recursive n) (By t)) = (refl, refl)
 
@@ -98,28 +101,28 @@ rows-of xs = rw (length-map xs (λ x. cellsOf (x .kind) .state)) (values-of (row
 abbrev of : Objects → ℕ → ℕ → Cells
 of os n s = record { state = s; capacity = getD (os .capacity) n 0; size = getD (os .size) n 0; first = getD (os .first) n 0; count = getD (os .count) n 0; holder = getD (os .holder) n 0 }
 
-pub held-kind : (os : Objects) (n s : ℕ) → 6 ≤ s → kindOf (of os n s) ≡ Mutex (Recursive (getD (os .count) n 0)) (By (task (getD (os .holder) n 0)))
+pub held-kind : (os : Objects) (n s : ℕ) → 7 ≤ s → kindOf (of os n s) ≡ Mutex (Recursive (getD (os .count) n 0)) (By (task (getD (os .holder) n 0)))
 unfolding kindOf
 held-kind os n s h =
-    rw (ne-eqb s 0 (λ e. omega arith), ne-eqb s 1 (λ e. omega arith), ne-eqb s 2 (λ e. omega arith), ne-eqb s 3 (λ e. omega arith), ne-eqb s 4 (λ e. omega arith), ne-eqb s 5 (λ e. omega arith))
+    rw (ne-eqb s 0 (λ e. omega arith), ne-eqb s 1 (λ e. omega arith), ne-eqb s 2 (λ e. omega arith), ne-eqb s 3 (λ e. omega arith), ne-eqb s 4 (λ e. omega arith), ne-eqb s 5 (λ e. omega arith), ne-eqb s 6 (λ e. omega arith))
 
-row-held : (os : Objects) (n : ℕ) (t : TaskSlot) → n < length (os .state) → (leb 5 (getD (os .state) n 0) && eqb (getD (os .holder) n 0) (t .0)) ≡ heldBy t (getD (rowsOf os) n unused .kind)
+row-held : (os : Objects) (n : ℕ) (t : TaskSlot) → n < length (os .state) → (leb 6 (getD (os .state) n 0) && eqb (getD (os .holder) n 0) (t .0)) ≡ heldBy t (getD (rowsOf os) n unused .kind)
 unfolding kindIn kindOf
 row-held os n t h =
     rw (row-at os n h)
-    (by-six (λ s. (leb 5 s && eqb (getD (os .holder) n 0) (t .0)) ≡ heldBy t (kindOf (of os n s))) refl refl refl refl refl refl
-    (λ s l. rw (held-kind os n s l, le-leb 5 s (omega (arith, l)))) (getD (os .state) n 0))
+    (by-seven (λ s. (leb 6 s && eqb (getD (os .holder) n 0) (t .0)) ≡ heldBy t (kindOf (of os n s))) refl refl refl refl refl refl refl
+    (λ s l. rw (held-kind os n s l, le-leb 6 s (omega (arith, l)))) (getD (os .state) n 0))
 
-pub held-some : (os : Objects) (t : TaskSlot) → Full os → upTo (λ b i. b || (leb 5 (getD (os .state) i 0) && eqb (getD (os .holder) i 0) (t .0))) 16 false ≡ heldIn os t
+pub held-some : (os : Objects) (t : TaskSlot) → Full os → upTo (λ b i. b || (leb 6 (getD (os .state) i 0) && eqb (getD (os .holder) i 0) (t .0))) 16 false ≡ heldIn os t
 unfolding heldIn
 held-some os t f =
-    some-row (λ (x : Object). heldBy t (x .kind)) (λ i. leb 5 (getD (os .state) i 0) && eqb (getD (os .holder) i 0) (t .0)) (rowsOf os) unused 16 (rows-many os ∙ f .states)
+    some-row (λ (x : Object). heldBy t (x .kind)) (λ i. leb 6 (getD (os .state) i 0) && eqb (getD (os .holder) i 0) (t .0)) (rowsOf os) unused 16 (rows-many os ∙ f .states)
     (λ i h. row-held os i t (rw (← rows-many os) h))
 
 row-unused : (os : Objects) (n : ℕ) → n < length (os .state) → takesObject (getD (rowsOf os) n unused .kind) ≡ eqb (getD (os .state) n 0) 0
 unfolding kindIn kindOf
 row-unused os n h =
-    rw (row-at os n h) (by-six (λ s. takesObject (kindOf (of os n s)) ≡ eqb s 0) refl refl refl refl refl refl (λ s l. rw (held-kind os n s l, ne-eqb s 0 (λ e. omega arith))) (getD (os .state) n 0))
+    rw (row-at os n h) (by-seven (λ s. takesObject (kindOf (of os n s)) ≡ eqb s 0) refl refl refl refl refl refl refl (λ s l. rw (held-kind os n s l, ne-eqb s 0 (λ e. omega arith))) (getD (os .state) n 0))
 
 pub unused-first : (os : Objects) → index (λ s. eqb s 0) (os .state) ≡ unusedIn os
 unfolding unusedIn

@@ -7,19 +7,21 @@ use native.Mathlib.Omega.{arith}
 use lib.Dec.{eqb, ltb, leb}
 use lib.ListN.{length, getD, set, replicate, getD-replicate, length-set, length-map, List·getD-map}
 use lib.Seq.{ext-getD}
-use borrow.Author.Tests.{eqb-true, eqb-false, ne-eqb, le-leb, lt-leb}
+use borrow.Author.Tests.{eqb-true, eqb-false, ne-eqb, lt-ltb, ltb-true, le-leb, lt-leb}
 use Rattle.lists.specs.Choice.{if_then_else_}
 use Rattle.lists.specs.Lists.{allBelow, upTo}
-use Rattle.lists.proofs.Tests.{by-six}
+use Rattle.lists.specs.FourBytes.{ofBytes}
+use Rattle.lists.proofs.Tests.{by-seven}
 use Rattle.lists.proofs.Loops.{Upto, next, ended}
-use Rattle.lists.proofs.Bools.{and-left, all-below, below-all, all-same}
+use Rattle.lists.proofs.Bools.{and-left, and-right, all-below, below-all, all-same}
 use Rattle.numbers.specs.declared.TaskSlot.{TaskSlot}
 use Rattle.slots.specs.declared.Object.{Object}
 use Rattle.slots.specs.Kinds.{unused, holderOf, mark, marksOf}
 use Rattle.slots.proofs.Sweeps.{by-rows, none-counted, Filled, fill-each}
-use Rattle.slots.specs.SoundSlots.{mayWait, mayWaitOn, ringFine}
+use Rattle.slots.specs.Wants.{allBits}
+use Rattle.slots.specs.SoundSlots.{awaitsTurn, mayWaitOn, ringFine}
 use Rattle.objects.specs.declared.Objects.{Objects}
-use Rattle.objects.specs.Columns.{six, ring, noRing, known, cellsAt, kindOf, kindIn, rowsOf, holdersIn, canonical}
+use Rattle.objects.specs.Columns.{six, ring, noRing, inBytes, known, cellsAt, kindOf, kindIn, rowsOf, holdersIn, canonical}
 use Rattle.objects.specs.Fine.{rangesFine, fineAt, rowFine, openAt, takenAt, holdingIn, Each}
 use Rattle.objects.proofs.Columns.{Full, held-kind, row-at, rows-many}
 
@@ -56,6 +58,25 @@ module _ (c z f k h : ℕ) where
   again-row true m l = refl
   again-row false m l = refl
 
+  -- bits within the 24: the fourth byte is 0
+  fourth : (ltb c 256 && (ltb z 256 && ltb f 256)) ≡ true → leb (ofBytes c z f k) allBits ≡ eqb k 0
+  fourth e = go (eqb k 0) refl
+    where
+      p : c < 256
+      p = ltb-true c 256 (and-left (ltb c 256) _ e)
+
+      r : (ltb z 256 && ltb f 256) ≡ true
+      r = and-right (ltb c 256) _ e
+
+      go : (y : Bool) → eqb k 0 ≡ y → leb (ofBytes c z f k) allBits ≡ y
+      go true q = le-leb (ofBytes c z f k) allBits (omega (arith, p, ltb-true z 256 (and-left (ltb z 256) _ r), ltb-true f 256 (and-right (ltb z 256) _ r), eqb-true k 0 q))
+      go false q = lt-leb (ofBytes c z f k) allBits (omega (arith, eqb-false k 0 q))
+
+  group-row : (y : Bool) → (ltb c 256 && (ltb z 256 && ltb f 256)) ≡ y
+      → ((ltb c 256 && (ltb z 256 && ltb f 256)) && (eqb k 0 && (eqb h 0 && ltb h 16))) ≡ (((ltb c 256 && (ltb z 256 && ltb f 256)) && eqb h 0) && (leb (ofBytes c z f k) allBits && true))
+  group-row true e = rw (e, fourth e) (none-row true (eqb k 0))
+  group-row false e = rw e
+
   row-is : (s : ℕ) → rowFine (six s c z f k h) ≡ (known (six s c z f k h) && rangesFine (kindOf (six s c z f k h)))
   unfolding rowFine kindOf
   row-is zero = free-row (noRing c z f) (eqb k 0)
@@ -63,9 +84,18 @@ module _ (c z f k h : ℕ) where
   row-is (suc (suc zero)) = free-row (noRing c z f) (eqb k 0)
   row-is (suc (suc (suc zero))) = free-row (noRing c z f) (eqb k 0)
   row-is (suc (suc (suc (suc zero)))) = none-row (noRing c z f) (eqb k 0)
-  row-is (suc (suc (suc (suc (suc zero))))) = once-row (noRing c z f) (eqb k 0) (ltb h 16)
-  row-is (suc (suc (suc (suc (suc (suc zero)))))) = again-row (noRing c z f) (leb 1 k && leb k 255) (ltb h 16)
-  row-is (suc (suc (suc (suc (suc (suc (suc n))))))) = rw (lt-leb (suc (suc (suc (suc (suc (suc (suc n))))))) 6 (omega arith))
+  row-is (suc (suc (suc (suc (suc zero))))) = group-row (ltb c 256 && (ltb z 256 && ltb f 256)) refl
+  row-is (suc (suc (suc (suc (suc (suc zero)))))) = once-row (noRing c z f) (eqb k 0) (ltb h 16)
+  row-is (suc (suc (suc (suc (suc (suc (suc zero))))))) = again-row (noRing c z f) (leb 1 k && leb k 255) (ltb h 16)
+  row-is (suc (suc (suc (suc (suc (suc (suc (suc n)))))))) = rw (lt-leb (suc (suc (suc (suc (suc (suc (suc (suc n)))))))) 7 (omega arith))
+
+-- what the types say already
+pub in-bytes : (s c z f : ℕ) → c < 256 → z < 256 → f < 256 → inBytes s c z f ≡ true
+in-bytes s c z f p q r = rw (lt-ltb c 256 p, lt-ltb z 256 q, lt-ltb f 256 r) (go (eqb s 5))
+  where
+    go : (b : Bool) → (not b || true) ≡ true
+    go true = refl
+    go false = refl
 
 fine-is : (os : Objects) (n : ℕ) → rowFine (cellsAt os n) ≡ fineAt os n
 unfolding kindIn
@@ -75,16 +105,16 @@ pub fines-are : (os : Objects) → allBelow 16 (λ n. rowFine (cellsAt os n)) �
 fines-are os = all-same 16 (λ n. rowFine (cellsAt os n)) (fineAt os) (λ n l. fine-is os n)
 
 -- who holds
-holder-is : (os : Objects) (n : ℕ) → holderOf (kindIn os n) .0 ≡ (if leb 5 (getD (os .state) n 0) then getD (os .holder) n 0 else 16)
+holder-is : (os : Objects) (n : ℕ) → holderOf (kindIn os n) .0 ≡ (if leb 6 (getD (os .state) n 0) then getD (os .holder) n 0 else 16)
 unfolding kindIn kindOf
 holder-is os n =
-    by-six
+    by-seven
     (λ s. holderOf (kindOf (six s (getD (os .capacity) n 0) (getD (os .size) n 0) (getD (os .first) n 0) (getD (os .count) n 0) (getD (os .holder) n 0))) .0
-    ≡ (if leb 5 s then getD (os .holder) n 0 else 16))
-    refl refl refl refl refl refl (λ s l. rw (held-kind os n s l, le-leb 5 s (omega (arith, l)))) (getD (os .state) n 0)
+    ≡ (if leb 6 s then getD (os .holder) n 0 else 16))
+    refl refl refl refl refl refl refl (λ s l. rw (held-kind os n s l, le-leb 6 s (omega (arith, l)))) (getD (os .state) n 0)
 
 abbrev pub holding : List ℕ → List ℕ → ℕ → ℕ
-holding states holders i = if leb 5 (getD states i 0) then getD holders i 0 else 16
+holding states holders i = if leb 6 (getD states i 0) then getD holders i 0 else 16
 
 -- the marks of the rows, in numbers
 abbrev pub marking : List ℕ → List ℕ → List Bool → ℕ → List Bool
@@ -105,7 +135,7 @@ marks-are os f = by-rows mark (marking (os .state) (os .holder)) (rowsOf os) unu
     same c i h = ap (λ (m : ℕ). set c m true) (sym (holder-is os i) ∙ sym (ap (λ x. holderOf x .0) (row-at os i (rw (← rows-many os) h))))
 
 -- where nobody holds, nothing is marked
-none-marked : (states holders : List ℕ) (n : ℕ) → ((i : ℕ) → i < n → leb 5 (getD states i 0) ≡ false) → upTo (marking states holders) n (replicate 16 false) ≡ replicate 16 false
+none-marked : (states holders : List ℕ) (n : ℕ) → ((i : ℕ) → i < n → leb 6 (getD states i 0) ≡ false) → upTo (marking states holders) n (replicate 16 false) ≡ replicate 16 false
 unfolding upTo
 none-marked states holders zero f = refl
 none-marked states holders (suc n) f = ap (λ (c : List Bool). marking states holders c n) (none-marked states holders n (λ i l. f i (omega arith))) ∙ rw (f n (omega arith))
@@ -125,16 +155,16 @@ marks-end os f {c} {i} inv e = go (eqb (holdingIn os) 0) refl
         ended (inv .upto) 16 z ∙ marks-are os f
 
 -- who may wait
-pub wait-is : (os : Objects) (t : TaskSlot) (n : ℕ) → (openAt os n || (takenAt os n && not (eqb (getD (os .holder) n 0) (t .0)))) ≡ mayWait t (kindIn os n)
+pub wait-is : (os : Objects) (t : TaskSlot) (n : ℕ) → (openAt os n || (takenAt os n && not (eqb (getD (os .holder) n 0) (t .0)))) ≡ awaitsTurn t (kindIn os n)
 unfolding kindIn kindOf
 wait-is os t n =
-    by-six
-    (λ s. ((eqb s 1 && (eqb (getD (os .count) n 0) 0 || eqb (getD (os .count) n 0) (getD (os .capacity) n 0))) || (leb 5 s && not (eqb (getD (os .holder) n 0) (t .0))))
-    ≡ mayWait t (kindOf (six s (getD (os .capacity) n 0) (getD (os .size) n 0) (getD (os .first) n 0) (getD (os .count) n 0) (getD (os .holder) n 0))))
-    refl (or-false _) refl refl refl refl (λ s l. rw (held-kind os n s l, le-leb 5 s (omega (arith, l)), ne-eqb s 1 (λ e. omega arith))) (getD (os .state) n 0)
+    by-seven
+    (λ s. ((eqb s 1 && (eqb (getD (os .count) n 0) 0 || eqb (getD (os .count) n 0) (getD (os .capacity) n 0))) || (leb 6 s && not (eqb (getD (os .holder) n 0) (t .0))))
+    ≡ awaitsTurn t (kindOf (six s (getD (os .capacity) n 0) (getD (os .size) n 0) (getD (os .first) n 0) (getD (os .count) n 0) (getD (os .holder) n 0))))
+    refl (or-false _) refl refl refl refl refl (λ s l. rw (held-kind os n s l, le-leb 6 s (omega (arith, l)), ne-eqb s 1 (λ e. omega arith))) (getD (os .state) n 0)
 
 pub waits-is : (os : Objects) (t : TaskSlot) {opens takes : List Bool} (n : ℕ) → Each (openAt os) opens → Each (takenAt os) takes → n < 16
-    → mayWaitOn opens takes (os .holder) t n ≡ mayWait t (kindIn os n)
+    → mayWaitOn opens takes (os .holder) t n ≡ awaitsTurn t (kindIn os n)
 waits-is os t n o k l = rw (o .each n l, k .each n l) (wait-is os t n)
 
 -- what is fine is canonical

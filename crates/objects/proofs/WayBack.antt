@@ -4,11 +4,14 @@ use mathlib.Core.Path.{_≡_, refl, sym, ap, _∙_}
 use mathlib.Core.Bool.{true, _&&_}
 use mathlib.Core.List.{List, map}
 use native.Mathlib.Omega.{arith}
-use lib.Dec.{eqb, leb}
+use lib.Dec.{eqb, ltb, leb}
 use lib.ListN.{length, getD, length-map, List·getD-map}
 use lib.Seq.{ext-getD}
-use borrow.Author.Tests.{eqb-true, leb-true}
+use borrow.Author.Tests.{eqb-true, ltb-true, leb-true}
 use Rattle.lists.proofs.Bools.{and-left, and-right, all-below}
+use Rattle.lists.specs.FourBytes.{ofBytes}
+use Rattle.lists.proofs.Bytes.{low-of, second-of, third-of, last-of}
+use Rattle.slots.specs.declared.Kind.the-variants.{Group}
 use Rattle.slots.specs.declared.Object.{Object}
 use Rattle.slots.specs.Kinds.{unused}
 use Rattle.objects.specs.declared.Objects.{Objects}
@@ -35,11 +38,20 @@ cells-back (suc zero) c z f k h e = rw (eqb-true h 0 e)
 cells-back (suc (suc zero)) c z f k h e = bare-back 2 c z f k h e
 cells-back (suc (suc (suc zero))) c z f k h e = bare-back 3 c z f k h e
 cells-back (suc (suc (suc (suc zero)))) c z f k h e = rw (eqb-true h 0 (and-right (noRing c z f) _ e)) (no-ring-back 4 c z f k 0 (and-left (noRing c z f) _ e))
-cells-back (suc (suc (suc (suc (suc zero))))) c z f k h e =
-    rw (eqb-true k 0 (and-left (eqb k 0) _ (and-right (noRing c z f) _ e))) (no-ring-back 5 c z f 0 h (and-left (noRing c z f) _ e))
-cells-back (suc (suc (suc (suc (suc (suc zero)))))) c z f k h e = no-ring-back 6 c z f k h (and-left (noRing c z f) _ e)
-cells-back (suc (suc (suc (suc (suc (suc (suc n))))))) c z f k h e =
-    absurd (omega (arith, leb-true (suc (suc (suc (suc (suc (suc (suc n))))))) 6 (and-left (leb (suc (suc (suc (suc (suc (suc (suc n))))))) 6) _ e)))
+cells-back (suc (suc (suc (suc (suc zero))))) c z f k h e = bytes-again (and-left (ltb c 256 && (ltb z 256 && ltb f 256)) _ e)
+  where
+    bytes-again : (ltb c 256 && (ltb z 256 && ltb f 256)) ≡ true → cellsOf (Group (ofBytes c z f k)) ≡ six 5 c z f k h
+    bytes-again b =
+        let r = and-right (ltb c 256) _ b in
+        let p = ltb-true c 256 (and-left (ltb c 256) _ b) in
+        let q = ltb-true z 256 (and-left (ltb z 256) _ r) in
+        let s = ltb-true f 256 (and-right (ltb z 256) _ r) in
+        rw (low-of c z f k p q s, second-of c z f k p q s, third-of c z f k p q s, last-of c z f k p q s, eqb-true h 0 (and-right (ltb c 256 && (ltb z 256 && ltb f 256)) _ e))
+cells-back (suc (suc (suc (suc (suc (suc zero)))))) c z f k h e =
+    rw (eqb-true k 0 (and-left (eqb k 0) _ (and-right (noRing c z f) _ e))) (no-ring-back 6 c z f 0 h (and-left (noRing c z f) _ e))
+cells-back (suc (suc (suc (suc (suc (suc (suc zero))))))) c z f k h e = no-ring-back 7 c z f k h (and-left (noRing c z f) _ e)
+cells-back (suc (suc (suc (suc (suc (suc (suc (suc n)))))))) c z f k h e =
+    absurd (omega (arith, leb-true (suc (suc (suc (suc (suc (suc (suc (suc n)))))))) 7 (and-left (leb (suc (suc (suc (suc (suc (suc (suc (suc n)))))))) 7) _ e)))
 
 module _ (os : Objects) (full : Full os) where
   -- a column is what the rows say of it

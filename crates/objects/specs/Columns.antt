@@ -1,19 +1,20 @@
 -- The table of objects as a list, in the words of the rules; and as the columns that stand for it.
 use Prim.Native.Nat.{ℕ}
-use mathlib.Core.Bool.{Bool, _&&_, _||_}
+use mathlib.Core.Bool.{Bool, not, _&&_, _||_}
 use mathlib.Core.Path.{_≡_}
 use mathlib.Core.List.{List, map}
-use lib.Dec.{eqb, leb}
+use lib.Dec.{eqb, ltb, leb}
 use lib.ListN.{length, getD, set}
 use Rattle.lists.specs.Choice.{if_then_else_}
 use Rattle.lists.specs.Lists.{any, index, allBelow, values}
+use Rattle.lists.specs.FourBytes.{lowByte, secondByte, thirdByte, lastByte, ofBytes}
 use Rattle.numbers.specs.Numbers.{task}
 use Rattle.numbers.specs.declared.TaskSlot.{TaskSlot}
 use Rattle.slots.specs.declared.Holder.the-variants.{Nobody, By}
 use Rattle.slots.specs.declared.Sort.{Sort}
 use Rattle.slots.specs.declared.Sort.the-variants.{Ordinary, Recursive}
 use Rattle.slots.specs.declared.Kind.{Kind}
-use Rattle.slots.specs.declared.Kind.the-variants.{Unused, Spent as SpentObject, Queue, Mutex}
+use Rattle.slots.specs.declared.Kind.the-variants.{Unused, Spent as SpentObject, Queue, Mutex, Group}
 use Rattle.slots.specs.declared.Ring.{Ring}
 use Rattle.slots.specs.declared.Object.{Object}
 use Rattle.slots.specs.Kinds.{takesObject, heldBy, holderOf}
@@ -41,7 +42,8 @@ cellsOf Unused = bare 0 0 0
 cellsOf SpentObject = bare 3 0 0
 cellsOf (Queue q) = six 1 (q .capacity) (q .size) (q .first) (q .count) 0
 cellsOf (Mutex s Nobody) = mutexCells s 2 4 0
-cellsOf (Mutex s (By t)) = mutexCells s 5 6 (t .0)
+cellsOf (Group b) = six 5 (lowByte b) (secondByte b) (thirdByte b) (lastByte b) 0
+cellsOf (Mutex s (By t)) = mutexCells s 6 7 (t .0)
 
 -- and back
 unfoldable pub kindOf : Cells → Kind
@@ -51,7 +53,8 @@ kindOf c =
     else if eqb (c .state) 2 then Mutex Ordinary Nobody
     else if eqb (c .state) 3 then SpentObject
     else if eqb (c .state) 4 then Mutex (Recursive (c .count)) Nobody
-    else if eqb (c .state) 5 then Mutex Ordinary (By (task (c .holder)))
+    else if eqb (c .state) 5 then Group (ofBytes (c .capacity) (c .size) (c .first) (c .count))
+    else if eqb (c .state) 6 then Mutex Ordinary (By (task (c .holder)))
     else Mutex (Recursive (c .count)) (By (task (c .holder)))
 
 -- the columns that stand for a list of objects
@@ -121,16 +124,25 @@ unusedIn os = index (λ (x : Object). takesObject (x .kind)) (rowsOf os)
 abbrev pub noRing : ℕ → ℕ → ℕ → Bool
 noRing c z f = eqb c 0 && (eqb z 0 && eqb f 0)
 
--- a queue and a recursive mutex count
+-- a queue, and an event group, whose bits stand there in four bytes
+abbrev pub filled : ℕ → Bool
+filled s = eqb s 1 || eqb s 5
+
+-- these and a recursive mutex count
 abbrev pub counts : ℕ → Bool
-counts s = eqb s 1 || (eqb s 4 || eqb s 6)
+counts s = filled s || (eqb s 4 || eqb s 7)
+
+-- an event group's first three are bytes
+abbrev pub inBytes : ℕ → ℕ → ℕ → ℕ → Bool
+inBytes s c z f = not (eqb s 5) || (ltb c 256 && (ltb z 256 && ltb f 256))
 
 abbrev pub known : Cells → Bool
 known c =
-    leb (c .state) 6
-    && ((eqb (c .state) 1 || noRing (c .capacity) (c .size) (c .first))
+    leb (c .state) 7
+    && ((filled (c .state) || noRing (c .capacity) (c .size) (c .first))
+    && (inBytes (c .state) (c .capacity) (c .size) (c .first)
     && ((counts (c .state) || eqb (c .count) 0)
-    && (leb 5 (c .state) || eqb (c .holder) 0)))
+    && (leb 6 (c .state) || eqb (c .holder) 0))))
 
 unfoldable pub canonical : Objects → Bool
 canonical os = allBelow 16 (λ i. known (cellsAt os i))

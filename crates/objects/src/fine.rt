@@ -1,4 +1,5 @@
 // What soundness asks of the objects and must know of them, in numbers: no Kind is made, so that the compiler does many rows at once.
+ghost use Prim.Native.Nat.{_*_, min};
 ghost use mathlib.Core.Path.{_≡_};
 ghost use lib.Dec.{leb};
 ghost use Rattle.lists.specs.Choice.{if_then_else_};
@@ -19,11 +20,11 @@ fn ring_fine(c: u8, z: u8, f: u8, k: u8) -> bool
     lists::both(few, lists::both(small, places))
 }
 
-// A queue's count is asked with its ring. Only a held recursive mutex has another than 0.
+// A queue's count is asked with its ring. Only a held recursive mutex has another than 0: the bits of an event group have no fourth byte.
 fn count_right(s: u8, k: u8) -> bool
     ensures { λ r. ⌜ r ≡ countRight s k ⌝ }
 {
-    if s == 6 {
+    if s == 7 {
         return 1 <= k;
     }
     lists::either(s == 1, k == 0)
@@ -33,18 +34,18 @@ fn row_fine(s: u8, c: u8, z: u8, f: u8, k: u8, h: u8) -> bool
     ensures { λ r. ⌜ r ≡ rowFine (six s c z f k h) ⌝ }
 {
     let none = lists::both(c == 0, lists::both(z == 0, f == 0));
-    let rings = lists::either(s == 1, none);
-    let holds = lists::either(5 <= s, h == 0);
+    let rings = lists::either(lists::either(s == 1, s == 5), none);
+    let holds = lists::either(6 <= s, h == 0);
     let ranges = lists::both(lists::either(s != 1, ring_fine(c, z, f, k)), h < 16);
     let counts = lists::both(count_right(s, k), lists::both(holds, ranges));
-    lists::both(s <= 6, lists::both(rings, counts))
+    lists::both(s <= 7, lists::both(rings, counts))
 }
 
 // Who holds it; 16 where nobody does.
 fn holder(s: u8, h: u8) -> u8
-    ensures { λ r. ⌜ r ≡ if leb 5 s then h else 16 ⌝ }
+    ensures { λ r. ⌜ r ≡ if leb 6 s then h else 16 ⌝ }
 {
-    if 5 <= s { h } else { 16 }
+    if 6 <= s { h } else { 16 }
 }
 
 impl Objects {
@@ -82,19 +83,18 @@ impl Objects {
         let mut n = 0u8;
         let mut i = 0usize;
         while i < 16 {
-            n += lists::one_if(5 <= state[i]);
+            n += lists::one_if(6 <= state[i]);
             i += 1;
         }
         n
     }
 
-    // Who holds: by task slot and by object. Where nobody holds the walk costs nothing.
-    fn marks(self) -> Marks
+    fn marked(self, n: usize) -> Marks
+        requires { ⌜ n ≡ min 16 (16 * holdingIn self) ⌝ }
         ensures { λ r. ⌜ MarksAre self r ⌝ }
     {
         let state = self.state;
         let whom = self.holder;
-        let n = lists::bound(self.holding());
         let mut held = [false; 16];
         let mut by = [16u8; 16];
         let mut i = 0usize;
@@ -108,6 +108,19 @@ impl Objects {
             i += 1;
         }
         Marks { held, by }
+    }
+
+    // Who holds: by task slot and by object. Where nobody holds the walk costs nothing.
+    fn marks(self) -> Marks
+        ensures { λ r. ⌜ MarksAre self r ⌝ }
+    {
+        let n = lists::bound(self.holding());
+        if n == 0 {
+            let held = [false; 16];
+            let by = [16u8; 16];
+            return Marks { held, by };
+        }
+        self.marked(n)
     }
 
     // The queues that are empty or full.
@@ -135,7 +148,7 @@ impl Objects {
         let mut out = [false; 16];
         let mut i = 0usize;
         while i < 16 {
-            out[i] = 5 <= state[i];
+            out[i] = 6 <= state[i];
             i += 1;
         }
         out

@@ -9,11 +9,14 @@ use lib.ListN.{length, getD, set}
 use borrow.Author.Tests.{eqb-true, leb-true, leb-false}
 use Rattle.lists.specs.Choice.{if_then_else_}
 use Rattle.lists.specs.Lists.{foldl, upTo}
+use Rattle.lists.proofs.Tests.{kept-within}
 use Rattle.numbers.specs.declared.TaskSlot.{TaskSlot}
 use Rattle.numbers.specs.declared.ObjSlot.{ObjSlot}
 use Rattle.numbers.specs.Numbers.{task, object, sameTask}
 use Rattle.order.specs.declared.Order.{Order}
 use Rattle.order.specs.Order.{listed}
+use Rattle.slots.specs.declared.Want.{Want}
+use Rattle.slots.specs.declared.Want.the-variants.{Turn}
 use Rattle.slots.specs.declared.Place.{Place}
 use Rattle.slots.specs.declared.Place.the-variants.{Free, Ready, Delayed, Waiting}
 use Rattle.slots.specs.declared.Task.{Task}
@@ -22,14 +25,15 @@ use Rattle.slots.specs.declared.Holder.{Holder}
 use Rattle.slots.specs.declared.Holder.the-variants.{Nobody, By}
 use Rattle.slots.specs.declared.Sort.{Sort}
 use Rattle.slots.specs.declared.Kind.{Kind}
-use Rattle.slots.specs.declared.Kind.the-variants.{Unused, Queue, Mutex}
-use Rattle.slots.specs.Who.{Who, AllReady, WaitersOf}
+use Rattle.slots.specs.declared.Kind.the-variants.{Unused, Queue, Mutex, Group}
+use Rattle.slots.specs.Who.{Who, AllReady, WaitersOf, SatisfiedOn}
+use Rattle.slots.specs.Wants.{waitOn, satisfiedOn}
 use Rattle.slots.specs.Places.{isReady, isListed, wakesAt, outcomeDue}
 use Rattle.slots.specs.Values.{freeTask, spentTask, readyAt, placed, owned, levelled, brokenOff, taskAt}
 use Rattle.rules.specs.State.{State}
 use Rattle.slots.specs.Kinds.{countOf, counting, kindAt}
 use Rattle.rules.specs.Tables.{freeSlot, freeObject, withTask, withObject, withOrder, withRunning, withHold}
-use Rattle.rules.specs.Lines.{begun, level, first, runsIf, chosen, toTail, toHead, leaves}
+use Rattle.rules.specs.Lines.{those, hasBegun, begun, level, first, runsIf, chosen, toTail, toHead, leaves}
 use Rattle.rules.specs.Sound.{noHigher}
 use Rattle.rules.specs.Waits.{later, wakeOf, arrives, waitFor}
 use Rattle.rules.specs.Loans.{moved, movedIf, prioritized, ruled, relevelled, workedOut, newPriority}
@@ -37,7 +41,7 @@ use Rattle.rules.specs.Ticks.{wokenIfDue, wakes, countedOn, oneTick, turned, ti
 use Rattle.rules.specs.Rings.{oneLess, oneMore}
 use Rattle.rules.specs.Queues.{outlet, outletFor, sentBy, sent, refilledBy, received, sentTo, receivedFrom}
 use Rattle.rules.specs.Effects.{created, deleted, suspended, resumed, yielded, delayed, queueMade, mutexMade, removed, takenFrom, taken, handedTo, givenBack, given}
-use Rattle.rules.proofs.TableSlots.{past-tasks}
+use Rattle.rules.proofs.TableSlots.{past-tasks, passes-blocked}
 use Rattle.rules.proofs.LoanWorks.{upToSlot}
 use Rattle.rules.proofs.TableWithin.{first-within, first-single, by-outlet}
 use Rattle.promises.specs.Alike.{Alike}
@@ -55,11 +59,16 @@ slot-low q free ts t h f = go (leb (length ts) (t .0)) refl
 
 -- ── who is first
 pub first-same : (k : State) (m : Order) → Alike k (withOrder k m) → (w : Who) → first k w ≡ first (withOrder k m) w
-unfolding first
+unfolding first those begun
 first-same k m a AllReady = same-leader (k .tasks) (listed (k .order)) (listed m) (a .lines)
 first-same k m a (WaitersOf o) = rw (a .lists o)
+first-same k m a (SatisfiedOn o b) = rw (of-begun (listed (k .order)), of-begun (listed m), a .begun)
+  where
+    -- whom the bits satisfy has begun a wait
+    of-begun : (l : List TaskSlot) → those (k .tasks) (SatisfiedOn o b) l ≡ those (k .tasks) (SatisfiedOn o b) (begun (k .tasks) l)
+    of-begun l = sym (kept-within (hasBegun (k .tasks)) _ (λ t e. passes-blocked (satisfiedOn o b) (taskAt (k .tasks) t .place) refl refl refl refl e) l)
 
-first-low : (k : State) (w : Who) (t : TaskSlot) (r : List TaskSlot) → length (k .tasks) ≤ 16 → first k w ≡ t ∷ r → t .0 < 16
+pub first-low : (k : State) (w : Who) (t : TaskSlot) (r : List TaskSlot) → length (k .tasks) ≤ 16 → first k w ≡ t ∷ r → t .0 < 16
 first-low k w t r h e = omega (arith, first-within k w t (first-single k w t r e))
 
 pub chosen-too : {k j : State} → Twins k j → Twins (chosen k) (chosen j)
@@ -83,9 +92,9 @@ pub arrives-too : {k j : State} (t : TaskSlot) (p : Place) (n : ℕ) → t .0 < 
 unfolding arrives toTail
 arrives-too {k} t p n h w = twice (λ z. arrives z t p n) w (λ o v. changed k o v (to-tail t h) (placed (taskAt (k .tasks) t) p n))
 
-wait-too : {k j : State} (o : ObjSlot) (n : ℕ) → Twins k j → Twins (waitFor k o n) (waitFor j o n)
+pub wait-too : {k j : State} (o : ObjSlot) (x : Want) (n : ℕ) → Twins k j → Twins (waitFor k o x n) (waitFor j o x n)
 unfolding waitFor
-wait-too {k} o n w = twice (λ z. waitFor z o n) w (λ m v. arrives-too (k .running) (Waiting o (wakeOf (k .tick) n)) 0 (v .runs) v)
+wait-too {k} o x n w = twice (λ z. waitFor z o x n) w (λ m v. arrives-too (k .running) (Waiting (waitOn o x) (wakeOf (k .tick) n)) 0 (v .runs) v)
 
 -- ── priorities
 prioritized-too : {k j : State} (t : TaskSlot) (eff : ℕ) → Twins k j → Twins (prioritized k t eff) (prioritized j t eff)
@@ -167,7 +176,7 @@ delayed-too {k} n w = twice (λ z. delayed z n) w (λ o v. go o v (eqb n 0))
     go o v false = arrives-too (k .running) (Delayed (later (k .tick) n)) 0 (v .runs) v
 
 -- ── objects
-object-too : {k j : State} (o : ObjSlot) (x : Kind) → Twins k j → Twins (withObject k o x) (withObject j o x)
+pub object-too : {k j : State} (o : ObjSlot) (x : Kind) → Twins k j → Twins (withObject k o x) (withObject j o x)
 object-too {k} o x w = twice (λ z. withObject z o x) w (λ m v. beside k m v (set (k .objects) (o .0) (record { kind = x })) (k .tick) (k .hold) (k .pended))
 
 pub queue-made-too : {k j : State} (c s : ℕ) → Twins k j → Twins (queueMade k c s) (queueMade j c s)
@@ -270,15 +279,15 @@ sent-too {k} o q n w = twice (λ z. sent z o q n) w (λ m v. rw (← outlet-same
         by-outlet k o q (λ x. Twins (sentBy k o q n x) (sentBy (withOrder k m) o q n x))
         (λ t e. arrives-too t Ready 1 (first-low k (WaitersOf o) t [] (v .slots) e) v)
         (object-too o (Queue (oneMore q)) v)
-        (wait-too o n v)
+        (wait-too o Turn n v)
 
 received-too : {k j : State} (o : ObjSlot) (q : Ring) (n : ℕ) → Twins k j → Twins (received k o q n) (received j o q n)
 unfolding received
 received-too {k} o q n w = twice (λ z. received z o q n) w (λ m v. rw (← first-same k m (v .alike) (WaitersOf o)) (go m v (first k (WaitersOf o)) refl (eqb (q .count) 0)))
   where
     go : (m : Order) → Twins k (withOrder k m) → (f : List TaskSlot) → first k (WaitersOf o) ≡ f → (b : Bool)
-        → Twins (if b then waitFor k o n else refilledBy k o (oneLess q) f) (if b then waitFor (withOrder k m) o n else refilledBy (withOrder k m) o (oneLess q) f)
-    go m v f e true = wait-too o n v
+        → Twins (if b then waitFor k o Turn n else refilledBy k o (oneLess q) f) (if b then waitFor (withOrder k m) o Turn n else refilledBy (withOrder k m) o (oneLess q) f)
+    go m v f e true = wait-too o Turn n v
     go m v [] e false = object-too o (Queue (oneLess q)) v
     go m v (t ∷ r) e false = arrives-too t Ready 1 (first-low k (WaitersOf o) t r (v .slots) e) (object-too o (Queue (oneMore (oneLess q))) v)
 
@@ -287,22 +296,24 @@ sent-to-too o Unused n w = w
 sent-to-too o SpentObject n w = w
 sent-to-too o (Queue q) n w = sent-too o q n w
 sent-to-too o (Mutex s h) n w = w
+sent-to-too o (Group b) n w = w
 
 pub received-from-too : {k j : State} (o : ObjSlot) (x : Kind) (n : ℕ) → Twins k j → Twins (receivedFrom k o x n) (receivedFrom j o x n)
 received-from-too o Unused n w = w
 received-from-too o SpentObject n w = w
 received-from-too o (Queue q) n w = received-too o q n w
 received-from-too o (Mutex s h) n w = w
+received-from-too o (Group b) n w = w
 
 pub taken-too : {k j : State} (o : ObjSlot) (n : ℕ) → Twins k j → Twins (taken k o n) (taken j o n)
 unfolding taken
 taken-too {k} o n w = twice (λ z. taken z o n) w (λ m v. go m v (kindAt (k .objects) o))
   where
     held : (m : Order) → Twins k (withOrder k m) → (s : Sort) (h : TaskSlot) (b : Bool)
-        → Twins (if b then withObject k o (Mutex (counting s (countOf s + 1)) (By h)) else waitFor k o n)
-        (if b then withObject (withOrder k m) o (Mutex (counting s (countOf s + 1)) (By h)) else waitFor (withOrder k m) o n)
+        → Twins (if b then withObject k o (Mutex (counting s (countOf s + 1)) (By h)) else waitFor k o Turn n)
+        (if b then withObject (withOrder k m) o (Mutex (counting s (countOf s + 1)) (By h)) else waitFor (withOrder k m) o Turn n)
     held m v s h true = object-too o (Mutex (counting s (countOf s + 1)) (By h)) v
-    held m v s h false = wait-too o n v
+    held m v s h false = wait-too o Turn n v
 
     go : (m : Order) → Twins k (withOrder k m) → (x : Kind) → Twins (takenFrom k o x n) (takenFrom (withOrder k m) o x n)
     go m v Unused = v
@@ -310,6 +321,7 @@ taken-too {k} o n w = twice (λ z. taken z o n) w (λ m v. go m v (kindAt (k .ob
     go m v (Queue q) = v
     go m v (Mutex s Nobody) = object-too o (Mutex (counting s 1) (By (k .running))) v
     go m v (Mutex s (By h)) = held m v s h (sameTask h (k .running))
+    go m v (Group b) = v
 
 pub given-too : {k j : State} (o : ObjSlot) → Twins k j → Twins (given k o) (given j o)
 unfolding given
@@ -330,3 +342,4 @@ given-too {k} o w = twice (λ z. given z o) w (λ m v. back m v (kindAt (k .obje
     back m v SpentObject = v
     back m v (Queue q) = v
     back m v (Mutex s h) = last m v s h (ltb 1 (countOf s))
+    back m v (Group b) = v

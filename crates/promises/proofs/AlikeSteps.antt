@@ -11,6 +11,7 @@ use Rattle.lists.specs.Choice.{if_then_else_}
 use Rattle.numbers.specs.declared.ObjSlot.{ObjSlot}
 use Rattle.calls.specs.declared.Call.{Call}
 use Rattle.calls.specs.declared.Call.the-variants.{Create, Delete, Suspend, Resume, SetPriority, Delay, Yield, Hold, Release, MakeQueue, MakeMutex, Remove, Send, Receive, Take, Give, Tick, Advance, MakeRecursive}
+use Rattle.calls.specs.declared.Call.the-variants.{MakeGroup, SetBits, ClearBits, Await}
 use Rattle.calls.specs.declared.Uses.{Uses}
 use Rattle.calls.specs.declared.Asked.{Asked}
 use Rattle.calls.specs.Door.{lastIn, taskSlot, objSlot}
@@ -18,7 +19,7 @@ use Rattle.calls.specs.Behind.{asked}
 use Rattle.order.specs.declared.Order.{Order}
 use Rattle.slots.specs.declared.Sort.the-variants.{Ordinary, Recursive}
 use Rattle.slots.specs.declared.Kind.{Kind}
-use Rattle.slots.specs.declared.Kind.the-variants.{Unused, Queue, Mutex}
+use Rattle.slots.specs.declared.Kind.the-variants.{Unused, Queue, Mutex, Group}
 use Rattle.slots.specs.Who.{WaitersOf}
 use Rattle.rules.specs.State.{State}
 use Rattle.slots.specs.Kinds.{kindAt}
@@ -26,6 +27,7 @@ use Rattle.rules.specs.Tables.{withOrder, withUses}
 use Rattle.rules.specs.Sound.{sound}
 use Rattle.items.specs.Bytes.{putAt}
 use Rattle.rules.specs.Queues.{placeBy, storeSent, storeReceived, sentTo, receivedFrom, storeSentTo, storeReceivedFrom}
+use Rattle.rules.specs.Events.{setOn, clearedOn, awaitedOn, wantBy}
 use Rattle.rules.specs.Refusals.{laterRow, refusal}
 use Rattle.rules.specs.Effects.{effect}
 use Rattle.rules.specs.Steps.{stored, answered, usesAfter, after, accepted, turnedAway, steppedBy, step}
@@ -35,6 +37,7 @@ use Rattle.promises.proofs.AlikeTwins.{Twins, shared, twice}
 use Rattle.promises.proofs.AlikeEffects.{first-same, chosen-too, worked-too, outlet-same, created-too, deleted-too, suspended-too, resumed-too, new-priority-too, yielded-too}
 use Rattle.promises.proofs.AlikeEffects.{delayed-too, queue-made-too, mutex-made-too, removed-too, ticked-too, released-too, held-too, advanced-too, sent-to-too}
 use Rattle.promises.proofs.AlikeEffects.{received-from-too, taken-too, given-too}
+use Rattle.promises.proofs.AlikeEvents.{group-made-too, set-too, clear-too, await-too, set-store-too, await-store-too}
 use Rattle.promises.proofs.AlikeSound.{alike-sound, twins}
 use Rattle.promises.proofs.AlikeRefusals.{alike-refusal, create-low, resume-low}
 use Rattle.slots.specs.declared.Kind.the-variants.{Spent as SpentObject}
@@ -63,6 +66,13 @@ effect-too k j (Give o) item store e w = given-too (objSlot (k .uses) o) w
 effect-too k j Tick item store e w = ticked-too w
 effect-too k j (Advance n) item store e w = advanced-too n w
 effect-too k j MakeRecursive item store e w = mutex-made-too (Recursive 0) w
+effect-too k j MakeGroup item store e w = group-made-too w
+effect-too k j (SetBits o b) item store e w = let p = objSlot (k .uses) o in
+    twice (λ z. setOn z p (kindAt (z .objects) p) b) w (λ m v. set-too p (kindAt (k .objects) p) b v)
+effect-too k j (ClearBits o b) item store e w = let p = objSlot (k .uses) o in
+    twice (λ z. clearedOn z p (kindAt (z .objects) p) b) w (λ m v. clear-too p (kindAt (k .objects) p) b v)
+effect-too k j (Await o b all clear n) item store e w = let p = objSlot (k .uses) o in let y = wantBy (asked (k .uses) (Await o b all clear n)) in
+    twice (λ z. awaitedOn z p (kindAt (z .objects) p) y n) w (λ m v. await-too p (kindAt (k .objects) p) y n v)
 
 uses-too : {k j : State} {us vs : Uses} → Alike k j → us ≡ vs → Alike (withUses k us) (withUses j vs)
 uses-too a e =
@@ -85,6 +95,7 @@ sent-store-too k m a o Unused item s = refl
 sent-store-too k m a o SpentObject item s = refl
 sent-store-too k m a o (Queue q) item s = rw (← outlet-same k m a o q) (ap (λ n. putAt n item s) (by-outlet k o q (λ x. placeBy k o q x ≡ placeBy (withOrder k m) o q x) (λ t e. refl) refl refl))
 sent-store-too k m a o (Mutex x h) item s = refl
+sent-store-too k m a o (Group b) item s = refl
 
 received-store-too : (k : State) (m : Order) → Alike k (withOrder k m) → (o : ObjSlot) (x : Kind) (s : List ℕ) → storeReceivedFrom k o x s ≡ storeReceivedFrom (withOrder k m) o x s
 unfolding storeReceived
@@ -92,13 +103,20 @@ received-store-too k m a o Unused s = refl
 received-store-too k m a o SpentObject s = refl
 received-store-too k m a o (Queue q) s = rw (← first-same k m a (WaitersOf o))
 received-store-too k m a o (Mutex x h) s = refl
+received-store-too k m a o (Group b) s = refl
 
 stored-too : (k j : State) (a : Asked) (item s : List ℕ) → Twins k j → stored k a item s ≡ stored j a item s
 unfolding stored
 stored-too k j a item s w =
     let x : Kind = kindAt (k .objects) (a .object) in
     shared (λ z. stored k a item s ≡ stored z a item s) k j w
-    (λ m v. rw (sent-store-too k m (v .alike) (a .object) x item s, received-store-too k m (v .alike) (a .object) x s))
+    (λ m v.
+    rw (
+      sent-store-too k m (v .alike) (a .object) x item s,
+      received-store-too k m (v .alike) (a .object) x s,
+      set-store-too k (withOrder k m) (a .object) x (a .bits) s v,
+      await-store-too k m x (wantBy a) s,
+    ))
 
 answered-too : {k j m n : State} (a : Asked) → Alike k j → Alike m n → answered k a m ≡ answered j a n
 unfolding answered

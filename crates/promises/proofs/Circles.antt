@@ -13,9 +13,10 @@ use Rattle.calls.specs.declared.ObjNo.{ObjNo}
 use Rattle.calls.specs.Door.{objSlot}
 use Rattle.calls.specs.Behind.{onObject, asked}
 use Rattle.calls.specs.Said.{says, refused}
+use Rattle.slots.specs.Wants.{waitOn}
 use Rattle.slots.specs.Values.{placed, taskAt}
 use Rattle.slots.specs.Kinds.{kindAt, isMutex, isBy, hands, byWhom, holderOf, heldBy, recursiveBy}
-use Rattle.rules.specs.Types.{Wake, Waiting, Task, Holder, Nobody, By, Kind, Object, Take, AMutex}
+use Rattle.rules.specs.Types.{Want, Turn, Wait, Wake, Waiting, Task, Holder, Nobody, By, Kind, Object, Take, AMutex}
 use Rattle.rules.specs.Tables.{withUses}
 use Rattle.rows.specs.Applies.{notForIdle, hisAlready, Row, firstRow, table}
 use Rattle.rules.specs.Lines.{chosen, toTail}
@@ -23,7 +24,7 @@ use Rattle.rules.specs.Waits.{wakeOf, arrives, waitFor}
 use Rattle.rules.specs.Loans.{waitsFor, workedOut}
 use Rattle.rules.specs.Circles.{leadsTo, closesCircle}
 use Rattle.rules.specs.Effects.{taken, effect}
-use Rattle.rules.specs.Sentences.{Holds, Exists, MayWait, receiver, sender, taker, Reaches, itself, along, Circle, back, SoundBy, Sound}
+use Rattle.rules.specs.Sentences.{Holds, Exists, MayWait, receiver, sender, taker, awaiter, Reaches, itself, along, Circle, back, SoundBy, Sound}
 use Rattle.rules.specs.Sound.{sound}
 use Rattle.rules.specs.Refusals.{laterRow}
 use Rattle.rules.specs.Steps.{accepted, after, usesAfter, step}
@@ -48,25 +49,26 @@ use Rattle.promises.specs.Circles.{rowsBefore, CirclesExactly, ChainEnds
 module _ (k : State) (S : Sound k) where
   reached-there : {t u : TaskSlot} → Exists (k .tasks) t → Reaches (k .tasks) (k .objects) t u → Exists (k .tasks) u
   reached-there x itself = x
-  reached-there x (along {h = h} o w p q r) = reached-there (S .tables .holders h o q) r
+  reached-there x (along {h = h} y w p q r) = reached-there (S .tables .holders h (y .object) q) r
 
   pub chain-ends : (t : TaskSlot) → Exists (k .tasks) t → ChainEnds k t
   chain-ends t x =
       let l = there-low (k .tasks) t (S .tables .task-slots) x in
       let e = chain-last (k .tasks) (k .objects) (S .tables .task-slots) (S .circles) t l in
-      record { last = e .0; reaches = e .1; there = reached-there x (e .1); no-mutex = λ o w p m. none (e .0) (e .2) o w p m }
+      record { last = e .0; reaches = e .1; there = reached-there x (e .1); no-mutex = λ y w p m. none (e .0) (e .2) y w p m }
     where
-      held : {u : TaskSlot} {x : Kind} → MayWait u x → isMutex x ≡ true → (v : TaskSlot) × (hands x ≡ By v)
+      held : {u : TaskSlot} {z : Want} {x : Kind} → MayWait u z x → isMutex x ≡ true → (v : TaskSlot) × (hands x ≡ By v)
       held (receiver f) m = absurd (false≢true m)
       held (sender f) m = absurd (false≢true m)
       held (taker {u = v} d) m = (v, refl)
+      held (awaiter a b c) m = absurd (false≢true m)
 
-      none : (u : TaskSlot) → 16 ≤ waitsFor (k .tasks) (k .objects) u .0 → (o : ObjSlot) (w : Wake) → taskAt (k .tasks) u .place ≡ Waiting o w → isMutex (kindAt (k .objects) o) ≡ true → ⊥
-      none u far o w p m =
-          let v = held (S .tables .tasks u .waits o w p) m in
-          let low = there-low (k .tasks) (v .0) (S .tables .task-slots) (S .tables .holders (v .0) o (v .1)) in
+      none : (u : TaskSlot) → 16 ≤ waitsFor (k .tasks) (k .objects) u .0 → (y : Wait) (w : Wake) → taskAt (k .tasks) u .place ≡ Waiting y w → isMutex (kindAt (k .objects) (y .object)) ≡ true → ⊥
+      none u far y w p m =
+          let v = held (S .tables .tasks u .waits y w p) m in
+          let low = there-low (k .tasks) (v .0) (S .tables .task-slots) (S .tables .holders (v .0) (y .object) (v .1)) in
           let e : waitsFor (k .tasks) (k .objects) u ≡ v .0 = rw (p, v .1) in
-          omega (arith, ap (λ (y : TaskSlot). y .0) e)
+          omega (arith, ap (λ (t : TaskSlot). t .0) e)
 
 -- ── a take that closes a circle
 -- where every wait and every holder is the same, so are the circles
@@ -153,34 +155,34 @@ module _ (k : State) (S : Sound k) (o : ObjSlot) where
     another h e z = false≢true (sym not-his ∙ ap (isBy (k .running)) e ∙ eq-eqb (h .0) (k .running .0) z)
 
     -- so the caller waits
-    waits-then : (w : ℕ) → taken k o w ≡ waitFor k o w
+    waits-then : (w : ℕ) → taken k o w ≡ waitFor k o Turn w
     unfolding taken
     waits-then w =
         let c = leads-chain leads-back in
         let m = held-mutex (kindAt (k .objects) o) (c .0) (c .1) in
         rw (m .1) (takes-waiting k o (m .0) w (By (c .0)) (ne-eqb (c .0 .0) (k .running .0) (another (c .0) (c .1))) refl)
 
-    closed-then : (w : ℕ) → Circle (waitFor k o w .tasks) (waitFor k o w .objects) (k .running)
+    closed-then : (w : ℕ) → Circle (waitFor k o Turn w .tasks) (waitFor k o Turn w .objects) (k .running)
     unfolding waitFor arrives toTail
     closed-then w =
         let c = leads-chain leads-back in
-        links-closed (k .tasks) (k .objects) full (k .running) low (placed (taskAt (k .tasks) (k .running)) (Waiting o (wakeOf (k .tick) w)) 0)
+        links-closed (k .tasks) (k .objects) full (k .running) low (placed (taskAt (k .tasks) (k .running)) (Waiting (waitOn o Turn) (wakeOf (k .tick) w)) 0)
         (subst (λ h. Reaches (k .tasks) (k .objects) (byWhom h) (k .running)) (sym (c .1)) (c .2))
 
     leads-closed : (w : ℕ) → Circle (last (taken k o w) .tasks) (last (taken k o w) .objects) (k .running)
-    leads-closed w = rw (waits-then w) (circle-last (waitFor k o w) (closed-then w))
+    leads-closed w = rw (waits-then w) (circle-last (waitFor k o Turn w) (closed-then w))
 
     module _ (free : k .hold ≡ 0) (w : ℕ) (some : 0 < w) where
       abbrev OnCircle : List Task → List Object → Type 0
       OnCircle ts os = Circle ts os (k .running)
 
-      waits-so : SoundBy OnCircle (withUses (last (waitFor k o w)) (k .uses))
+      waits-so : SoundBy OnCircle (withUses (last (waitFor k o Turn w)) (k .uses))
       unfolding waitFor arrives toTail
       waits-so =
           let c = leads-chain leads-back in
           let m = held-mutex (kindAt (k .objects) o) (c .0) (c .1) in
-          worked-sound (waitFor k o w) (waits-nearly k S 0 o w some busy (m .0) (c .0) (m .1) (another (c .0) (c .1)))
-          OnCircle (circle-worked (waitFor k o w) (closed-then w)) (S .uses) (λ q. absurd (omega arith))
+          worked-sound (waitFor k o Turn w) (waits-nearly k S 0 o w some busy (m .0) (c .0) (m .1) (another (c .0) (c .1)))
+          OnCircle (circle-worked (waitFor k o Turn w) (closed-then w)) (S .uses) (λ q. absurd (omega arith))
 
       waits-on-circle : SoundBy OnCircle (withUses (last (taken k o w)) (k .uses))
       waits-on-circle = rw (waits-then w) waits-so

@@ -6,6 +6,7 @@ use mathlib.Core.List.{List, [], _∷_}
 use native.Mathlib.Omega.{arith}
 use lib.Dec.{eqb}
 use lib.ListN.{length}
+use lib.Bits.{bitOr}
 use borrow.Author.Tests.{eqb-true}
 use Rattle.lists.specs.Choice.{if_then_else_}
 use Rattle.lists.specs.Lists.{foldl}
@@ -19,7 +20,9 @@ use Rattle.rules.specs.Loans.{workedOut, newPriority}
 use Rattle.rules.specs.Ticks.{ticks, released, held, advanced}
 use Rattle.rules.specs.Rings.{oneLess}
 use Rattle.rules.specs.Queues.{sentBy, sent, sentTo, refilledBy, received, receivedFrom}
+use Rattle.rules.specs.Events.{groupMade, setOn, clearedOn, awaitedOn}
 use Rattle.rules.proofs.MutexCases.{by-take, by-give}
+use Rattle.rules.proofs.EventCases.{by-bits, by-set, by-clear, by-await}
 use Rattle.rules.specs.Effects.{created, deleted, resumed, yielded, queueMade, mutexMade, removed, taken, given, effect}
 use Rattle.rules.specs.Refusals.{refusal}
 use Rattle.rules.specs.Steps.{after, accepted, turnedAway, step}
@@ -30,7 +33,7 @@ use Rattle.rules.proofs.LoanWorks.{worked-same}
 use Rattle.rules.proofs.KeepTicks.{ticks-aside, ticked-aside}
 use Rattle.rules.proofs.KeepTasks.{suspended-same, delayed-same}
 use Rattle.promises.specs.Types.{TaskSlot, ObjSlot, Call, Create, Delete, Suspend, Resume, SetPriority, Delay, Yield, Hold, Release, MakeQueue, MakeMutex, Remove, Send}
-use Rattle.promises.specs.Types.{Receive, Take, Give, Tick, Advance, MakeRecursive, WaitersOf, Kind, Unused, SpentObject, Queue, Mutex, State}
+use Rattle.promises.specs.Types.{Receive, Take, Give, Tick, Advance, MakeRecursive, MakeGroup, SetBits, ClearBits, Await, WaitersOf, Want, Turn, Kind, Unused, SpentObject, Queue, Mutex, Group, State}
 use Rattle.promises.specs.History.{reached}
 use Rattle.promises.specs.Depth.{deeper, isAccepted, depthAt, depth}
 
@@ -42,6 +45,7 @@ module _ (k : State) where
   sent-hold o SpentObject w = refl
   sent-hold o (Queue q) w = by-outlet k o q (λ x. sentBy k o q w x .hold ≡ k .hold) (λ t e. refl) refl refl
   sent-hold o (Mutex s h) w = refl
+  sent-hold o (Group b) w = refl
 
   received-hold : (o : ObjSlot) (x : Kind) (w : ℕ) → receivedFrom k o x w .hold ≡ k .hold
   unfolding received arrives waitFor toTail
@@ -49,11 +53,12 @@ module _ (k : State) where
   received-hold o SpentObject w = refl
   received-hold o (Queue q) w = go (eqb (q .count) 0) (first k (WaitersOf o))
     where
-      go : (b : Bool) (l : List TaskSlot) → (if b then waitFor k o w else refilledBy k o (oneLess q) l) .hold ≡ k .hold
+      go : (b : Bool) (l : List TaskSlot) → (if b then waitFor k o Turn w else refilledBy k o (oneLess q) l) .hold ≡ k .hold
       go true l = refl
       go false [] = refl
       go false (t ∷ l) = refl
   received-hold o (Mutex s h) w = refl
+  received-hold o (Group b) w = refl
 
   taken-hold : (o : ObjSlot) (w : ℕ) → taken k o w .hold ≡ k .hold
   unfolding waitFor arrives toTail
@@ -62,6 +67,17 @@ module _ (k : State) where
   given-hold : (o : ObjSlot) → given k o .hold ≡ k .hold
   unfolding arrives toTail
   given-hold o = by-give k o (λ j. j .hold ≡ k .hold) (λ m. refl) (λ s h e m. refl) (λ s h e m q. refl) (λ s h e m t l q. refl)
+
+  set-hold : (o : ObjSlot) (m : ℕ) → setOn k o (kindAt (k .objects) o) m .hold ≡ k .hold
+  unfolding arrives toTail
+  set-hold o m = by-set k o (λ j. j .hold ≡ k .hold) (λ e. refl) m (λ b e. by-bits o (bitOr b m) (λ j. j .hold ≡ k .hold) (λ j t h f. h) (λ j c h. h) k refl)
+
+  clear-hold : (o : ObjSlot) (m : ℕ) → clearedOn k o (kindAt (k .objects) o) m .hold ≡ k .hold
+  clear-hold o m = by-clear k o (λ j. j .hold ≡ k .hold) (λ e. refl) m (λ b e. refl)
+
+  await-hold : (o : ObjSlot) (x : Want) (w : ℕ) → awaitedOn k o (kindAt (k .objects) o) x w .hold ≡ k .hold
+  unfolding waitFor arrives toTail
+  await-hold o x w = by-await k o (λ j. j .hold ≡ k .hold) (λ e. refl) x w (λ b e q. refl) (λ b e q. refl)
 
   released-hold : released k .hold ≡ k .hold - 1
   unfolding released
@@ -72,7 +88,7 @@ module _ (k : State) where
       go false e = refl
 
   effect-hold : (c : Call) → effect k (asked (k .uses) c) .hold ≡ deeper (asked (k .uses) c) (k .hold)
-  unfolding effect asked created deleted resumed yielded queueMade mutexMade removed newPriority held advanced arrives leaves toTail
+  unfolding effect asked created deleted resumed yielded queueMade mutexMade groupMade removed newPriority held advanced arrives leaves toTail
   effect-hold (Create p) = refl
   effect-hold (Delete t) = refl
   effect-hold (Suspend t) = suspended-same k (taskSlot (k .uses) t) .hold
@@ -92,6 +108,10 @@ module _ (k : State) where
   effect-hold Tick = ticked-aside k .hold
   effect-hold (Advance n) = ticks-aside true n k .hold
   effect-hold MakeRecursive = refl
+  effect-hold MakeGroup = refl
+  effect-hold (SetBits o m) = set-hold (objSlot (k .uses) o) m
+  effect-hold (ClearBits o m) = clear-hold (objSlot (k .uses) o) m
+  effect-hold (Await o m a c w) = await-hold (objSlot (k .uses) o) _ w
 
 -- ── one step: an accepted hold is one deeper, an accepted release one less, and nothing else changes the depth
 pub step-depth : (k : State) (s : List ℕ) (m : CallMade) → stepMade k s m .kernel .hold ≡ depthAt (k .hold) (momentOf stepMade k s m)

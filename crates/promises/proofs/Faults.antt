@@ -11,7 +11,7 @@ use Rattle.calls.specs.Behind.{asked}
 use Rattle.slots.specs.Values.{owned, taskAt}
 use Rattle.slots.specs.Kinds.{isUnused, kindAt}
 use Rattle.rules.specs.Lines.{level}
-use Rattle.rules.specs.Sentences.{Holds, Exists, Reaches, MayWait, receiver, sender, taker, Sound}
+use Rattle.rules.specs.Sentences.{Holds, Exists, Reaches, MayWait, receiver, sender, taker, awaiter, Sound}
 use Rattle.rules.specs.Loans.{workedOut, newPriority}
 use Rattle.rules.specs.Effects.{effect}
 use Rattle.rules.specs.Steps.{after, accepted, step}
@@ -22,7 +22,7 @@ use Rattle.rules.proofs.KeepSlot.{at-same}
 use Rattle.rules.proofs.KeepEvery.{step-kept}
 use Rattle.rules.proofs.LoanWorks.{worked-own}
 use Rattle.rules.proofs.Keeps.{there-low}
-use Rattle.promises.specs.Types.{TaskSlot, ObjSlot, SetPriority, Wake, Ready, Waiting, Task, Kind, State}
+use Rattle.promises.specs.Types.{TaskSlot, ObjSlot, SetPriority, Want, Wait, Wake, Ready, Waiting, Task, Kind, State}
 use Rattle.promises.specs.History.{reached}
 use Rattle.promises.specs.Depth.{isAccepted, depth}
 use Rattle.promises.proofs.Histories.{reached-sound}
@@ -48,13 +48,14 @@ module _ (ms : List CallMade) where
   hold-counts = (depth-by-calls ms, omega (arith, depth-by-calls ms, S .clock .counts .hold-range))
 
   -- an object in use removed: whoever waits, waits on an object that is there, in a slot neither free nor spent
-  pub waited-stays : (t : TaskSlot) (o : ObjSlot) (w : Wake) → taskAt (k .tasks) t .place ≡ Waiting o w → isUnused (kindAt (k .objects) o) ≡ false
-  waited-stays t o w e = not-unused (S .tables .tasks t .waits o w e)
+  pub waited-stays : (t : TaskSlot) (y : Wait) (w : Wake) → taskAt (k .tasks) t .place ≡ Waiting y w → isUnused (kindAt (k .objects) (y .object)) ≡ false
+  waited-stays t y w e = not-unused (S .tables .tasks t .waits y w e)
     where
-      not-unused : {u : TaskSlot} {x : Kind} → MayWait u x → isUnused x ≡ false
+      not-unused : {u : TaskSlot} {z : Want} {x : Kind} → MayWait u z x → isUnused x ≡ false
       not-unused (receiver h) = refl
       not-unused (sender h) = refl
       not-unused (taker h) = refl
+      not-unused (awaiter l h e) = refl
 
   -- a raised priority of a boosted holder lost: a holder whose accepted change says p owns p after it, and has at least p and at least what each owns that waits for it
   pub raise-stays : (t : TaskNo) (o : ObjSlot) (p : ℕ) (item s : List ℕ) → Holds (k .objects) (taskSlot (k .uses) t) o → isAccepted k record { call = SetPriority t p; item = item; store = s } ≡ true

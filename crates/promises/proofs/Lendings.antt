@@ -6,6 +6,7 @@ use mathlib.Core.List.{List, [], _∷_}
 use native.Mathlib.Omega.{arith}
 use lib.Dec.{eqb, ltb}
 use lib.ListN.{length, getD}
+use lib.Bits.{bitOr}
 use borrow.Author.Tests.{eqb-true, ltb-true, ltb-false}
 use Rattle.lists.specs.Choice.{if_then_else_}
 use Rattle.lists.proofs.Bools.{or-off}
@@ -26,6 +27,7 @@ use Rattle.rules.specs.Waits.{later, arrives, waitFor}
 use Rattle.rules.specs.Rings.{oneLess}
 use Rattle.rules.specs.Queues.{sentBy, sent, sentTo, refilledBy, received, receivedFrom}
 use Rattle.rules.specs.Ticks.{held}
+use Rattle.rules.specs.Events.{groupMade, setOn, clearedOn, awaitedOn}
 use Rattle.rules.specs.Refusals.{refusal}
 use Rattle.rules.specs.Effects.{created, resumed, yielded, delayed, queueMade, mutexMade, removed, effect}
 use Rattle.rules.specs.Steps.{mayLend, after, accepted, turnedAway, step}
@@ -35,6 +37,7 @@ use Rattle.rules.proofs.TableWithin.{by-outlet}
 use Rattle.rules.proofs.LoanRule.{ruled-rule, ruled-same, largest-one}
 use Rattle.rules.proofs.LoanWorks.{worked-at, worked-still}
 use Rattle.rules.proofs.LoanStill.{settles}
+use Rattle.rules.proofs.EventCases.{by-bits, by-set, by-clear, by-await}
 use Rattle.rules.proofs.SoundSays.{sound-says}
 use Rattle.rules.proofs.RowPasses.{Passed, passed}
 use Rattle.rules.proofs.TickJumps.{chosen-only}
@@ -44,7 +47,8 @@ use Rattle.rules.proofs.KeepChosen.{sound-reckoned}
 use Rattle.rules.proofs.KeepEvery.{step-kept}
 use Rattle.rules.proofs.Keeps.{ready-low}
 use Rattle.promises.specs.Types.{TaskSlot, ObjSlot, Call, Create, Delete, Suspend, Resume, SetPriority, Delay, Yield, Hold, Release, MakeQueue, MakeMutex, Remove, Send, Ready}
-use Rattle.promises.specs.Types.{Receive, Take, Give, Tick, Advance, MakeRecursive, Place, Delayed, WaitersOf, Kind, Unused, SpentObject, Queue, Mutex, Task, Asked, State}
+use Rattle.promises.specs.Types.{Receive, Take, Give, Tick, Advance, MakeRecursive, MakeGroup, SetBits, ClearBits, Await}
+use Rattle.promises.specs.Types.{Want, Turn, Place, Delayed, WaitersOf, Kind, Unused, SpentObject, Queue, Mutex, Group, Task, Asked, State}
 use Rattle.promises.specs.History.{reached}
 use Rattle.promises.specs.Lending.{RuleHolds, Afresh, SameLoans, SameLevels, mayChange, NotSlow}
 use Rattle.promises.proofs.AlikeSteps.{not-refused}
@@ -110,16 +114,17 @@ module _ (k : State) (S : Sound k) (t : TaskSlot) where
       go true = refl
       go false = arrives-stays k t (k .running) (Delayed (later (k .tick) n)) 0
 
-  waits-stays : (o : ObjSlot) (w : ℕ) → level (waitFor k o w .tasks) t ≡ level (k .tasks) t
+  waits-stays : (o : ObjSlot) (x : Want) (w : ℕ) → level (waitFor k o x w .tasks) t ≡ level (k .tasks) t
   unfolding waitFor
-  waits-stays o w = arrives-stays k t (k .running) _ 0
+  waits-stays o x w = arrives-stays k t (k .running) _ 0
 
   sent-stays : (o : ObjSlot) (x : Kind) (w : ℕ) → level (sentTo k o x w .tasks) t ≡ level (k .tasks) t
   unfolding sent
   sent-stays o Unused w = refl
   sent-stays o SpentObject w = refl
-  sent-stays o (Queue q) w = by-outlet k o q (λ x. level (sentBy k o q w x .tasks) t ≡ level (k .tasks) t) (λ u e. arrives-stays k t u Ready 1) refl (waits-stays o w)
+  sent-stays o (Queue q) w = by-outlet k o q (λ x. level (sentBy k o q w x .tasks) t ≡ level (k .tasks) t) (λ u e. arrives-stays k t u Ready 1) refl (waits-stays o Turn w)
   sent-stays o (Mutex s h) w = refl
+  sent-stays o (Group b) w = refl
 
   received-stays : (o : ObjSlot) (x : Kind) (w : ℕ) → level (receivedFrom k o x w .tasks) t ≡ level (k .tasks) t
   unfolding received
@@ -127,14 +132,26 @@ module _ (k : State) (S : Sound k) (t : TaskSlot) where
   received-stays o SpentObject w = refl
   received-stays o (Queue q) w = go (eqb (q .count) 0) (first k (WaitersOf o))
     where
-      go : (b : Bool) (l : List TaskSlot) → level ((if b then waitFor k o w else refilledBy k o (oneLess q) l) .tasks) t ≡ level (k .tasks) t
-      go true l = waits-stays o w
+      go : (b : Bool) (l : List TaskSlot) → level ((if b then waitFor k o Turn w else refilledBy k o (oneLess q) l) .tasks) t ≡ level (k .tasks) t
+      go true l = waits-stays o Turn w
       go false [] = refl
       go false (u ∷ l) = arrives-stays _ t u Ready 1
   received-stays o (Mutex s h) w = refl
+  received-stays o (Group b) w = refl
+
+  set-stays : (o : ObjSlot) (m : ℕ) → level (setOn k o (kindAt (k .objects) o) m .tasks) t ≡ level (k .tasks) t
+  set-stays o m =
+      let P : State → Type 0 = λ j. level (j .tasks) t ≡ level (k .tasks) t in
+      by-set k o P (λ e. refl) m (λ b e. by-bits o (bitOr b m) P (λ j u h f. arrives-stays j t u Ready 1 ∙ h) (λ j c h. h) k refl)
+
+  clear-stays : (o : ObjSlot) (m : ℕ) → level (clearedOn k o (kindAt (k .objects) o) m .tasks) t ≡ level (k .tasks) t
+  clear-stays o m = by-clear k o (λ j. level (j .tasks) t ≡ level (k .tasks) t) (λ e. refl) m (λ b e. refl)
+
+  await-stays : (o : ObjSlot) (x : Want) (w : ℕ) → level (awaitedOn k o (kindAt (k .objects) o) x w .tasks) t ≡ level (k .tasks) t
+  await-stays o x w = by-await k o (λ j. level (j .tasks) t ≡ level (k .tasks) t) (λ e. refl) x w (λ b e q. refl) (λ b e q. waits-stays o x w)
 
   effect-stays : (n : ℕ) (c : Call) → Passed k (asked (k .uses) c) n → mayChange (asked (k .uses) c) ≡ false → Exists (k .tasks) t → level (effect k (asked (k .uses) c) .tasks) t ≡ level (k .tasks) t
-  unfolding effect asked mayChange mayLend resumed yielded toTail held queueMade mutexMade removed
+  unfolding effect asked mayChange mayLend resumed yielded toTail held queueMade mutexMade groupMade removed
   effect-stays n (Create p) P e x = created-stays n p P x
   effect-stays n (Delete u) P e x = absurd (false≢true (sym e))
   effect-stays n (Suspend u) P e x = absurd (false≢true (sym e))
@@ -154,6 +171,10 @@ module _ (k : State) (S : Sound k) (t : TaskSlot) where
   effect-stays n Tick P e x = absurd (false≢true (sym e))
   effect-stays n (Advance d) P e x = absurd (false≢true (sym e))
   effect-stays n MakeRecursive P e x = refl
+  effect-stays n MakeGroup P e x = refl
+  effect-stays n (SetBits o m) P e x = set-stays (objSlot (k .uses) o) m
+  effect-stays n (ClearBits o m) P e x = clear-stays (objSlot (k .uses) o) m
+  effect-stays n (Await o m a c w) P e x = await-stays (objSlot (k .uses) o) _ w
 
 -- of the five alone the effective priorities are to be worked out: after any other call's effect they are the rule's
 pub nothing-to-work-out : (k : State) → Sound k → (n : ℕ) (c : Call) → Passed k (asked (k .uses) c) n → mayLend (asked (k .uses) c) ≡ false → after k (asked (k .uses) c) ≡ effect k (asked (k .uses) c)

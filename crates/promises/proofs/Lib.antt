@@ -5,6 +5,7 @@ pub mod CirclesCaught
 pub mod AlikeFirsts
 pub mod AlikeTwins
 pub mod AlikeEffects
+pub mod AlikeEvents
 pub mod AlikeSound
 pub mod AlikeRefusals
 pub mod AlikeSteps
@@ -31,3 +32,12 @@ pub mod Recursive
 pub mod Ordinary
 pub mod WholeRound
 pub mod RecursiveCaught
+pub mod BitByBit
+pub mod EventWakes
+pub mod EventLines
+pub mod EventSets
+pub mod SlipBytes
+pub mod EventOrder
+pub mod EventTells
+pub mod EventGroups
+pub mod EventsCaught

@@ -6,6 +6,7 @@ use mathlib.Core.Bool.{Bool, true, false, not, _&&_, _||_, false≢true, and-tru
 use mathlib.Core.List.{List, [], _∷_}
 use lib.Dec.{eqb, ltb}
 use lib.ListN.{length, getD, set, length-map, List·getD-map}
+use lib.Bits.{bitOr}
 use borrow.Author.Tests.{eqb-true}
 use Rattle.lists.specs.Choice.{if_then_else_}
 use Rattle.lists.specs.Lists.{any, index, foldl, upTo, allBelow}
@@ -18,31 +19,35 @@ use Rattle.chains.specs.Lent.{levels}
 use Rattle.chains.specs.Chains.{within}
 use Rattle.items.specs.Bytes.{putAt}
 use Rattle.slots.specs.Places.{isListed, isReady, wakesAt, outcomeDue}
+use Rattle.slots.specs.Wants.{satisfied, cleared, clears}
 use Rattle.slots.specs.Values.{brokenOff, taskAt, levelled}
 use Rattle.slots.specs.Kinds.{unused, takesObject, isBy, byWhom, hands, heldBy, holderOf, recursiveBy, countIn, counting, kindAt}
 use Rattle.slots.specs.declared.Object.{Object}
 use Rattle.rows.specs.Asking.{is, makes}
 use Rattle.rows.specs.Applies.{outOfRange, namesNoneAs, namesNone, wrongSize, notForIdle, notWithHold, noneFree, notHis, hisAlready, countFull, notSuspended, mustWait, noDepth, noTick, firstRow, table}
-use Rattle.rules.specs.Types.{Place, Free, Delayed, Waiting, Suspended, Spent, Names, Nothing, ATask, AnObject, AQueue, AMutex, Seen}
+use Rattle.rules.specs.Types.{Place, Free, Delayed, Waiting, Suspended, Spent, Names, Nothing, ATask, AnObject, AQueue, AMutex, AGroup, Seen}
 use Rattle.rules.specs.Tables.{holds, freeObject, withTask, withObject, withHold, withTick}
 use Rattle.rules.specs.Lines.{first, runsIf, chosen, level, toTail, toHead, leaves, begun}
 use Rattle.rules.specs.Waits.{arrives, waitFor, later}
 use Rattle.rules.specs.Loans.{forWhom, waitsFor, ruled, moved, movedIf, prioritized, relevelled, workedOut, newPriority}
 use Rattle.rules.specs.Circles.{leadsTo, closesCircle, noCircle}
 use Rattle.rules.specs.Sound.{levelsFine, noHigher, sound}
-use Rattle.rules.specs.Sentences.{MayWait, receiver, sender, taker, KindFits, vacant, an-ordinary, Tables}
+use Rattle.rules.specs.Sentences.{MayWait, receiver, sender, taker, awaiter, KindFits, vacant, an-ordinary, Tables}
 use Rattle.rules.specs.Refusals.{newSlot, heldOrWaited, inUse, laterRow, refusal}
 use Rattle.rules.specs.Ticks.{wokenIfDue, wakes, countedOn, oneTick, turned, ticked, turnedIf, ticks, released, advanced, held}
 use Rattle.rules.specs.Queues.{placeBy, outlet, sentBy, sent, sentTo, storeSent, storeSentTo, refilledBy, received, receivedFrom, storeReceived, storeReceivedFrom}
 use Rattle.rules.specs.Rings.{oneMore, oneLess}
+use Rattle.rules.specs.Events.{groupMade, andOn, wokenIn, wokenBy, allWoken, clearsOf, bitsSet, storeSet, wantBy, awaited, storeAwaited, setOn, storeSetOn, clearedOn, awaitedOn, storeAwaitedOn}
 use Rattle.rules.specs.Effects.{created, deleted, suspended, resumed, yielded, delayed, queueMade, mutexMade, removed, takenFrom, taken, handedTo, givenBack, given, effect}
 use Rattle.rules.specs.Steps.{stored, answered, usesAfter, after, accepted, turnedAway, steppedBy, step}
 use Rattle.rules.proofs.SoundSays.{sound-tested, tested-sound, sound-says}
 use Rattle.rules.proofs.SoundTables.{says-tables}
 use Rattle.rules.proofs.TableWithin.{by-outlet}
 use Rattle.rules.proofs.RowPasses.{Passed, passed}
-use Rattle.promises.specs.Types.{TaskSlot, ObjSlot, Asked, Ready, AllReady, WaitersOf, Task, Holder, Nobody, By, Ordinary, Recursive, Kind, Unused, SpentObject, Queue, Mutex, State}
+use Rattle.promises.specs.Types.{TaskSlot, ObjSlot, Asked, Want, Turn, Ready, AllReady, WaitersOf, SatisfiedOn, Task}
+use Rattle.promises.specs.Types.{Holder, Nobody, By, Ordinary, Recursive, Kind, Unused, SpentObject, Queue, Mutex, Group, State}
 use Rattle.promises.specs.Types.{Call, Create, Delete, Suspend, Resume, SetPriority, Delay, Yield, Hold, Release, MakeQueue, MakeMutex, Remove, Send, Receive, Take, Give, Tick, Advance, MakeRecursive}
+use Rattle.promises.specs.Types.{MakeGroup, SetBits, ClearBits, Await}
 use Rattle.promises.specs.Recursive.{asOrdinary, ordinaries, allOrdinary, stepOrdinary, goesByCount, AsOrdinary}
 
 -- ── one object: whose it is and of which kind does not go by the sort
@@ -51,23 +56,27 @@ same-hands Unused = refl
 same-hands SpentObject = refl
 same-hands (Queue q) = refl
 same-hands (Mutex s h) = refl
+same-hands (Group b) = refl
 
 same-takes : (x : Kind) → takesObject (asOrdinary x) ≡ takesObject x
 same-takes Unused = refl
 same-takes SpentObject = refl
 same-takes (Queue q) = refl
 same-takes (Mutex s h) = refl
+same-takes (Group b) = refl
 
-may-wait-ordinary : {t : TaskSlot} {x : Kind} → MayWait t x → MayWait t (asOrdinary x)
+may-wait-ordinary : {t : TaskSlot} {y : Want} {x : Kind} → MayWait t y x → MayWait t y (asOrdinary x)
 may-wait-ordinary (receiver e) = receiver e
 may-wait-ordinary (sender e) = sender e
 may-wait-ordinary (taker d) = taker d
+may-wait-ordinary (awaiter l h e) = awaiter l h e
 
 fits-ordinary : (x : Kind) → KindFits x → KindFits (asOrdinary x)
 fits-ordinary Unused f = vacant refl
 fits-ordinary SpentObject f = vacant refl
 fits-ordinary (Queue q) f = f
 fits-ordinary (Mutex s h) f = an-ordinary
+fits-ordinary (Group b) f = f
 
 -- ── the table
 kind-ordinary : (os : List Object) (o : ObjSlot) → kindAt (ordinaries os) o ≡ asOrdinary (kindAt os o)
@@ -100,7 +109,7 @@ waits-ordinary ts os = fun-ext (λ t. go (taskAt ts t .place))
     go Free = refl
     go Ready = refl
     go (Delayed w) = refl
-    go (Waiting o w) = ap byWhom (hands-ordinary os o)
+    go (Waiting y w) = ap byWhom (hands-ordinary os (y .object))
     go Suspended = refl
     go Spent = refl
 
@@ -129,7 +138,7 @@ tables-ordinary {ts} {os} T =
       object-slots = length-map os _ ∙ T .object-slots;
       as-idle = T .as-idle;
       tasks = λ t. let F = T .tasks t in record {
-        waits = λ o w e. subst (λ x. MayWait t x) (sym (kind-ordinary os o)) (may-wait-ordinary (F .waits o w e));
+        waits = λ y w e. subst (λ x. MayWait t (y .want) x) (sym (kind-ordinary os (y .object))) (may-wait-ordinary (F .waits y w e));
         outcome-range = F .outcome-range;
         delay-outcome = F .delay-outcome;
         wait-outcome = F .wait-outcome;
@@ -255,6 +264,7 @@ sent-ordinary k o Unused w = refl
 sent-ordinary k o SpentObject w = refl
 sent-ordinary k o (Queue q) w = by-outlet k o q (λ y. sentBy (allOrdinary k) o q w y ≡ allOrdinary (sentBy k o q w y)) (λ t e. refl) (put-ordinary k o (Queue (oneMore q))) refl
 sent-ordinary k o (Mutex s h) w = refl
+sent-ordinary k o (Group b) w = refl
 
 received-ordinary : (k : State) (o : ObjSlot) (x : Kind) (w : ℕ) → receivedFrom (allOrdinary k) o (asOrdinary x) w ≡ allOrdinary (receivedFrom k o x w)
 unfolding received first arrives waitFor toTail
@@ -262,12 +272,13 @@ received-ordinary k o Unused w = refl
 received-ordinary k o SpentObject w = refl
 received-ordinary k o (Queue q) w = go (eqb (q .count) 0) (first k (WaitersOf o))
   where
-    go : (b : Bool) (l : List TaskSlot) → (if b then waitFor (allOrdinary k) o w else refilledBy (allOrdinary k) o (oneLess q) l)
-        ≡ allOrdinary (if b then waitFor k o w else refilledBy k o (oneLess q) l)
+    go : (b : Bool) (l : List TaskSlot) → (if b then waitFor (allOrdinary k) o Turn w else refilledBy (allOrdinary k) o (oneLess q) l)
+        ≡ allOrdinary (if b then waitFor k o Turn w else refilledBy k o (oneLess q) l)
     go true l = refl
     go false [] = put-ordinary k o (Queue (oneLess q))
     go false (t ∷ l) = ap (λ j. arrives j t Ready 1) (put-ordinary k o (Queue (oneMore (oneLess q))))
 received-ordinary k o (Mutex s h) w = refl
+received-ordinary k o (Group b) w = refl
 
 store-sent-ordinary : (k : State) (o : ObjSlot) (x : Kind) (item s : List ℕ) → storeSentTo (allOrdinary k) o (asOrdinary x) item s ≡ storeSentTo k o x item s
 unfolding storeSent outlet first
@@ -275,6 +286,7 @@ store-sent-ordinary k o Unused item s = refl
 store-sent-ordinary k o SpentObject item s = refl
 store-sent-ordinary k o (Queue q) item s = by-outlet k o q (λ y. putAt (placeBy (allOrdinary k) o q y) item s ≡ putAt (placeBy k o q y) item s) (λ t e. refl) refl refl
 store-sent-ordinary k o (Mutex m h) item s = refl
+store-sent-ordinary k o (Group b) item s = refl
 
 store-received-ordinary : (k : State) (o : ObjSlot) (x : Kind) (s : List ℕ) → storeReceivedFrom (allOrdinary k) o (asOrdinary x) s ≡ storeReceivedFrom k o x s
 unfolding storeReceived first
@@ -282,6 +294,7 @@ store-received-ordinary k o Unused s = refl
 store-received-ordinary k o SpentObject s = refl
 store-received-ordinary k o (Queue q) s = refl
 store-received-ordinary k o (Mutex m h) s = refl
+store-received-ordinary k o (Group b) s = refl
 
 -- ── mutexes
 takes-ordinary : (k : State) (o : ObjSlot) (x : Kind) (w : ℕ) → recursiveBy (k .running) x ≡ false → takenFrom (allOrdinary k) o (asOrdinary x) w ≡ allOrdinary (takenFrom k o x w)
@@ -292,22 +305,99 @@ takes-ordinary k o (Queue q) w p = refl
 takes-ordinary k o (Mutex s Nobody) w p = put-ordinary k o (Mutex (counting s 1) (By (k .running)))
 takes-ordinary k o (Mutex Ordinary (By h)) w p = go (sameTask h (k .running))
   where
-    go : (b : Bool) → (if b then withObject (allOrdinary k) o (Mutex Ordinary (By h)) else waitFor (allOrdinary k) o w)
-        ≡ allOrdinary (if b then withObject k o (Mutex Ordinary (By h)) else waitFor k o w)
+    go : (b : Bool) → (if b then withObject (allOrdinary k) o (Mutex Ordinary (By h)) else waitFor (allOrdinary k) o Turn w)
+        ≡ allOrdinary (if b then withObject k o (Mutex Ordinary (By h)) else waitFor k o Turn w)
     go true = put-ordinary k o (Mutex Ordinary (By h))
     go false = refl
 takes-ordinary k o (Mutex (Recursive n) (By h)) w p = rw p
+takes-ordinary k o (Group b) w p = refl
 
 gives-ordinary : (k : State) (o : ObjSlot) (x : Kind) → ltb 1 (countIn x) ≡ false → givenBack (allOrdinary k) o (asOrdinary x) ≡ allOrdinary (givenBack k o x)
 unfolding first arrives toTail
 gives-ordinary k o Unused p = refl
 gives-ordinary k o SpentObject p = refl
 gives-ordinary k o (Queue q) p = refl
+gives-ordinary k o (Group b) p = refl
 gives-ordinary k o (Mutex s h) p = rw p (go (first k (WaitersOf o)))
   where
     go : (l : List TaskSlot) → handedTo (allOrdinary k) o Ordinary l ≡ allOrdinary (handedTo k o s l)
     go [] = put-ordinary k o (Mutex (counting s 0) Nobody)
     go (t ∷ l) = put-ordinary (arrives k t Ready 1) o (Mutex (counting s 1) (By t))
+
+-- ── event groups
+all-woken-ordinary : (k : State) (l : List TaskSlot) → allWoken (allOrdinary k) l ≡ allOrdinary (allWoken k l)
+unfolding allWoken foldl arrives toTail
+all-woken-ordinary k [] = refl
+all-woken-ordinary k (t ∷ l) = all-woken-ordinary (arrives k t Ready 1) l
+
+module _ (o : ObjSlot) (b : ℕ) where
+  woken-in-ordinary : (n : ℕ) (k : State) → wokenIn n (allOrdinary k) o b ≡ wokenIn n k o b
+  unfolding wokenIn first arrives toTail
+  woken-in-ordinary zero k = refl
+  woken-in-ordinary (suc n) k = go (first k (SatisfiedOn o b)) (λ t. woken-in-ordinary n (arrives k t Ready 1))
+    where
+      go : (l : List TaskSlot) → ((t : TaskSlot) → wokenIn n (allOrdinary (arrives k t Ready 1)) o b ≡ wokenIn n (arrives k t Ready 1) o b)
+          → andOn l (λ t. wokenIn n (allOrdinary (arrives k t Ready 1)) o b) ≡ andOn l (λ t. wokenIn n (arrives k t Ready 1) o b)
+      go [] on = refl
+      go (t ∷ l) on = ap (λ r. t ∷ r) (on t)
+
+  woken-by-ordinary : (k : State) → wokenBy (allOrdinary k) o b ≡ wokenBy k o b
+  unfolding wokenBy
+  woken-by-ordinary k = woken-in-ordinary 16 k
+
+  bits-ordinary : (k : State) → bitsSet (allOrdinary k) o b ≡ allOrdinary (bitsSet k o b)
+  unfolding bitsSet
+  bits-ordinary k =
+      let l = wokenBy k o b in
+      rw (woken-by-ordinary k, all-woken-ordinary k l) (put-ordinary (allWoken k l) o (Group (cleared b (clearsOf (k .tasks) l))))
+
+  awaits-ordinary : (k : State) (x : Want) (w : ℕ) → awaited (allOrdinary k) o b x w ≡ allOrdinary (awaited k o b x w)
+  unfolding awaited waitFor arrives toTail
+  awaits-ordinary k x w = go (satisfied b x)
+    where
+      y : Kind
+      y = Group (cleared b (clears x))
+
+      go : (met : Bool) → (if met then withObject (allOrdinary k) o y else waitFor (allOrdinary k) o x w) ≡ allOrdinary (if met then withObject k o y else waitFor k o x w)
+      go true = put-ordinary k o y
+      go false = refl
+
+sets-ordinary : (k : State) (o : ObjSlot) (x : Kind) (m : ℕ) → setOn (allOrdinary k) o (asOrdinary x) m ≡ allOrdinary (setOn k o x m)
+sets-ordinary k o Unused m = refl
+sets-ordinary k o SpentObject m = refl
+sets-ordinary k o (Queue q) m = refl
+sets-ordinary k o (Mutex s h) m = refl
+sets-ordinary k o (Group b) m = bits-ordinary o (bitOr b m) k
+
+store-set-ordinary : (k : State) (o : ObjSlot) (x : Kind) (m : ℕ) (s : List ℕ) → storeSetOn (allOrdinary k) o (asOrdinary x) m s ≡ storeSetOn k o x m s
+unfolding storeSet
+store-set-ordinary k o Unused m s = refl
+store-set-ordinary k o SpentObject m s = refl
+store-set-ordinary k o (Queue q) m s = refl
+store-set-ordinary k o (Mutex n h) m s = refl
+store-set-ordinary k o (Group b) m s = rw (woken-by-ordinary o (bitOr b m) k)
+
+clears-ordinary : (k : State) (o : ObjSlot) (x : Kind) (m : ℕ) → clearedOn (allOrdinary k) o (asOrdinary x) m ≡ allOrdinary (clearedOn k o x m)
+clears-ordinary k o Unused m = refl
+clears-ordinary k o SpentObject m = refl
+clears-ordinary k o (Queue q) m = refl
+clears-ordinary k o (Mutex s h) m = refl
+clears-ordinary k o (Group b) m = put-ordinary k o (Group (cleared b m))
+
+awaited-ordinary : (k : State) (o : ObjSlot) (x : Kind) (y : Want) (w : ℕ) → awaitedOn (allOrdinary k) o (asOrdinary x) y w ≡ allOrdinary (awaitedOn k o x y w)
+awaited-ordinary k o Unused y w = refl
+awaited-ordinary k o SpentObject y w = refl
+awaited-ordinary k o (Queue q) y w = refl
+awaited-ordinary k o (Mutex s h) y w = refl
+awaited-ordinary k o (Group b) y w = awaits-ordinary o b k y w
+
+store-awaited-ordinary : (k : State) (x : Kind) (y : Want) (s : List ℕ) → storeAwaitedOn (allOrdinary k) (asOrdinary x) y s ≡ storeAwaitedOn k x y s
+unfolding storeAwaited
+store-awaited-ordinary k Unused y s = refl
+store-awaited-ordinary k SpentObject y s = refl
+store-awaited-ordinary k (Queue q) y s = refl
+store-awaited-ordinary k (Mutex n h) y s = refl
+store-awaited-ordinary k (Group b) y s = refl
 
 -- ── what each call does
 made-ordinary : (k : State) (x : Kind) → withObject (allOrdinary k) (object (freeObject (ordinaries (k .objects)))) (asOrdinary x) ≡ allOrdinary (withObject k (object (freeObject (k .objects))) x)
@@ -347,10 +437,11 @@ last-give t SpentObject h e = refl
 last-give t (Queue q) h e = refl
 last-give t (Mutex Ordinary u) h e = refl
 last-give t (Mutex (Recursive n) u) h e = rw h at e
+last-give t (Group b) h e = refl
 
 effect-ordinary : (k : State) (c : Call) (i : ℕ) → Passed k (asked (k .uses) c) i → goesByCount k c ≡ false → is 19 (asked (k .uses) c) ≡ false
     → effect (allOrdinary k) (asked (k .uses) c) ≡ allOrdinary (effect k (asked (k .uses) c))
-unfolding effect asked notHis created deleted resumed newPriority yielded held advanced queueMade mutexMade taken given arrives leaves toTail
+unfolding effect asked notHis created deleted resumed newPriority yielded held advanced queueMade mutexMade groupMade taken given arrives leaves toTail
 effect-ordinary k (Create p) i P g m = refl
 effect-ordinary k (Delete t) i P g m = refl
 effect-ordinary k (Suspend t) i P g m = suspended-ordinary k (taskSlot (k .uses) t)
@@ -380,6 +471,17 @@ effect-ordinary k (Give o) i P g m =
 effect-ordinary k Tick i P g m = ticked-ordinary k
 effect-ordinary k (Advance n) i P g m = ticks-ordinary true n k
 effect-ordinary k MakeRecursive i P g m = absurd (false≢true (sym m))
+effect-ordinary k MakeGroup i P g m = made-ordinary k (Group 0)
+effect-ordinary k (SetBits o b) i P g m =
+    let p = objSlot (k .uses) o in
+    ap (λ x. setOn (allOrdinary k) p x b) (kind-ordinary (k .objects) p) ∙ sets-ordinary k p (kindAt (k .objects) p) b
+effect-ordinary k (ClearBits o b) i P g m =
+    let p = objSlot (k .uses) o in
+    ap (λ x. clearedOn (allOrdinary k) p x b) (kind-ordinary (k .objects) p) ∙ clears-ordinary k p (kindAt (k .objects) p) b
+effect-ordinary k (Await o b all clear w) i P g m =
+    let p = objSlot (k .uses) o in
+    let y = wantBy (asked (k .uses) (Await o b all clear w)) in
+    ap (λ x. awaitedOn (allOrdinary k) p x y w) (kind-ordinary (k .objects) p) ∙ awaited-ordinary k p (kindAt (k .objects) p) y w
 
 -- ── what is turned away
 -- what the rows look at, with this kind and this answer about circles
@@ -402,6 +504,7 @@ names-ordinary k a n h b ATask = refl
 names-ordinary k a n h b AnObject = refl
 names-ordinary k a n h b AQueue = refl
 names-ordinary k a n h b AMutex = refl
+names-ordinary k a n h b AGroup = refl
 
 -- a recursive one that the caller does not take again
 recursive-rows : (k : State) (a : Asked) (n : ℕ) (h : Holder) (b : Bool) (item s : ℕ) (c : Bool) → is 15 a ≡ c → (d : Bool) → isBy (k .running) h ≡ d → (c && d) ≡ false
@@ -416,6 +519,7 @@ rows-ordinary : (k : State) (a : Asked) (x : Kind) (b : Bool) (item s : ℕ) →
 rows-ordinary k a Unused b item s p = refl
 rows-ordinary k a SpentObject b item s p = refl
 rows-ordinary k a (Queue q) b item s p = refl
+rows-ordinary k a (Group m) b item s p = refl
 rows-ordinary k a (Mutex Ordinary h) b item s p = refl
 rows-ordinary k a (Mutex (Recursive n) h) b item s p = recursive-rows k a n h b item s (is 15 a) refl (isBy (k .running) h) refl p
 
@@ -428,6 +532,7 @@ not-again-ordinary t Unused = refl
 not-again-ordinary t SpentObject = refl
 not-again-ordinary t (Queue q) = refl
 not-again-ordinary t (Mutex s h) = refl
+not-again-ordinary t (Group b) = refl
 
 circles-ordinary : (k : State) (a : Asked) → (is 15 a && recursiveBy (k .running) (kindAt (k .objects) (a .object))) ≡ false → closesCircle (allOrdinary k) a ≡ closesCircle k a
 unfolding closesCircle
@@ -451,7 +556,14 @@ row-ordinary k a item s p =
 stored-ordinary : (k : State) (a : Asked) (item s : List ℕ) → stored (allOrdinary k) a item s ≡ stored k a item s
 unfolding stored
 stored-ordinary k a item s =
-    rw (kind-ordinary (k .objects) (a .object), store-sent-ordinary k (a .object) (kindAt (k .objects) (a .object)) item s, store-received-ordinary k (a .object) (kindAt (k .objects) (a .object)) s)
+    let x : Kind = kindAt (k .objects) (a .object) in
+    rw (
+      kind-ordinary (k .objects) (a .object),
+      store-sent-ordinary k (a .object) x item s,
+      store-received-ordinary k (a .object) x s,
+      store-set-ordinary k (a .object) x (a .bits) s,
+      store-awaited-ordinary k x (wantBy a) s,
+    )
 
 answered-ordinary : (k : State) (a : Asked) (j : State) → answered (allOrdinary k) a (allOrdinary j) ≡ answered k a j
 unfolding answered

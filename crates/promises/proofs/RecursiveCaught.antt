@@ -33,7 +33,7 @@ use Rattle.rules.specs.Ticks.{held, ticks, released}
 use Rattle.rules.specs.Waits.{arrives, waitFor}
 use Rattle.promises.specs.Wrong.{stepOf, Wrong, showsBy, sameNumber, sameList, sameView, found, verdict}
 use Rattle.promises.specs.Cases.{Case, ran}
-use Rattle.promises.specs.Types.{TaskSlot, ObjSlot, Asked, Call, WaitersOf, Kind, Unused, SpentObject, Queue, Mutex, State}
+use Rattle.promises.specs.Types.{TaskSlot, ObjSlot, Asked, Call, WaitersOf, Kind, Unused, SpentObject, Queue, Mutex, Group, State}
 use Rattle.promises.specs.WrongCircles.{refusesBy}
 use Rattle.promises.specs.WrongRecursive.{mutexIn, handedBy, givenBackBy, givesBy, moreThanOnce, atOne, atNone, fullBy, fullAt, recursiveMistakes}
 use Rattle.promises.specs.RecursiveCases.{nested, rowsBeside, othersTake, recursiveCases}
@@ -62,6 +62,7 @@ given-back-so : (k : State) (o : ObjSlot) (x : Kind) → givenBackBy moreThanOnc
 given-back-so k o Unused = refl
 given-back-so k o SpentObject = refl
 given-back-so k o (Queue q) = refl
+given-back-so k o (Group b) = refl
 given-back-so k o (Mutex s h) = go (ltb 1 (countOf s)) (first k (WaitersOf o))
   where
     less : State

@@ -20,7 +20,7 @@ use Rattle.rules.specs.Steps.{Stepped}
 pub record Alike (k j : State) : Type 0 where
   -- the same tasks: places, priorities, outcomes
   pub tasks : k .tasks ≡ j .tasks
-  -- the same objects: kinds, rings, holders
+  -- the same objects: kinds, rings, holders, bits
   pub objects : k .objects ≡ j .objects
   -- the same task runs
   pub running : k .running ≡ j .running

@@ -12,10 +12,10 @@ use Rattle.calls.specs.Said.{Saying, says, refused}
 use Rattle.slots.specs.Values.{taskAt}
 use Rattle.slots.specs.Kinds.{isMutex, kindAt}
 use Rattle.rows.specs.Applies.{Row}
-use Rattle.rules.specs.Types.{Wake, Waiting}
+use Rattle.rules.specs.Types.{Wake, Wait, Waiting}
 use Rattle.rules.specs.Sentences.{Holds, Exists, Reaches, Circle, SoundBy}
 use Rattle.rules.specs.Steps.{accepted}
-use Rattle.promises.specs.Types.{TaskSlot, ObjSlot, Call, Take, State}
+use Rattle.promises.specs.Types.{TaskSlot, Call, Take, State}
 use Rattle.promises.specs.TurnedAway.{None}
 
 -- "the chain from that mutex's holder, through mutexes being waited on, leads back to the caller": over any number of links, from another than the caller, since of a recursive
@@ -58,4 +58,4 @@ pub record ChainEnds (k : State) (t : TaskSlot) : Type 0 where
   pub last : TaskSlot
   pub reaches : Reaches (k .tasks) (k .objects) t last
   pub there : Exists (k .tasks) last
-  pub no-mutex : (o : ObjSlot) (w : Wake) → taskAt (k .tasks) last .place ≡ Waiting o w → isMutex (kindAt (k .objects) o) ≡ true → ⊥
+  pub no-mutex : (y : Wait) (w : Wake) → taskAt (k .tasks) last .place ≡ Waiting y w → isMutex (kindAt (k .objects) (y .object)) ≡ true → ⊥

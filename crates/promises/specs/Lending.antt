@@ -32,7 +32,7 @@ pub record SameLoans (k j : State) : Type 0 where
 abbrev pub SameLevels : State → State → Type 0
 SameLevels k j = (t : TaskSlot) → level (k .tasks) t ≡ level (j .tasks) t
 
--- the calls after which a task may have another effective priority: delete, suspend, set priority, take and give; and release, tick and advance, with which a wait may end
+-- the calls after which a task may have another effective priority: delete, suspend, set priority, take and give; and release, tick and advance, with which a wait on a mutex may end
 unfoldable pub mayChange : Asked → Bool
 mayChange a = mayLend a || (is 9 a || (is 17 a || is 18 a))
 

@@ -20,3 +20,6 @@ pub mod Recursive
 pub mod RecursiveCases
 pub mod WholeRound
 pub mod WrongRecursive
+pub mod EventGroups
+pub mod EventCases
+pub mod WrongEvents

@@ -19,7 +19,7 @@ use Rattle.rules.specs.Lines.{first, chosen}
 use Rattle.rules.specs.Waits.{arrives}
 use Rattle.rules.specs.Loans.{workedOut}
 use Rattle.rules.specs.Steps.{Stepped, turnedAway, step}
-use Rattle.promises.specs.Types.{TaskSlot, Call, MakeMutex, MakeRecursive, Ready, Nobody, By, Sort, Ordinary, Recursive, Kind, Unused, SpentObject, Queue, Mutex, WaitersOf, State}
+use Rattle.promises.specs.Types.{TaskSlot, Call, MakeMutex, MakeRecursive, Ready, Nobody, By, Sort, Ordinary, Recursive, Kind, Unused, SpentObject, Queue, Mutex, Group, WaitersOf, State}
 use Rattle.promises.specs.Advance.{doneWith}
 
 -- call 19; d is what the step gave
@@ -83,6 +83,7 @@ asOrdinary Unused = Unused
 asOrdinary SpentObject = SpentObject
 asOrdinary (Queue q) = Queue q
 asOrdinary (Mutex s h) = Mutex Ordinary h
+asOrdinary (Group b) = Group b
 
 abbrev pub ordinaries : List Object → List Object
 ordinaries os = map (λ (x : Object). record { kind = asOrdinary (x .kind) }) os

@@ -14,7 +14,7 @@ use Rattle.calls.specs.declared.TaskNo.{TaskNo}
 use Rattle.calls.specs.declared.ObjNo.{ObjNo}
 use Rattle.calls.specs.Named.{taskOf, objectOf}
 use Rattle.calls.specs.Door.{freshUses, taskNo, objNo, withoutTask}
-use Rattle.calls.specs.Table.{Argument, aTask, anObject, aQueue, aMutex, aPriority, someTicks, aCapacity, aSize, aWait, anItem, called}
+use Rattle.calls.specs.Table.{Argument, aTask, anObject, aQueue, aMutex, aGroup, aPriority, someTicks, aCapacity, aSize, aWait, someBits, anAll, aClear, anItem, called}
 use Rattle.calls.specs.Behind.{nothing, putAll, asked}
 use Rattle.calls.specs.Said.{Word, done, made, waiting, refused, says}
 use Rattle.order.specs.Order.{listed}
@@ -182,11 +182,15 @@ renamed f g (aTask t) = aTask (f t)
 renamed f g (anObject o) = anObject (g o)
 renamed f g (aQueue o) = aQueue (g o)
 renamed f g (aMutex o) = aMutex (g o)
+renamed f g (aGroup o) = aGroup (g o)
 renamed f g (aPriority p) = aPriority p
 renamed f g (someTicks n) = someTicks n
 renamed f g (aCapacity c) = aCapacity c
 renamed f g (aSize n) = aSize n
 renamed f g (aWait w) = aWait w
+renamed f g (someBits b) = someBits b
+renamed f g (anAll b) = anAll b
+renamed f g (aClear b) = aClear b
 renamed f g anItem = anItem
 
 abbrev pub doorBy : (Uses → TaskNo → TaskNo) → (Uses → ObjNo → ObjNo) → Uses → Call → Asked

@@ -16,7 +16,7 @@ use Rattle.rules.specs.Waits.{arrives}
 use Rattle.rules.specs.Circles.{leadsTo}
 use Rattle.rules.specs.Refusals.{seen}
 use Rattle.rules.specs.Effects.{taken}
-use Rattle.promises.specs.Types.{TaskSlot, ObjSlot, Asked, Call, Create, Hold, MakeMutex, Take, Give, Ready, WaitersOf, Nobody, By, Sort, Kind, Unused, SpentObject, Queue, Mutex, State}
+use Rattle.promises.specs.Types.{TaskSlot, ObjSlot, Asked, Call, Create, Hold, MakeMutex, Take, Give, Ready, WaitersOf, Nobody, By, Sort, Kind, Unused, SpentObject, Queue, Mutex, Group, State}
 use Rattle.promises.specs.Cases.{forEver, view}
 use Rattle.promises.specs.RecursiveCases.{takenTimes, howOften}
 use Rattle.promises.specs.WholeRound.{alone, joined}
@@ -36,6 +36,7 @@ abbrev pub givenBackBy : (ℕ → Bool) → (ℕ → ℕ) → (ℕ → ℕ) → 
 givenBackBy more handed freed k o Unused = k
 givenBackBy more handed freed k o SpentObject = k
 givenBackBy more handed freed k o (Queue q) = k
+givenBackBy more handed freed k o (Group b) = k
 givenBackBy more handed freed k o (Mutex s h) =
     if more (countOf s) then withObject k o (Mutex (counting s (countOf s - 1)) h)
     else handedBy handed freed k o s (first k (WaitersOf o))

@@ -7,15 +7,20 @@ use Rattle.lists.specs.Choice.{if_then_else_}
 use Rattle.numbers.specs.declared.TaskSlot.{TaskSlot}
 use Rattle.numbers.specs.Numbers.{sameTask, isIdle}
 use Rattle.slots.specs.Places.{isFree, isSuspended}
-use Rattle.slots.specs.Kinds.{countIn, isUnused, isQueue, isMutex, heldBy, recursiveBy, isHeld}
-use Rattle.rows.specs.Types.{Names, Nothing, ATask, AnObject, AQueue, AMutex, Asked, Kind, Unused, SpentObject, Queue, Mutex, Seen}
+use Rattle.slots.specs.Wants.{allBits, holdsOf}
+use Rattle.slots.specs.Kinds.{countIn, isUnused, isQueue, isMutex, isGroup, heldBy, recursiveBy, isHeld}
+use Rattle.rows.specs.Types.{Names, Nothing, ATask, AnObject, AQueue, AMutex, AGroup, Asked, Kind, Unused, SpentObject, Queue, Mutex, Group, Seen}
 use Rattle.rows.specs.Asking.{is, stops, waits}
 
 -- of an advance: "n ticks, 1 to 65,535"
 abbrev pub notSoMany : Asked → Bool
 notSoMany a = is 18 a && (ltb (a .ticks) 1 || ltb 65535 (a .ticks))
 
--- 4: "priority, capacity, size or product out of range; delay of 4,294,967,295"; "4 for n out of range"
+-- of event groups: "bits above the 24, a flag above 1 or an empty wait mask"; only set, clear and wait, calls 21 to 23, have bits and flags
+abbrev pub noSuchBits : Asked → Bool
+noSuchBits a = leb 21 (a .number) && (ltb allBits (a .bits) || (ltb 1 (a .all) || (ltb 1 (a .clear) || (is 23 a && eqb (a .bits) 0))))
+
+-- 4: "priority, capacity, size or product out of range; delay of 4,294,967,295"; "4 for n out of range"; "4 for bits above the 24, a flag above 1 or an empty wait mask"
 unfoldable pub outOfRange : Asked → Bool
 outOfRange a =
     ltb 31 (a .priority)
@@ -24,7 +29,8 @@ outOfRange a =
     || (ltb (a .capacity) 1
     || (ltb 64 (a .capacity)
     || (ltb 64 (a .size)
-    || ltb 512 (a .capacity * a .size))))))
+    || (ltb 512 (a .capacity * a .size)
+    || noSuchBits a))))))
 
 -- 5: "task or object number names none, or an object of the wrong kind"
 abbrev pub namesNoneAs : Seen → Names → Bool
@@ -33,6 +39,7 @@ namesNoneAs s ATask = isFree (s .place)
 namesNoneAs s AnObject = isUnused (s .kind)
 namesNoneAs s AQueue = not (isQueue (s .kind))
 namesNoneAs s AMutex = not (isMutex (s .kind))
+namesNoneAs s AGroup = not (isGroup (s .kind))
 
 unfoldable pub namesNone : Seen → Asked → Bool
 namesNone s a = namesNoneAs s (a .names)
@@ -43,6 +50,7 @@ sizeDiffers n Unused = false
 sizeDiffers n SpentObject = false
 sizeDiffers n (Queue q) = not (eqb n (q .size))
 sizeDiffers n (Mutex s h) = false
+sizeDiffers n (Group b) = false
 
 unfoldable pub wrongSize : Seen → Asked → ℕ → Bool
 wrongSize s a n = is 13 a && sizeDiffers n (s .kind)
@@ -82,21 +90,32 @@ countFull s a = is 15 a && takesFull (s .running) (s .kind)
 unfoldable pub notSuspended : Seen → Asked → Bool
 notSuspended s a = is 4 a && not (isSuspended (s .place))
 
--- 14: "wait 0 where the caller would have to wait": a send finds the queue full, a receive finds it empty, a take finds the mutex held, and not by the caller who may take it again
+-- 14: "wait 0 where the caller would have to wait": a send finds the queue full, a receive finds it empty, a take finds the mutex held, and not by the caller who may take it again,
+-- a wait finds an event group's bits not as it asks
 abbrev pub isFull : Kind → Bool
 isFull Unused = false
 isFull SpentObject = false
 isFull (Queue q) = eqb (q .count) (q .capacity)
 isFull (Mutex s h) = false
+isFull (Group b) = false
 
 abbrev pub isEmpty : Kind → Bool
 isEmpty Unused = false
 isEmpty SpentObject = false
 isEmpty (Queue q) = eqb (q .count) 0
 isEmpty (Mutex s h) = false
+isEmpty (Group b) = false
+
+-- "14 with wait 0 unsatisfied": the bits are not those that a wait asks for
+abbrev pub isUnmet : Asked → Kind → Bool
+isUnmet a Unused = false
+isUnmet a SpentObject = false
+isUnmet a (Queue q) = false
+isUnmet a (Mutex s h) = false
+isUnmet a (Group b) = not (holdsOf b (a .bits) (eqb (a .all) 1))
 
 abbrev pub stopsAt : Asked → TaskSlot → Kind → Bool
-stopsAt a t x = (is 13 a && isFull x) || ((is 14 a && isEmpty x) || (is 15 a && (isHeld x && not (recursiveBy t x))))
+stopsAt a t x = (is 13 a && isFull x) || ((is 14 a && isEmpty x) || ((is 15 a && (isHeld x && not (recursiveBy t x))) || (is 23 a && isUnmet a x)))
 
 unfoldable pub mustWait : Seen → Asked → Bool
 mustWait s a = not (waits a) && stopsAt a (s .running) (s .kind)
@@ -120,10 +139,6 @@ row n b = record { number = n; applies = b }
 abbrev pub firstRow : List Row → ℕ
 firstRow [] = 0
 firstRow (r ∷ rs) = if r .applies then r .number else firstRow rs
-
--- the same, row by row: the number so far, 0 for none, else this row's
-abbrev pub orRow : ℕ → Row → ℕ
-orRow n r = if eqb n 0 then (if r .applies then r .number else 0) else n
 
 -- "No. | Given exactly when", for a sound kernel; the lengths are the item's and the store's. (3 is the line reader's.)
 unfoldable pub table : Seen → Asked → ℕ → ℕ → List Row

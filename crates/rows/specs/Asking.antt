@@ -8,9 +8,9 @@ use Rattle.rows.specs.Types.{Asked}
 abbrev pub is : ℕ → Asked → Bool
 is n a = eqb (a .number) n
 
--- make queue, make mutex, make recursive mutex
+-- make queue, make mutex, make recursive mutex, make event group
 abbrev pub makesObject : Asked → Bool
-makesObject a = is 10 a || (is 11 a || is 19 a)
+makesObject a = is 10 a || (is 11 a || (is 19 a || is 20 a))
 
 -- "create or make"
 abbrev pub makes : Asked → Bool

@@ -1,8 +1,9 @@
 // The table: a method for each row, and the first row that applies. A row that speaks of one call looks at the call's number first.
 ghost use mathlib.Core.Path.{_≡_};
-ghost use Rattle.rows.specs.Applies.{notSoMany, outOfRange, namesNone, sizeDiffers, wrongSize, notForIdle, notWithHold, notHis};
-ghost use Rattle.rows.specs.Applies.{hisAlready, countFull, notSuspended, isFull, isEmpty, stopsAt, mustWait, noDepth, noTick};
-ghost use Rattle.rows.specs.Applies.{firstRow, orRow, row, table};
+ghost use Rattle.rows.specs.Applies.{notSoMany, noSuchBits, outOfRange, namesNone, sizeDiffers, wrongSize, notForIdle, notWithHold, notHis};
+ghost use Rattle.rows.specs.Applies.{hisAlready, countFull, notSuspended, isFull, isEmpty, isUnmet, stopsAt, mustWait, noDepth, noTick};
+ghost use Rattle.rows.specs.Applies.{firstRow, table};
+ghost use Rattle.lists.specs.Choice.{if_then_else_};
 use crate::Seen;
 use crate::asking;
 use calls::Asked;
@@ -17,6 +18,18 @@ fn not_so_many(a: Asked) -> bool
         return lists::either(a.ticks < 1, 65535 < a.ticks);
     }
     false
+}
+
+// Only set, clear and wait, calls 21 to 23, have bits and flags.
+fn no_such_bits(a: Asked) -> bool
+    ensures { λ r. ⌜ r ≡ noSuchBits a ⌝ }
+{
+    if a.number < 21 {
+        return false;
+    }
+    let empty = lists::both(a.number == 23, a.bits == 0);
+    let flags = lists::either(1 < a.all, lists::either(1 < a.clear, empty));
+    lists::either(16777215 < a.bits, flags)
 }
 
 fn out_of_range(a: Asked) -> bool
@@ -42,7 +55,10 @@ fn out_of_range(a: Asked) -> bool
     if 64 < s {
         return true;
     }
-    512 < c * s
+    if 512 < c * s {
+        return true;
+    }
+    no_such_bits(a)
 }
 
 fn size_differs(x: Kind, n: usize) -> bool
@@ -53,6 +69,7 @@ fn size_differs(x: Kind, n: usize) -> bool
         Kind::Spent => false,
         Kind::Queue(q) => n != q.size as usize,
         Kind::Mutex(_, _) => false,
+        Kind::Group(_) => false,
     }
 }
 
@@ -64,6 +81,7 @@ fn is_full(x: Kind) -> bool
         Kind::Spent => false,
         Kind::Queue(q) => q.count == q.capacity,
         Kind::Mutex(_, _) => false,
+        Kind::Group(_) => false,
     }
 }
 
@@ -75,6 +93,22 @@ fn is_empty(x: Kind) -> bool
         Kind::Spent => false,
         Kind::Queue(q) => q.count == 0,
         Kind::Mutex(_, _) => false,
+        Kind::Group(_) => false,
+    }
+}
+
+fn is_unmet(a: Asked, x: Kind) -> bool
+    ensures { λ r. ⌜ r ≡ isUnmet a x ⌝ }
+{
+    match x {
+        Kind::Unused => false,
+        Kind::Spent => false,
+        Kind::Queue(_) => false,
+        Kind::Mutex(_, _) => false,
+        Kind::Group(b) => {
+            let met = slots::wants::holds_of(b, a.bits, a.all == 1);
+            !met
+        }
     }
 }
 
@@ -87,6 +121,9 @@ fn stops_at(a: Asked, t: TaskSlot, x: Kind) -> bool
     if a.number == 14 {
         return is_empty(x);
     }
+    if a.number == 23 {
+        return is_unmet(a, x);
+    }
     if a.number == 15 {
         if x.is_held() {
             let again = x.recursive_by(t);
@@ -96,14 +133,11 @@ fn stops_at(a: Asked, t: TaskSlot, x: Kind) -> bool
     false
 }
 
-// The number so far, 0 for none, else this row's.
-fn or_row(no: u32, n: u32, applies: bool) -> u32
-    ensures { λ r. ⌜ r ≡ orRow no (row n applies) ⌝ }
+// This row's number, if it applies; else that of the rows after it.
+fn row_or(n: u32, applies: bool, rest: u32) -> u32
+    ensures { λ r. ⌜ r ≡ if applies then n else rest ⌝ }
 {
-    if no != 0 {
-        return no;
-    }
-    if applies { n } else { 0 }
+    if applies { n } else { rest }
 }
 
 impl Seen {
@@ -119,6 +153,7 @@ impl Seen {
             Names::Object => x.is_unused(),
             Names::Queue => !x.is_queue(),
             Names::Mutex => !x.is_mutex(),
+            Names::Group => !x.is_group(),
         }
     }
 
@@ -239,25 +274,26 @@ impl Seen {
         false
     }
 
-    // The number of the first row that applies, of rows 2 to 18; 0 where none does. No row is passed over: which one applies cannot be foretold, and most calls pass them all.
+    // The number of the first row that applies, of rows 2 to 18; 0 where none does. They are asked from the last to the first. No row is passed over: which one applies cannot be
+    // foretold, and most calls pass them all.
     pub fn row(self, a: Asked, item: usize, store: usize) -> u32
         ensures { λ r. ⌜ r ≡ firstRow (table self a item store) ⌝ }
     {
-        let no = or_row(0, 2, store != 9216);
-        let no = or_row(no, 4, out_of_range(a));
-        let no = or_row(no, 5, self.names_none(a));
-        let no = or_row(no, 6, self.wrong_size(a, item));
-        let no = or_row(no, 7, self.not_for_idle(a));
-        let no = or_row(no, 8, self.not_with_hold(a));
-        let no = or_row(no, 9, self.new == 16);
-        let no = or_row(no, 10, self.used);
-        let no = or_row(no, 11, self.not_his(a));
-        let no = or_row(no, 12, self.his_already(a));
-        let no = or_row(no, 18, self.count_full(a));
-        let no = or_row(no, 13, self.not_suspended(a));
-        let no = or_row(no, 17, self.circle);
-        let no = or_row(no, 14, self.must_wait(a));
-        let no = or_row(no, 15, self.no_depth(a));
-        or_row(no, 16, self.no_tick(a))
+        let no = row_or(16, self.no_tick(a), 0);
+        let no = row_or(15, self.no_depth(a), no);
+        let no = row_or(14, self.must_wait(a), no);
+        let no = row_or(17, self.circle, no);
+        let no = row_or(13, self.not_suspended(a), no);
+        let no = row_or(18, self.count_full(a), no);
+        let no = row_or(12, self.his_already(a), no);
+        let no = row_or(11, self.not_his(a), no);
+        let no = row_or(10, self.used, no);
+        let no = row_or(9, self.new == 16, no);
+        let no = row_or(8, self.not_with_hold(a), no);
+        let no = row_or(7, self.not_for_idle(a), no);
+        let no = row_or(6, self.wrong_size(a, item), no);
+        let no = row_or(5, self.names_none(a), no);
+        let no = row_or(4, out_of_range(a), no);
+        row_or(2, store != 9216, no)
     }
 }

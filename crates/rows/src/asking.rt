@@ -7,8 +7,9 @@ use calls::Asked;
 pub fn makes(a: Asked) -> bool
     ensures { λ r. ⌜ r ≡ makes a ⌝ }
 {
-    let mutex = lists::either(a.number == 11, a.number == 19);
-    lists::either(a.number == 1, lists::either(a.number == 10, mutex))
+    let later = lists::either(a.number == 19, a.number == 20);
+    let object = lists::either(a.number == 10, lists::either(a.number == 11, later));
+    lists::either(a.number == 1, object)
 }
 
 pub(crate) fn stops(a: Asked) -> bool

@@ -5,6 +5,7 @@ use mathlib.Core.Bool.{Bool, true, false, false≢true}
 use mathlib.Core.List.{List, [], _∷_}
 use native.Mathlib.Omega.{arith}
 use lib.Dec.{eqb, ltb}
+use lib.Bits.{bitOr}
 use Rattle.lists.specs.Choice.{if_then_else_}
 use Rattle.lists.specs.Lists.{foldl, upTo, kept}
 use Rattle.lists.proofs.Bools.{untrue}
@@ -13,10 +14,11 @@ use Rattle.calls.specs.Door.{taskSlot, objSlot, lastIn}
 use Rattle.calls.specs.Behind.{asked}
 use Rattle.order.specs.Order.{listed}
 use Rattle.slots.specs.Places.{isBlocked, isListed, wakesAt, outcomeDue}
+use Rattle.slots.specs.Wants.{waitOn}
 use Rattle.slots.specs.Values.{freeTask, spentTask, readyAt, placed, brokenOff, taskAt}
 use Rattle.slots.specs.Kinds.{kindAt}
-use Rattle.rules.specs.Types.{TaskSlot, ObjSlot, Place, Ready, Delayed, Waiting, Task, Ring, WaitersOf}
-use Rattle.rules.specs.Types.{Call, Create, Delete, Suspend, Resume, SetPriority, Delay, Yield, Hold, Release, MakeQueue, MakeMutex, Remove, Send, Receive, Take, Give, Tick, Advance, MakeRecursive, State}
+use Rattle.rules.specs.Types.{TaskSlot, ObjSlot, Place, Ready, Delayed, Waiting, Task, Ring, WaitersOf, Want, Turn, SatisfiedOn}
+use Rattle.rules.specs.Types.{Call, Create, Delete, Suspend, Resume, SetPriority, Delay, Yield, Hold, Release, MakeQueue, MakeMutex, Remove, Send, Receive, Take, Give, Tick, Advance, MakeRecursive, MakeGroup, SetBits, ClearBits, Await, State}
 use Rattle.rules.specs.Tables.{freeSlot, withTask, withHold, withTick}
 use Rattle.rules.specs.Lines.{hasBegun, begun, level, first, chosen, toTail, leaves}
 use Rattle.rules.specs.Sound.{noHigher}
@@ -41,7 +43,9 @@ use Rattle.rules.proofs.KeepTaken.{each-task}
 use Rattle.rules.proofs.Begun.{Fades, Remembers, RoomyIn, Fade, Remember, onward, none-begins, stays, tail-fades, leave-fades, worked-fades, then-fades}
 use Rattle.rules.proofs.Begun.{set-roomy, set-fades, set-at, arrives-fades, arrives-begins}
 use Rattle.rules.specs.Steps.{after}
+use Rattle.rules.specs.Events.{groupMade, setOn, clearedOn, awaitedOn}
 use Rattle.rules.proofs.LoanWorks.{worked-place}
+use Rattle.rules.proofs.EventCases.{by-bits, by-set, by-clear, by-await}
 
 -- ── the wakes of a tick
 -- who is due has begun
@@ -209,9 +213,9 @@ module _ (k : State) (S : Sound k) where
       by-give k o (λ j. Fade k j) (λ m. stays roomy-in) (λ s h e m. stays roomy-in) (λ s h e m q. stays roomy-in) (λ s h e m t l q. arrives-fades k roomy-in t Ready 1 refl (first-low o t l q))
 
   -- the caller begins to wait
-  wait-begins : (o : ObjSlot) (w : ℕ) → Remember k (waitFor k o w)
+  wait-begins : (o : ObjSlot) (x : Want) (w : ℕ) → Remember k (waitFor k o x w)
   unfolding waitFor
-  wait-begins o w = arrives-begins k roomy-in (k .running) (Waiting o (wakeOf (k .tick) w)) 0 refl caller-ready caller-low
+  wait-begins o x w = arrives-begins k roomy-in (k .running) (Waiting (waitOn o x) (wakeOf (k .tick) w)) 0 refl caller-ready caller-low
 
   quietly : {us : List Task} {m : List TaskSlot} → Fades (k .tasks) (listed (k .order)) us m → Remembers (k .running) (k .tasks) (listed (k .order)) us m
   quietly f = none-begins caller-ready f
@@ -227,34 +231,43 @@ module _ (k : State) (S : Sound k) where
   sent-remembers : (o : ObjSlot) (q : Ring) (w : ℕ) → Remember k (sent k o q w)
   unfolding sent
   sent-remembers o q w =
-      by-outlet k o q (λ x. Remember k (sentBy k o q w x)) (λ t e. quietly (arrives-fades k roomy-in t Ready 1 refl (first-low o t [] e))) (quietly (stays roomy-in)) (wait-begins o w)
+      by-outlet k o q (λ x. Remember k (sentBy k o q w x)) (λ t e. quietly (arrives-fades k roomy-in t Ready 1 refl (first-low o t [] e))) (quietly (stays roomy-in)) (wait-begins o Turn w)
 
   received-remembers : (o : ObjSlot) (q : Ring) (w : ℕ) → Remember k (received k o q w)
   unfolding received
   received-remembers o q w = go (eqb (q .count) 0) (first k (WaitersOf o)) refl
     where
-      go : (b : Bool) (l : List TaskSlot) → first k (WaitersOf o) ≡ l → Remember k (if b then waitFor k o w else refilledBy k o (oneLess q) l)
-      go true l e = wait-begins o w
+      go : (b : Bool) (l : List TaskSlot) → first k (WaitersOf o) ≡ l → Remember k (if b then waitFor k o Turn w else refilledBy k o (oneLess q) l)
+      go true l e = wait-begins o Turn w
       go false [] e = quietly (stays roomy-in)
       go false (t ∷ l) e = quietly (arrives-fades _ roomy-in t Ready 1 refl (first-low o t l e))
 
   send-remembers : (o : ObjSlot) (w : ℕ) → Remember k (sentTo k o (kindAt (k .objects) o) w)
   send-remembers o w =
       by-kind (kindAt (k .objects) o) (λ x. Remember k (sentTo k o x w)) (quietly (stays roomy-in)) (quietly (stays roomy-in)) (λ q e. sent-remembers o q w)
-      (λ s h e. quietly (stays roomy-in))
+      (λ s h e. quietly (stays roomy-in)) (λ b e. quietly (stays roomy-in))
 
   receive-remembers : (o : ObjSlot) (w : ℕ) → Remember k (receivedFrom k o (kindAt (k .objects) o) w)
   receive-remembers o w =
       by-kind (kindAt (k .objects) o) (λ x. Remember k (receivedFrom k o x w)) (quietly (stays roomy-in)) (quietly (stays roomy-in)) (λ q e. received-remembers o q w)
-      (λ s h e. quietly (stays roomy-in))
+      (λ s h e. quietly (stays roomy-in)) (λ b e. quietly (stays roomy-in))
 
   taken-remembers : (o : ObjSlot) (w : ℕ) → Remember k (taken k o w)
   taken-remembers o w =
-      by-take k o (λ j. Remember k j) w (λ m. quietly (stays roomy-in)) (λ s e. quietly (stays roomy-in)) (λ s e. quietly (stays roomy-in)) (λ s h e d. wait-begins o w)
+      by-take k o (λ j. Remember k j) w (λ m. quietly (stays roomy-in)) (λ s e. quietly (stays roomy-in)) (λ s e. quietly (stays roomy-in)) (λ s h e d. wait-begins o Turn w)
+
+  set-fades-all : (o : ObjSlot) (m : ℕ) → Fade k (setOn k o (kindAt (k .objects) o) m)
+  set-fades-all o m =
+      by-set k o (Fade k) (λ e. stays roomy-in) m
+      (λ b e. by-bits o (bitOr b m) (Fade k)
+      (λ j t f q. onward f (arrives-fades j (f .roomy) t Ready 1 refl (omega (arith, first-within j (SatisfiedOn o (bitOr b m)) t q, f .roomy .many)))) (λ j c f. f) k (stays roomy-in))
+
+  await-remembers : (o : ObjSlot) (x : Want) (w : ℕ) → Remember k (awaitedOn k o (kindAt (k .objects) o) x w)
+  await-remembers o x w = by-await k o (Remember k) (λ e. quietly (stays roomy-in)) x w (λ b e q. quietly (stays roomy-in)) (λ b e q. wait-begins o x w)
 
 -- ── every call
 pub effect-remembers : (k : State) → Sound k → (n : ℕ) (c : Call) → Passed k (asked (k .uses) c) n → Remember k (effect k (asked (k .uses) c))
-unfolding effect asked namesNone noneFree resumed newPriority held queueMade mutexMade removed advanced
+unfolding effect asked namesNone noneFree resumed newPriority held queueMade mutexMade groupMade removed advanced
 effect-remembers k S n (Create p) P = quietly k S (created-fades k S p (omega (arith, has-slot k S n p P, S .tables .task-slots)))
 effect-remembers k S n (Delete t) P =
     let u = taskSlot (k .uses) t in quietly k S (deleted-fades k S u (lastIn (k .uses .tasks) (u .0)) (there-low (k .tasks) u (S .tables .task-slots) (P .named)))
@@ -275,6 +288,11 @@ effect-remembers k S n (Take o w) P = taken-remembers k S (objSlot (k .uses) o) 
 effect-remembers k S n (Give o) P = quietly k S (given-fades k S (objSlot (k .uses) o))
 effect-remembers k S n Tick P = quietly k S (ticked-fades k S)
 effect-remembers k S n MakeRecursive P = quietly k S (stays (roomy-in k S))
+effect-remembers k S n MakeGroup P = quietly k S (stays (roomy-in k S))
+effect-remembers k S n (SetBits o m) P = quietly k S (set-fades-all k S (objSlot (k .uses) o) m)
+effect-remembers k S n (ClearBits o m) P =
+    by-clear k (objSlot (k .uses) o) (Remember k) (λ e. quietly k S (stays (roomy-in k S))) m (λ b e. quietly k S (stays (roomy-in k S)))
+effect-remembers k S n (Await o m a c w) P = await-remembers k S (objSlot (k .uses) o) _ w
 effect-remembers k S n (Advance d) P = quietly k S (advanced-fades d k (roomy-in k S) (sound-unheld k S (advance-free k (asked (k .uses) (Advance d)) refl (P .held))))
 
 -- the effective priorities worked out, too

@@ -1,4 +1,5 @@
--- But for a tick, a release and an advance, no call ends more than one delay or wait. So of two of one effective priority who are due on one tick, and are both ready
+-- But for a tick, a release, an advance and a set, no call ends more than one delay or wait, and of those whom a set wakes the first of one effective priority stands ahead.
+-- So of two of one effective priority who are due on one tick, and are both ready
 -- after a call, whatever the call, with the effective priority that they had, who began earlier stands ahead. (In an advance, so it is after the tick on which they are
 -- due; the ticks behind it may turn their line.)
 use Prim.Native.Nat.{ℕ, _+_, _-_, _<_}
@@ -9,6 +10,7 @@ use mathlib.Core.Logic.{_⊎_, inl, inr}
 use native.Mathlib.Omega.{arith}
 use lib.Dec.{eqb, ltb}
 use lib.ListN.{set}
+use lib.Bits.{bitOr}
 use borrow.Author.Tests.{eqb-true, eqb-false}
 use Rattle.lists.specs.Choice.{if_then_else_}
 use Rattle.numbers.specs.Numbers.{task}
@@ -17,10 +19,11 @@ use Rattle.calls.specs.Door.{taskSlot, objSlot}
 use Rattle.calls.specs.Behind.{asked}
 use Rattle.order.specs.Order.{listed}
 use Rattle.slots.specs.Places.{isBlocked, isListed, wakesAt}
+use Rattle.slots.specs.Wants.{waitOn}
 use Rattle.slots.specs.Values.{readyAt, placed, brokenOff, taskAt}
 use Rattle.slots.specs.Kinds.{kindAt}
-use Rattle.rules.specs.Types.{TaskSlot, ObjSlot, Place, Ready, Delayed, Waiting, Task, Ring, WaitersOf}
-use Rattle.rules.specs.Types.{Call, Create, Delete, Suspend, Resume, SetPriority, Delay, Yield, Hold, Release, MakeQueue, MakeMutex, Remove, Send, Receive, Take, Give, Tick, Advance, MakeRecursive, State}
+use Rattle.rules.specs.Types.{TaskSlot, ObjSlot, Place, Ready, Delayed, Waiting, Task, Ring, WaitersOf, Want, Turn}
+use Rattle.rules.specs.Types.{Call, Create, Delete, Suspend, Resume, SetPriority, Delay, Yield, Hold, Release, MakeQueue, MakeMutex, Remove, Send, Receive, Take, Give, Tick, Advance, MakeRecursive, MakeGroup, SetBits, ClearBits, Await, State}
 use Rattle.rules.specs.Tables.{freeSlot, withTask, withHold}
 use Rattle.rules.specs.Lines.{hasBegun, Ahead, first, toTail, leaves, level}
 use Rattle.rules.specs.Waits.{later, wakeOf, arrives, waitFor}
@@ -42,7 +45,10 @@ use Rattle.rules.specs.Sentences.{Sound}
 use Rattle.rules.proofs.KeepChosen.{sound-reckoned}
 use Rattle.rules.proofs.LoanWorks.{worked-place, worked-still}
 use Rattle.rules.specs.Steps.{after}
-use Rattle.rules.proofs.LoanStill.{released-reckoned, ticked-reckoned}
+use Rattle.rules.specs.Events.{groupMade, bitsSet, setOn, clearedOn, awaitedOn, wokenBy}
+use Rattle.rules.proofs.LoanStill.{released-reckoned, ticked-reckoned, events-reckoned}
+use Rattle.rules.proofs.EventCases.{by-set, by-clear, by-await}
+use Rattle.rules.proofs.BegunSets.{Stand, neither, the-first, both, the-second, set-stand}
 
 -- ── at most one ends
 pub record OneEnds (ts us : List Task) : Type 0 where
@@ -71,9 +77,9 @@ module _ (k : State) where
   unfolding arrives toTail
   arrives-ends t p n = changes ts t (placed (taskAt ts t) p n)
 
-  wait-ends : (o : ObjSlot) (w : ℕ) → OneEnds ts (waitFor k o w .tasks)
+  wait-ends : (o : ObjSlot) (x : Want) (w : ℕ) → OneEnds ts (waitFor k o x w .tasks)
   unfolding waitFor
-  wait-ends o w = arrives-ends (k .running) (Waiting o (wakeOf (k .tick) w)) 0
+  wait-ends o x w = arrives-ends (k .running) (Waiting (waitOn o x) (wakeOf (k .tick) w)) 0
 
   suspended-ends : (t : TaskSlot) → OneEnds ts (suspended k t .tasks)
   unfolding suspended leaves
@@ -93,30 +99,36 @@ module _ (k : State) where
 
   sent-ends : (o : ObjSlot) (q : Ring) (w : ℕ) → OneEnds ts (sent k o q w .tasks)
   unfolding sent
-  sent-ends o q w = by-outlet k o q (λ x. OneEnds ts (sentBy k o q w x .tasks)) (λ t e. arrives-ends t Ready 1) nothing-ends (wait-ends o w)
+  sent-ends o q w = by-outlet k o q (λ x. OneEnds ts (sentBy k o q w x .tasks)) (λ t e. arrives-ends t Ready 1) nothing-ends (wait-ends o Turn w)
 
   received-ends : (o : ObjSlot) (q : Ring) (w : ℕ) → OneEnds ts (received k o q w .tasks)
   unfolding received arrives toTail
   received-ends o q w = go (eqb (q .count) 0) (first k (WaitersOf o))
     where
-      go : (b : Bool) (l : List TaskSlot) → OneEnds ts ((if b then waitFor k o w else refilledBy k o (oneLess q) l) .tasks)
-      go true l = wait-ends o w
+      go : (b : Bool) (l : List TaskSlot) → OneEnds ts ((if b then waitFor k o Turn w else refilledBy k o (oneLess q) l) .tasks)
+      go true l = wait-ends o Turn w
       go false [] = nothing-ends
       go false (t ∷ l) = changes ts t (placed (taskAt ts t) Ready 1)
 
   send-ends : (o : ObjSlot) (w : ℕ) → OneEnds ts (sentTo k o (kindAt (k .objects) o) w .tasks)
-  send-ends o w = by-kind (kindAt (k .objects) o) (λ x. OneEnds ts (sentTo k o x w .tasks)) nothing-ends nothing-ends (λ q e. sent-ends o q w) (λ s h e. nothing-ends)
+  send-ends o w = by-kind (kindAt (k .objects) o) (λ x. OneEnds ts (sentTo k o x w .tasks)) nothing-ends nothing-ends (λ q e. sent-ends o q w) (λ s h e. nothing-ends) (λ b e. nothing-ends)
 
   receive-ends : (o : ObjSlot) (w : ℕ) → OneEnds ts (receivedFrom k o (kindAt (k .objects) o) w .tasks)
   receive-ends o w =
-      by-kind (kindAt (k .objects) o) (λ x. OneEnds ts (receivedFrom k o x w .tasks)) nothing-ends nothing-ends (λ q e. received-ends o q w) (λ s h e. nothing-ends)
+      by-kind (kindAt (k .objects) o) (λ x. OneEnds ts (receivedFrom k o x w .tasks)) nothing-ends nothing-ends (λ q e. received-ends o q w) (λ s h e. nothing-ends) (λ b e. nothing-ends)
 
   taken-ends : (o : ObjSlot) (w : ℕ) → OneEnds ts (taken k o w .tasks)
   taken-ends o w =
-      by-take k o (λ j. OneEnds ts (j .tasks)) w (λ m. nothing-ends) (λ s e. nothing-ends) (λ s e. nothing-ends) (λ s h e d. wait-ends o w)
+      by-take k o (λ j. OneEnds ts (j .tasks)) w (λ m. nothing-ends) (λ s e. nothing-ends) (λ s e. nothing-ends) (λ s h e d. wait-ends o Turn w)
 
   given-ends : (o : ObjSlot) → OneEnds ts (given k o .tasks)
   given-ends o = by-give k o (λ j. OneEnds ts (j .tasks)) (λ m. nothing-ends) (λ s h e m. nothing-ends) (λ s h e m q. nothing-ends) (λ s h e m t l q. arrives-ends t Ready 1)
+
+  clear-ends : (o : ObjSlot) (m : ℕ) → OneEnds ts (clearedOn k o (kindAt (k .objects) o) m .tasks)
+  clear-ends o m = by-clear k o (λ j. OneEnds ts (j .tasks)) (λ e. nothing-ends) m (λ b e. nothing-ends)
+
+  await-ends : (o : ObjSlot) (x : Want) (w : ℕ) → OneEnds ts (awaitedOn k o (kindAt (k .objects) o) x w .tasks)
+  await-ends o x w = by-await k o (λ j. OneEnds ts (j .tasks)) (λ e. nothing-ends) x w (λ b e q. nothing-ends) (λ b e q. wait-ends o x w)
 
 -- ── two who are due on one tick, both of the effective priority p
 module _ (t u : TaskSlot) (differ : t .0 ≡ u .0 → ⊥) (k : State) (S : Sound k) (w : ℕ) (D : BothDue t u differ w k) (p : ℕ) (level-t : level (k .tasks) t ≡ p) (level-u : level (k .tasks) u ≡ p) where
@@ -201,13 +213,28 @@ module _ (t u : TaskSlot) (differ : t .0 ≡ u .0 → ⊥) (k : State) (S : Soun
       go true W = absurd (not-ready (taskAt (k .tasks) t .place) (D .first) (W .first))
       go false W = turned-ahead W
 
+  -- a set
+  set-ahead : (o : ObjSlot) (m : ℕ) → NowReady (setOn k o (kindAt (k .objects) o) m) → Ahead t u (listed (setOn k o (kindAt (k .objects) o) m .order))
+  unfolding bitsSet wokenBy
+  set-ahead o m = by-set k o (λ j. NowReady j → Ahead t u (listed (j .order))) (λ e W. absurd (not-ready (taskAt (k .tasks) t .place) (D .first) (W .first))) m (λ b e. woken-ahead (bitOr b m))
+    where
+      stood : (b : ℕ) {j : State} → Stand t u differ o b k j → NowReady j → Ahead t u (listed (j .order))
+      stood b (neither p q h) W = absurd (not-ready _ (ap (λ (y : Task). wakesAt w (y .place)) p ∙ D .first) (W .first))
+      stood b (the-first p q h) W = absurd (not-ready _ (ap (λ (y : Task). wakesAt w (y .place)) q ∙ D .second) (W .second))
+      stood b (both p q h) W = h
+      stood b (the-second p q n) W = absurd (not-ready _ (ap (λ (y : Task). wakesAt w (y .place)) q ∙ D .first) (W .first))
+
+      woken-ahead : (b : ℕ) → NowReady (bitsSet k o b) → Ahead t u (listed (bitsSet k o b .order))
+      woken-ahead b W =
+          stood b (set-stand t u differ o b k (level-t ∙ sym level-u) 16 (D .roomy) (D .ahead)) record { first = W .first; second = W .second; first-level = W .first-level; second-level = W .second-level }
+
   -- working out the effective priorities makes nobody ready
   not-both : (j : State) → OneEnds (k .tasks) (j .tasks) → NowReady (workedOut j) → ⊥
   not-both j E W = never-both j E (sym (worked-place j t) ∙ W .first) (sym (worked-place j u) ∙ W .second)
 
   -- whatever the call; a tick and a release end with them worked out
   pub after-ahead : (c : Call) → eqb (called c .number) 18 ≡ false → NowReady (after k (asked (k .uses) c)) → Ahead t u (listed (after k (asked (k .uses) c) .order))
-  unfolding after effect asked created deleted resumed newPriority yielded held queueMade mutexMade removed toTail leaves
+  unfolding after effect asked created deleted resumed newPriority yielded held queueMade mutexMade groupMade removed toTail leaves
   after-ahead (Create q) e W = absurd (not-both _ (changes (k .tasks) (task (freeSlot (k .tasks))) (readyAt q)) W)
   after-ahead (Delete v) e W = absurd (not-both _ (changes (k .tasks) (taskSlot (k .uses) v) _) W)
   after-ahead (Suspend v) e W = absurd (not-both _ (suspended-ends k (taskSlot (k .uses) v)) W)
@@ -227,3 +254,7 @@ module _ (t u : TaskSlot) (differ : t .0 ≡ u .0 → ⊥) (k : State) (S : Soun
   after-ahead Tick e W = let s = worked-still (ticked k) (ticked-reckoned k S) in rw s (ticked-ahead (rw s at W))
   after-ahead (Advance n) e W = absurd (false≢true (sym e))
   after-ahead MakeRecursive e W = absurd (not-both _ (nothing-ends k) W)
+  after-ahead MakeGroup e W = absurd (not-both _ (nothing-ends k) W)
+  after-ahead (SetBits o m) e W = let i = objSlot (k .uses) o in let s = worked-still (setOn k i (kindAt (k .objects) i) m) (events-reckoned k S i m) in rw s (set-ahead i m (rw s at W))
+  after-ahead (ClearBits o m) e W = absurd (not-both _ (clear-ends k (objSlot (k .uses) o) m) W)
+  after-ahead (Await o m a c n) e W = absurd (not-both _ (await-ends k (objSlot (k .uses) o) _ n) W)

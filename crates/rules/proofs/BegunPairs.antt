@@ -88,11 +88,11 @@ module _ (t u : TaskSlot) (differ : t .0 ≡ u .0 → ⊥) where
   pub other-to-tail : (x : TaskSlot) → (x .0 ≡ t .0 → ⊥) → (x .0 ≡ u .0 → ⊥) → (l : List TaskSlot) → pair (without x l ++ (x ∷ [])) ≡ pair l
   other-to-tail x a b l = pair-tail x l ∙ rw (not-one x a b, append-nil) (kept-not x (isOneOf t u) (not-one x a b) l)
 
-  first-to-tail : (l : List TaskSlot) → pair l ≡ t ∷ u ∷ [] → pair (without t l ++ (t ∷ [])) ≡ u ∷ t ∷ []
+  pub first-to-tail : (l : List TaskSlot) → pair l ≡ t ∷ u ∷ [] → pair (without t l ++ (t ∷ [])) ≡ u ∷ t ∷ []
   unfolding without
   first-to-tail l e = pair-tail t l ∙ rw (e, eq-eqb (t .0) (t .0) refl, ne-eqb (u .0) (t .0) (λ q. differ (sym q)))
 
-  second-to-tail : (l : List TaskSlot) → pair l ≡ u ∷ t ∷ [] → pair (without u l ++ (u ∷ [])) ≡ t ∷ u ∷ []
+  pub second-to-tail : (l : List TaskSlot) → pair l ≡ u ∷ t ∷ [] → pair (without u l ++ (u ∷ [])) ≡ t ∷ u ∷ []
   unfolding without
   second-to-tail l e = pair-tail u l ∙ rw (e, eq-eqb (u .0) (u .0) refl, ne-eqb (t .0) (u .0) differ, ne-eqb (u .0) (t .0) (λ q. differ (sym q)))
 

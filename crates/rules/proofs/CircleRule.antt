@@ -14,7 +14,7 @@ use Rattle.chains.specs.Chains.{Along}
 use Rattle.chains.proofs.Paths.{within-along, along-within}
 use Rattle.chains.proofs.Circles.{Straight, from-past, along-low, last-on, straight-ends, straight-if, if-straight, ended-straight, now-as-then, link-straight}
 use Rattle.slots.specs.Values.{taskAt}
-use Rattle.rules.specs.Types.{TaskSlot, ObjSlot, Wake, Free, Waiting, Task, Object}
+use Rattle.rules.specs.Types.{TaskSlot, ObjSlot, Wake, Free, Waiting, Task, Object, Wait}
 use Rattle.rules.specs.Loans.{forWhom, waitsFor}
 use Rattle.rules.specs.Circles.{leadsTo, noCircle}
 use Rattle.rules.specs.Sentences.{Reaches, Circle, back, NoCircle}
@@ -41,14 +41,14 @@ module _ (ts : List Task) (os : List Object) (full : length ts ≡ 16) where
 
   -- ── circles by slots and by numbers
   -- who waits has a slot
-  pub waits-low : (s : TaskSlot) (o : ObjSlot) (w : Wake) → taskAt ts s .place ≡ Waiting o w → s .0 < 16
-  waits-low s o w p = go (ltb (s .0) 16) refl
+  pub waits-low : (s : TaskSlot) (y : Wait) (w : Wake) → taskAt ts s .place ≡ Waiting y w → s .0 < 16
+  waits-low s y w p = go (ltb (s .0) 16) refl
     where
       go : (b : Bool) → ltb (s .0) 16 ≡ b → s .0 < 16
       go true e = ltb-true (s .0) 16 e
       go false e =
           let g : length ts ≤ s .0 = omega (arith, ltb-false (s .0) 16 e) in
-          let q : Free ≡ Waiting o w = sym (ap (λ (x : Task). x .place) (past-tasks ts s g)) ∙ p in
+          let q : Free ≡ Waiting y w = sym (ap (λ (x : Task). x .place) (past-tasks ts s g)) ∙ p in
           absurd (let z : _≡_ {A = ℕ} 0 1 = cc in omega arith)
 
   pub circle-along : {s : TaskSlot} → Circle ts os s → (s .0 < 16) × Along (nextOf ts os) (nextOf ts os (s .0)) (s .0)

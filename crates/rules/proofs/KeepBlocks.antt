@@ -14,7 +14,7 @@ use Rattle.order.specs.Order.{listed, without}
 use Rattle.order.proofs.Passing.{one-number}
 use Rattle.slots.specs.Places.{isFree, isReady, isBlocked, isListed}
 use Rattle.slots.specs.Values.{placed, levelled, inLine, taskAt}
-use Rattle.rules.specs.Types.{TaskSlot, ObjSlot, Wake, Place, Ready, Waiting, Task, State}
+use Rattle.rules.specs.Types.{TaskSlot, ObjSlot, Wake, Place, Ready, Waiting, Task, State, Wait}
 use Rattle.slots.specs.Kinds.{kindAt}
 use Rattle.rules.specs.Tables.{withTask}
 use Rattle.rules.specs.Lines.{level, toTail, toHead}
@@ -42,7 +42,7 @@ to-ready few D = record { fits = unblocked-fits _ _ _ refl refl few; due = D; st
 
 -- begins a delay or a wait
 pub to-wait : {w : Open} {k : State} {t : TaskSlot} {p : Place} → isBlocked p ≡ true → (t .0 ≡ 0 → ⊥)
-    → ((o : ObjSlot) (v : Wake) → p ≡ Waiting o v → MayWait t (kindAt (k .objects) o)) → w t p ≡ true → Arrival w k t p 0
+    → ((y : Wait) (v : Wake) → p ≡ Waiting y v → MayWait t (y .want) (kindAt (k .objects) (y .object))) → w t p ≡ true → Arrival w k t p 0
 to-wait {p = p} b busy W D =
     record {
       fits = record {

@@ -6,15 +6,17 @@ use mathlib.Core.Bool.{Bool, true, false, false≢true}
 use mathlib.Core.List.{List, [], _∷_}
 use lib.Dec.{eqb, ltb}
 use lib.ListN.{length, set, length-set}
+use lib.Bits.{bitOr}
 use borrow.Author.Tests.{ne-eqb}
 use Rattle.lists.specs.Choice.{if_then_else_}
 use Rattle.numbers.specs.Numbers.{task, object}
 use Rattle.calls.specs.Door.{taskSlot, objSlot, lastIn}
 use Rattle.calls.specs.Behind.{asked}
 use Rattle.slots.specs.Places.{isListed}
+use Rattle.slots.specs.Wants.{waitOn, cleared, clears}
 use Rattle.slots.specs.Values.{freeTask, spentTask, readyAt, brokenOff, owned, placed, taskAt}
 use Rattle.slots.specs.Kinds.{countOf, counting, kindAt, heldBy, holderOf}
-use Rattle.rules.specs.Types.{Call, Create, Delete, Suspend, Resume, SetPriority, Delay, Yield, Hold, Release, MakeQueue, MakeMutex, Remove, Send, Receive, Take, Give, Tick, Advance, MakeRecursive}
+use Rattle.rules.specs.Types.{Call, Create, Delete, Suspend, Resume, SetPriority, Delay, Yield, Hold, Release, MakeQueue, MakeMutex, Remove, Send, Receive, Take, Give, Tick, Advance, MakeRecursive, MakeGroup, SetBits, ClearBits, Await, Want, Turn, Group}
 use Rattle.rules.specs.Types.{TaskSlot, ObjSlot, Place, Free, Ready, Delayed, Waiting, Suspended, Spent, Task, Ring, Nobody, By, Sort, Ordinary, Recursive, Kind, Unused, SpentObject, Queue, Mutex, Object, WaitersOf, State}
 use Rattle.rules.specs.Tables.{withTask, withObject, withHold, freeSlot, freeObject}
 use Rattle.rules.specs.Lines.{first, toTail, leaves}
@@ -26,6 +28,7 @@ use Rattle.rules.specs.Rings.{oneMore, oneLess}
 use Rattle.rules.specs.Ticks.{oneTick, turned, ticked, ticks, released, advanced, held}
 use Rattle.rules.specs.Effects.{created, deleted, suspended, resumed, yielded, delayed, queueMade, mutexMade, removed, taken, given, effect}
 use Rattle.rules.specs.Sentences.{NoCircle, Sound}
+use Rattle.rules.specs.Events.{groupMade, setOn, clearedOn, awaitedOn}
 use Rattle.rules.proofs.TableSlots.{by-kind}
 use Rattle.rules.proofs.TableHolds.{no-circle-leads}
 use Rattle.rules.proofs.MutexCases.{by-take, by-give}
@@ -38,6 +41,7 @@ use Rattle.rules.proofs.KeepObject.{kinds}
 use Rattle.rules.proofs.Keeps.{ready-low}
 use Rattle.rules.proofs.KeepTicks.{tick-circles, ticks-circles}
 use Rattle.rules.proofs.KeepTaken.{each-task, each-kind}
+use Rattle.rules.proofs.EventCases.{by-bits, by-set, by-clear, by-await}
 
 -- none in a kernel of sixteen tasks
 pub record Uncircled (ts : List Task) (os : List Object) : Type 0 where
@@ -74,7 +78,7 @@ module _ {ts : List Task} {os : List Object} (C : Uncircled ts os) where
       waits Free = inl refl
       waits Ready = inl refl
       waits (Delayed w) = inl refl
-      waits (Waiting q w) = each-kind os o y (λ p x. (holderOf x ≡ holderOf (kindAt os p)) ⊎ (waitsFor ts (kinds os o y) (holderOf x) ≡ task 16)) e (λ p. inl refl) q
+      waits (Waiting z w) = each-kind os o y (λ p x. (holderOf x ≡ holderOf (kindAt os p)) ⊎ (waitsFor ts (kinds os o y) (holderOf x) ≡ task 16)) e (λ p. inl refl) (z .object)
       waits Suspended = inl refl
       waits Spent = inl refl
 
@@ -122,11 +126,26 @@ module _ (k : State) (S : Sound k) where
       go true = refl
       go false = refl
 
+  -- ── a group has no holder
+  set-uncircled : (o : ObjSlot) (m : ℕ) → UncircledIn (setOn k o (kindAt (k .objects) o) m)
+  set-uncircled o m =
+      by-set k o UncircledIn (λ e. C) m
+      (λ b e. by-bits o (bitOr b m) UncircledIn (λ j t c f. arrives-uncircled j c t Ready 1 refl) (λ j n c. unheld-uncircled c o (Group n) refl) k C)
+
+  clear-uncircled : (o : ObjSlot) (m : ℕ) → UncircledIn (clearedOn k o (kindAt (k .objects) o) m)
+  clear-uncircled o m = by-clear k o UncircledIn (λ e. C) m (λ b e. unheld-uncircled C o (Group (cleared b m)) refl)
+
+  await-uncircled : (o : ObjSlot) (x : Want) (w : ℕ) → UncircledIn (awaitedOn k o (kindAt (k .objects) o) x w)
+  unfolding waitFor
+  await-uncircled o x w =
+      by-await k o UncircledIn (λ e. C) x w (λ b e q. unheld-uncircled C o (Group (cleared b (clears x))) refl)
+      (λ b e q. arrives-uncircled k C (k .running) (Waiting (waitOn o x) (wakeOf (k .tick) w)) 0 (ap holderOf e))
+
   -- ── a queue has no holder
   module _ (o : ObjSlot) (q : Ring) (w : ℕ) (kind : kindAt (k .objects) o ≡ Queue q) where
-    wait-uncircled : UncircledIn (waitFor k o w)
+    wait-uncircled : UncircledIn (waitFor k o Turn w)
     unfolding waitFor
-    wait-uncircled = arrives-uncircled k C (k .running) (Waiting o (wakeOf (k .tick) w)) 0 (ap holderOf kind)
+    wait-uncircled = arrives-uncircled k C (k .running) (Waiting (waitOn o Turn) (wakeOf (k .tick) w)) 0 (ap holderOf kind)
 
     sent-uncircled : UncircledIn (sent k o q w)
     unfolding sent
@@ -136,16 +155,16 @@ module _ (k : State) (S : Sound k) where
     unfolding received
     received-uncircled = go (eqb (q .count) 0) (first k (WaitersOf o))
       where
-        go : (b : Bool) (l : List TaskSlot) → UncircledIn (if b then waitFor k o w else refilledBy k o (oneLess q) l)
+        go : (b : Bool) (l : List TaskSlot) → UncircledIn (if b then waitFor k o Turn w else refilledBy k o (oneLess q) l)
         go true l = wait-uncircled
         go false [] = unheld-uncircled C o (Queue (oneLess q)) refl
         go false (t ∷ l) = arrives-uncircled (withObject k o (Queue (oneMore (oneLess q)))) (unheld-uncircled C o (Queue (oneMore (oneLess q))) refl) t Ready 1 refl
 
   send-uncircled : (o : ObjSlot) (w : ℕ) → UncircledIn (sentTo k o (kindAt (k .objects) o) w)
-  send-uncircled o w = by-kind (kindAt (k .objects) o) (λ x. UncircledIn (sentTo k o x w)) C C (λ q e. sent-uncircled o q w e) (λ s h e. C)
+  send-uncircled o w = by-kind (kindAt (k .objects) o) (λ x. UncircledIn (sentTo k o x w)) C C (λ q e. sent-uncircled o q w e) (λ s h e. C) (λ b e. C)
 
   receive-uncircled : (o : ObjSlot) (w : ℕ) → UncircledIn (receivedFrom k o (kindAt (k .objects) o) w)
-  receive-uncircled o w = by-kind (kindAt (k .objects) o) (λ x. UncircledIn (receivedFrom k o x w)) C C (λ q e. received-uncircled o q w e) (λ s h e. C)
+  receive-uncircled o w = by-kind (kindAt (k .objects) o) (λ x. UncircledIn (receivedFrom k o x w)) C C (λ q e. received-uncircled o q w e) (λ s h e. C) (λ b e. C)
 
   -- ── a mutex: the caller, who is ready, becomes its holder, or waits where the chain does not lead back to it
   pub take-uncircled : (o : ObjSlot) (w : ℕ)
@@ -166,7 +185,7 @@ module _ (k : State) (S : Sound k) where
       low = ready-low (k .tasks) (k .running) (C .full) (S .running .runs .ready)
 
       waiting : Task
-      waiting = placed (taskAt (k .tasks) (k .running)) (Waiting o (wakeOf (k .tick) w)) 0
+      waiting = placed (taskAt (k .tasks) (k .running)) (Waiting (waitOn o Turn) (wakeOf (k .tick) w)) 0
 
   -- it stays its holder's; or the first waiter, now ready, becomes its holder, or nobody
   give-uncircled : (o : ObjSlot) → UncircledIn (given k o)
@@ -203,7 +222,7 @@ module _ (k : State) (S : Sound k) where
 
 -- ── every call
 pub effect-circles : (k : State) → Sound k → (n : ℕ) (c : Call) → Passed k (asked (k .uses) c) n → NoCircle (effect k (asked (k .uses) c) .tasks) (effect k (asked (k .uses) c) .objects)
-unfolding effect asked closesCircle created resumed newPriority yielded held advanced queueMade mutexMade toTail
+unfolding effect asked closesCircle created resumed newPriority yielded held advanced queueMade mutexMade groupMade toTail
 effect-circles k S n (Create p) P = task-uncircled (C k S) (task (freeSlot (k .tasks))) (readyAt p) (inr refl) .none
 effect-circles k S n (Delete t) P = delete-uncircled k S (taskSlot (k .uses) t) (lastIn (k .uses .tasks) (taskSlot (k .uses) t .0)) .none
 effect-circles k S n (Suspend t) P = suspend-uncircled k S (taskSlot (k .uses) t) .none
@@ -224,3 +243,7 @@ effect-circles k S n (Give o) P = give-uncircled k S (objSlot (k .uses) o) .none
 effect-circles k S n Tick P = tick-none k S
 effect-circles k S n (Advance d) P = ticks-none k S true d k refl refl
 effect-circles k S n MakeRecursive P = unheld-uncircled (C k S) (object (freeObject (k .objects))) (Mutex (Recursive 0) Nobody) refl .none
+effect-circles k S n MakeGroup P = unheld-uncircled (C k S) (object (freeObject (k .objects))) (Group 0) refl .none
+effect-circles k S n (SetBits o m) P = set-uncircled k S (objSlot (k .uses) o) m .none
+effect-circles k S n (ClearBits o m) P = clear-uncircled k S (objSlot (k .uses) o) m .none
+effect-circles k S n (Await o m a c w) P = await-uncircled k S (objSlot (k .uses) o) _ w .none

@@ -12,7 +12,7 @@ use Rattle.order.specs.Tidy.{count, tidy}
 use Rattle.chains.specs.Lent.{goesOn, levels}
 use Rattle.chains.specs.Columns.{raised}
 use Rattle.chains.specs.Chains.{within}
-use Rattle.rules.specs.Types.{Call, Create, Delete, Suspend, Resume, SetPriority, Delay, Yield, Hold, Release, MakeQueue, MakeMutex, Remove, Send, Receive, Take, Give, Tick, Advance, MakeRecursive, State}
+use Rattle.rules.specs.Types.{Call, Create, Delete, Suspend, Resume, SetPriority, Delay, Yield, Hold, Release, MakeQueue, MakeMutex, Remove, Send, Receive, Take, Give, Tick, Advance, MakeRecursive, MakeGroup, SetBits, ClearBits, Await, State}
 use Rattle.slots.specs.Values.{taskAt}
 use Rattle.slots.specs.Kinds.{kindAt}
 use Rattle.rules.specs.Tables.{fresh, holds}
@@ -28,6 +28,7 @@ use Rattle.rules.proofs.KeepTicks.{hold-keeps, release-keeps, tick-keep
 use Rattle.rules.proofs.KeepObjects.{queue-keeps, mutex-keeps, recursive-keeps, remove-keeps}
 use Rattle.rules.proofs.KeepQueues.{send-keeps, receive-keeps}
 use Rattle.rules.proofs.KeepMutexes.{take-keeps, give-keeps}
+use Rattle.rules.proofs.KeepEvents.{make-keeps, set-keeps, clear-keeps, await-keeps}
 use Rattle.rules.proofs.KeepUses.{used-after}
 use Rattle.rules.proofs.KeepCircles.{effect-circles}
 use Rattle.rules.specs.Loans.{ruled}
@@ -58,6 +59,10 @@ effect-keeps k S n (Give o) = give-keeps k S n (objSlot (k .uses) o)
 effect-keeps k S n Tick = tick-keeps k S n
 effect-keeps k S n (Advance d) = advance-keeps k S n d
 effect-keeps k S n MakeRecursive = recursive-keeps k S n
+effect-keeps k S n MakeGroup = make-keeps k S n
+effect-keeps k S n (SetBits o m) = set-keeps k S n (objSlot (k .uses) o) m
+effect-keeps k S n (ClearBits o m) = clear-keeps k S n (objSlot (k .uses) o) m
+effect-keeps k S n (Await o m a c w) = await-keeps k S n (objSlot (k .uses) o) m a c w
 
 -- whatever the item and the store
 pub step-kept : (k : State) (c : Call) (item s : List ℕ) → sound k ≡ true → sound (step k c item s .kernel) ≡ true

@@ -11,9 +11,10 @@ use Rattle.numbers.specs.Numbers.{idle}
 use Rattle.calls.specs.Behind.{onObject}
 use Rattle.order.proofs.Passing.{one-number}
 use Rattle.slots.specs.Places.{isFree, waitsOn}
+use Rattle.slots.specs.Wants.{waitOn}
 use Rattle.slots.specs.Values.{taskAt}
 use Rattle.slots.specs.Kinds.{countOf, counting, isUnused, isMutex, hands, heldBy, isHeld, kindAt}
-use Rattle.rules.specs.Types.{TaskSlot, ObjSlot, Wake, Ready, Waiting, Task, Holder, Nobody, By, Sort, Ordinary, Recursive, Kind, Unused, SpentObject, Queue, Mutex, WaitersOf, State, AMutex}
+use Rattle.rules.specs.Types.{TaskSlot, ObjSlot, Wake, Ready, Waiting, Task, Holder, Nobody, By, Sort, Ordinary, Recursive, Kind, Unused, SpentObject, Queue, Mutex, WaitersOf, State, AMutex, Want, Turn, Wait, Group}
 use Rattle.rules.specs.Tables.{withObject}
 use Rattle.rules.specs.Lines.{first, toTail}
 use Rattle.rules.specs.Sentences.{Holds, Exists, MayWait, taker, KindFits, vacant, an-ordinary, free-recursive, held-recursive, Sound}
@@ -36,6 +37,7 @@ mutex-used Unused e = absurd (false≢true e)
 mutex-used SpentObject e = absurd (false≢true e)
 mutex-used (Queue q) e = refl
 mutex-used (Mutex s h) e = refl
+mutex-used (Group b) e = refl
 
 -- ── the counts
 counts-fit : (s : Sort) (n : ℕ) (t : TaskSlot) → 1 ≤ n → n ≤ 255 → KindFits (Mutex (counting s n) (By t))
@@ -59,8 +61,12 @@ count-most (free-recursive e) = omega arith
 count-most (held-recursive a b) = b
 
 -- who waits on a mutex may wait on it whatever its count
-waits-still : {t : TaskSlot} {s m : Sort} {h : Holder} → MayWait t (Mutex s h) → MayWait t (Mutex m h)
+waits-still : {t : TaskSlot} {x : Want} {s m : Sort} {h : Holder} → MayWait t x (Mutex s h) → MayWait t x (Mutex m h)
 waits-still (taker d) = taker d
+
+-- and whoever holds it next, but for the waiter itself
+waits-after : {t u : TaskSlot} {x : Want} {s m : Sort} {h : Holder} → MayWait t x (Mutex s h) → (u .0 ≡ t .0 → ⊥) → MayWait t x (Mutex m (By u))
+waits-after (taker d) n = taker n
 
 module _ (k : State) (S : Sound k) (store : ℕ) where
   N : Nearly (settled (k .tick)) k
@@ -74,14 +80,14 @@ module _ (k : State) (S : Sound k) (store : ℕ) where
 
   -- the caller, who is not idle, begins to wait on a mutex that another holds
   pub waits-nearly : (o : ObjSlot) (w : ℕ) → 0 < w → (k .running .0 ≡ 0 → ⊥) → (s : Sort) (h : TaskSlot) → kindAt (k .objects) o ≡ Mutex s (By h) → (h .0 ≡ k .running .0 → ⊥)
-      → Nearly (settled (k .tick)) (waitFor k o w)
+      → Nearly (settled (k .tick)) (waitFor k o Turn w)
   unfolding waitFor
-  waits-nearly o w some busy s h e other = arrives-nearly k N (k .running) caller-low (to-wait refl busy may-wait (wake-ahead (k .tick) w o (S .clock .counts .tick-range) some))
+  waits-nearly o w some busy s h e other = arrives-nearly k N (k .running) caller-low (to-wait refl busy may-wait (wake-ahead (k .tick) w (waitOn o Turn) (S .clock .counts .tick-range) some))
     where
-      may-wait : (p : ObjSlot) (v : Wake) → Waiting o (wakeOf (k .tick) w) ≡ Waiting p v → MayWait (k .running) (kindAt (k .objects) p)
+      may-wait : (y : Wait) (v : Wake) → Waiting (waitOn o Turn) (wakeOf (k .tick) w) ≡ Waiting y v → MayWait (k .running) (y .want) (kindAt (k .objects) (y .object))
       may-wait p v q =
-          let z : o ≡ p = cc in
-          subst (λ x. MayWait (k .running) (kindAt (k .objects) x)) z (subst (λ (x : Kind). MayWait (k .running) x) (sym e) (taker other))
+          let z : waitOn o Turn ≡ p = cc in
+          subst (λ (y : Wait). MayWait (k .running) (y .want) (kindAt (k .objects) (y .object))) z (subst (λ (x : Kind). MayWait (k .running) Turn x) (sym e) (taker other))
 
   -- 15: take
   module _ (o : ObjSlot) (w : ℕ) {l : Bool} (P : Passed k (onObject 15 AMutex o l w) store) where
@@ -107,7 +113,7 @@ module _ (k : State) (S : Sound k) (store : ℕ) where
 
     -- the caller has it, with this count
     callers : (s : Sort) (n : ℕ) → 1 ≤ n → n ≤ 255
-        → ((t : TaskSlot) (v : Wake) → taskAt (k .tasks) t .place ≡ Waiting o v → MayWait t (callersWith k s n)) → Keeps (withObject k o (callersWith k s n))
+        → ((t : TaskSlot) (x : Want) (v : Wake) → taskAt (k .tasks) t .place ≡ Waiting (waitOn o x) v → MayWait t x (callersWith k s n)) → Keeps (withObject k o (callersWith k s n))
     callers s n a b W =
         record {
           nearly = object-nearly k N o (callersWith k s n) low W (counts-fit s n (k .running) a b)
@@ -116,7 +122,7 @@ module _ (k : State) (S : Sound k) (store : ℕ) where
         }
 
     free-taken : (s : Sort) → kindAt (k .objects) o ≡ Mutex s Nobody → Keeps (withObject k o (callersWith k s 1))
-    free-taken s e = callers s 1 (omega arith) (omega arith) (λ t v p. absurd (no-wait-free (S .tables .tasks t .waits o v p) is-mutex (ap isHeld e)))
+    free-taken s e = callers s 1 (omega arith) (omega arith) (λ t x v p. absurd (no-wait-free (S .tables .tasks t .waits (waitOn o x) v p) is-mutex (ap isHeld e)))
 
     may-again : (s : Sort) → kindAt (k .objects) o ≡ Mutex s (By (k .running)) → countOf s < 255
     may-again s e =
@@ -124,9 +130,9 @@ module _ (k : State) (S : Sound k) (store : ℕ) where
         (count-most (subst KindFits e (S .tables .ranges o)))
 
     taken-again : (s : Sort) → kindAt (k .objects) o ≡ Mutex s (By (k .running)) → Keeps (withObject k o (callersWith k s (countOf s + 1)))
-    taken-again s e = callers s (countOf s + 1) (omega arith) (omega (arith, may-again s e)) (λ t v p. waits-still (subst (λ x. MayWait t x) e (S .tables .tasks t .waits o v p)))
+    taken-again s e = callers s (countOf s + 1) (omega arith) (omega (arith, may-again s e)) (λ t x v p. waits-still (subst (λ y. MayWait t x y) e (S .tables .tasks t .waits (waitOn o x) v p)))
 
-    held-waited : (s : Sort) (h : TaskSlot) → kindAt (k .objects) o ≡ Mutex s (By h) → (h .0 ≡ k .running .0 → ⊥) → Keeps (waitFor k o w)
+    held-waited : (s : Sort) (h : TaskSlot) → kindAt (k .objects) o ≡ Mutex s (By h) → (h .0 ≡ k .running .0 → ⊥) → Keeps (waitFor k o Turn w)
     unfolding waitFor arrives toTail
     held-waited s h e d =
         let wait = some e d in
@@ -155,7 +161,7 @@ module _ (k : State) (S : Sound k) (store : ℕ) where
     kept s h e m =
         record {
           nearly = object-nearly k N o (Mutex (counting s (countOf s - 1)) h) give-low
-              (λ t v p. waits-still (subst (λ x. MayWait t x) e (S .tables .tasks t .waits o v p)))
+              (λ t x v p. waits-still (subst (λ y. MayWait t x y) e (S .tables .tasks t .waits (waitOn o x) v p)))
               (fewer-fits s h m (subst KindFits e (S .tables .ranges o)))
               (λ t q. let z : Holds (k .objects) t o = ap hands e ∙ q in (S .tables .holders t o z, λ n. S .tables .idle-holds o (z ∙ ap By (one-number t idle n))));
           runs = λ q. R;
@@ -164,14 +170,14 @@ module _ (k : State) (S : Sound k) (store : ℕ) where
     freed : (s : Sort) → first k (WaitersOf o) ≡ [] → Keeps (withObject k o (Mutex (counting s 0) Nobody))
     freed s e =
         record {
-          nearly = object-nearly k N o (Mutex (counting s 0) Nobody) give-low (λ t v p. absurd (first-none k N o e t v p)) (none-fits s)
+          nearly = object-nearly k N o (Mutex (counting s 0) Nobody) give-low (λ t x v p. absurd (first-none k N o e t x v p)) (none-fits s)
               (λ t z. absurd (let y : _≡_ {A = ℕ} 0 1 = cc in omega arith));
           runs = λ h. R;
         }
 
-    passed-on : (s : Sort) (t : TaskSlot) → first k (WaitersOf o) ≡ t ∷ [] → Keeps (withObject (arrives k t Ready 1) o (Mutex (counting s 1) (By t)))
+    passed-on : (s : Sort) {h : Holder} → kindAt (k .objects) o ≡ Mutex s h → (t : TaskSlot) → first k (WaitersOf o) ≡ t ∷ [] → Keeps (withObject (arrives k t Ready 1) o (Mutex (counting s 1) (By t)))
     unfolding arrives toTail
-    passed-on s t e =
+    passed-on s kind t e =
         record {
           nearly = object-nearly (arrives k t Ready 1) woken o (Mutex (counting s 1) (By t)) give-low others (counts-fit s 1 t (omega arith) (omega arith)) new-holder;
           runs = λ h. arrives-runs k N t low (to-ready (omega arith) refl) R not-caller;
@@ -195,10 +201,10 @@ module _ (k : State) (S : Sound k) (store : ℕ) where
         now-ready : taskAt (arrives k t Ready 1 .tasks) t .place ≡ Ready
         now-ready = ap (λ (x : Task). x .place) (arrives-at k t Ready 1 (omega (arith, S .tables .task-slots, low)))
 
-        others : (v : TaskSlot) (w : Wake) → taskAt (arrives k t Ready 1 .tasks) v .place ≡ Waiting o w → MayWait v (Mutex (counting s 1) (By t))
-        others v w q =
-            taker (λ z.
-            let p : Ready ≡ Waiting o w = sym now-ready ∙ ap (λ (y : TaskSlot). taskAt (arrives k t Ready 1 .tasks) y .place) (one-number t v z) ∙ q in
+        others : (v : TaskSlot) (x : Want) (w : Wake) → taskAt (arrives k t Ready 1 .tasks) v .place ≡ Waiting (waitOn o x) w → MayWait v x (Mutex (counting s 1) (By t))
+        others v x w q =
+            waits-after (subst (λ y. MayWait v x y) kind (woken .tables .tasks v .waits (waitOn o x) w q)) (λ z.
+            let p : Ready ≡ Waiting (waitOn o x) w = sym now-ready ∙ ap (λ (y : TaskSlot). taskAt (arrives k t Ready 1 .tasks) y .place) (one-number t v z) ∙ q in
             let y : _≡_ {A = ℕ} 0 1 = cc in
             omega arith)
 
@@ -212,4 +218,4 @@ module _ (k : State) (S : Sound k) (store : ℕ) where
     pub give-keeps : Keeps (effect k (onObject 16 AMutex o l 0))
     unfolding effect
     give-keeps =
-        by-give k o Keeps (λ m. record { nearly = N; runs = λ h. R }) kept (λ s h e m q. freed s q) (λ s h e m t r q. passed-on s t (first-single k (WaitersOf o) t r q))
+        by-give k o Keeps (λ m. record { nearly = N; runs = λ h. R }) kept (λ s h e m q. freed s q) (λ s h e m t r q. passed-on s e t (first-single k (WaitersOf o) t r q))

@@ -9,7 +9,8 @@ use lib.Seq.{getD-set-same, getD-set-other}
 use borrow.Author.Tests.{eqb-true, eqb-false}
 use Rattle.numbers.specs.Numbers.{idle, sameObject}
 use Rattle.slots.specs.Kinds.{unused, hands, kindAt}
-use Rattle.rules.specs.Types.{TaskSlot, ObjSlot, Wake, Waiting, Kind, By, Object, State}
+use Rattle.rules.specs.Types.{TaskSlot, ObjSlot, Wake, Waiting, Kind, By, Object, State, Want}
+use Rattle.slots.specs.Wants.{waitOn}
 use Rattle.slots.specs.Values.{taskAt}
 use Rattle.rules.specs.Tables.{withObject}
 use Rattle.rules.specs.Sentences.{Exists, MayWait, KindFits, Tables}
@@ -31,7 +32,7 @@ one-object : (x y : ObjSlot) → x .0 ≡ y .0 → x ≡ y
 one-object x y e = λ i. record { 0 = e i }
 
 module _ {w : Open} (k : State) (N : Nearly w k) (o : ObjSlot) (y : Kind) (low : o .0 < 16)
-    (W : (t : TaskSlot) (v : Wake) → taskAt (k .tasks) t .place ≡ Waiting o v → MayWait t y)
+    (W : (t : TaskSlot) (x : Want) (v : Wake) → taskAt (k .tasks) t .place ≡ Waiting (waitOn o x) v → MayWait t x y)
     (F : KindFits y)
     (H : (t : TaskSlot) → hands y ≡ By t → Exists (k .tasks) t × (t .0 ≡ 0 → ⊥)) where
   abbrev qs : List Object
@@ -52,7 +53,7 @@ module _ {w : Open} (k : State) (N : Nearly w k) (o : ObjSlot) (y : Kind) (low :
         object-slots = length-set (k .objects) (o .0) (record { kind = y }) ∙ N .tables .object-slots;
         as-idle = N .tables .as-idle;
         tasks = λ t. let T = N .tables .tasks t in record {
-          waits = λ p v e. each (λ r z. taskAt (k .tasks) t .place ≡ Waiting r v → MayWait t z) (W t v) (λ r n f. T .waits r v f) p e;
+          waits = λ y v e. each (λ r z. taskAt (k .tasks) t .place ≡ Waiting (waitOn r (y .want)) v → MayWait t (y .want) z) (W t (y .want) v) (λ r n f. T .waits (waitOn r (y .want)) v f) (y .object) e;
           outcome-range = T .outcome-range;
           delay-outcome = T .delay-outcome;
           wait-outcome = T .wait-outcome;

@@ -15,11 +15,12 @@ use Rattle.calls.specs.Behind.{nothing, onObject}
 use Rattle.order.specs.Order.{listed}
 use Rattle.order.specs.Tidy.{count}
 use Rattle.slots.specs.Kinds.{unused, isUnused, takesObject, isMutex, isTaken, isHeld, kindAt}
-use Rattle.rules.specs.Types.{TaskSlot, ObjSlot, Wake, Never, At, Waiting, Ring, Holder, Nobody, By, Sort, Ordinary, Recursive, Kind, Unused, SpentObject, Queue, Mutex, Object, WaitersOf, State, AnObject}
+use Rattle.rules.specs.Types.{TaskSlot, ObjSlot, Wake, Never, At, Waiting, Ring, Holder, Nobody, By, Sort, Ordinary, Recursive, Kind, Unused, SpentObject, Queue, Mutex, Object, WaitersOf, State, AnObject, Want, Wait, Group}
+use Rattle.slots.specs.Wants.{waitOn}
 use Rattle.slots.specs.Values.{taskAt}
 use Rattle.rules.specs.Tables.{freeObject, withObject}
 use Rattle.rules.specs.Lines.{those, first}
-use Rattle.rules.specs.Sentences.{MayWait, receiver, sender, taker, RingFits, KindFits, vacant, a-queue, an-ordinary, free-recursive, Sound}
+use Rattle.rules.specs.Sentences.{MayWait, receiver, sender, taker, awaiter, RingFits, KindFits, vacant, a-queue, an-ordinary, free-recursive, Sound}
 use Rattle.rows.specs.Asking.{waits}
 use Rattle.rows.specs.Applies.{outOfRange, namesNone, noneFree}
 use Rattle.rules.specs.Refusals.{heldOrWaited, inUse}
@@ -35,14 +36,16 @@ use Rattle.rules.proofs.Keeps.{Keeps, index-most, index-passes}
 use Rattle.rules.proofs.KeepTasks.{later-ahead}
 
 -- ── what nobody waits on or holds
-pub no-wait : {t : TaskSlot} {x : Kind} → MayWait t x → x ≡ Unused → ⊥
+pub no-wait : {t : TaskSlot} {y : Want} {x : Kind} → MayWait t y x → x ≡ Unused → ⊥
 no-wait (receiver e) q = let z : _≡_ {A = ℕ} 0 1 = cc in omega arith
 no-wait (sender e) q = let z : _≡_ {A = ℕ} 0 1 = cc in omega arith
+no-wait (awaiter a b c) q = let z : _≡_ {A = ℕ} 0 1 = cc in omega arith
 no-wait (taker n) q = let z : _≡_ {A = ℕ} 0 1 = cc in omega arith
 
-pub no-wait-free : {t : TaskSlot} {x : Kind} → MayWait t x → isMutex x ≡ true → isHeld x ≡ false → ⊥
+pub no-wait-free : {t : TaskSlot} {y : Want} {x : Kind} → MayWait t y x → isMutex x ≡ true → isHeld x ≡ false → ⊥
 no-wait-free (receiver e) m f = false≢true m
 no-wait-free (sender e) m f = false≢true m
+no-wait-free (awaiter a b c) m f = false≢true m
 no-wait-free (taker n) m f = false≢true (sym f)
 
 is-unused : (x : Kind) → takesObject x ≡ true → x ≡ Unused
@@ -50,6 +53,7 @@ is-unused Unused e = refl
 is-unused SpentObject e = absurd (false≢true e)
 is-unused (Queue q) e = absurd (false≢true e)
 is-unused (Mutex s h) e = absurd (false≢true e)
+is-unused (Group b) e = absurd (false≢true e)
 
 pub not-by : {h : Holder} {t : TaskSlot} → isTaken h ≡ false → h ≡ By t → ⊥
 not-by a e = false≢true (sym a ∙ ap isTaken e)
@@ -59,6 +63,7 @@ unused-unheld Unused e = refl
 unused-unheld SpentObject e = refl
 unused-unheld (Queue q) e = refl
 unused-unheld (Mutex s h) e = absurd (false≢true e)
+unused-unheld (Group b) e = refl
 
 pub object-low : (os : List Object) (o : ObjSlot) → length os ≡ 16 → isUnused (kindAt os o) ≡ false → o .0 < 16
 object-low os o l e = go (ltb (o .0) 16) refl
@@ -68,24 +73,24 @@ object-low os o l e = go (ltb (o .0) 16) refl
     go false q = let past : length os ≤ o .0 = omega (arith, ltb-false (o .0) 16 q) in absurd (false≢true (sym e ∙ ap isUnused (past-objects os o past)))
 
 -- nobody waits on an object that lists nobody
-none-there : (l : List TaskSlot) (n : ℕ) → isNone l ≡ true → count n l ≡ 1 → ⊥
+pub none-there : (l : List TaskSlot) (n : ℕ) → isNone l ≡ true → count n l ≡ 1 → ⊥
 unfolding count
 none-there [] n e c = omega arith
 none-there (t ∷ l) n e c = false≢true e
 
 pub nobody-waits : {w : Open} (k : State) → Nearly w k → (o : ObjSlot) → isNone (those (k .tasks) (WaitersOf o) (listed (k .order))) ≡ true
-    → (t : TaskSlot) (v : Wake) → taskAt (k .tasks) t .place ≡ Waiting o v → ⊥
-nobody-waits k N o e t v q = none-there (those (k .tasks) (WaitersOf o) (listed (k .order))) (t .0) e (N .listing .lists o t ∙ rw (q, eq-eqb (o .0) (o .0) refl))
+    → (t : TaskSlot) (x : Want) (v : Wake) → taskAt (k .tasks) t .place ≡ Waiting (waitOn o x) v → ⊥
+nobody-waits k N o e t x v q = none-there (those (k .tasks) (WaitersOf o) (listed (k .order))) (t .0) e (N .listing .lists o t ∙ rw (q, eq-eqb (o .0) (o .0) refl))
 
-pub first-none : {w : Open} (k : State) → Nearly w k → (o : ObjSlot) → first k (WaitersOf o) ≡ [] → (t : TaskSlot) (v : Wake) → taskAt (k .tasks) t .place ≡ Waiting o v → ⊥
+pub first-none : {w : Open} (k : State) → Nearly w k → (o : ObjSlot) → first k (WaitersOf o) ≡ [] → (t : TaskSlot) (x : Want) (v : Wake) → taskAt (k .tasks) t .place ≡ Waiting (waitOn o x) v → ⊥
 unfolding first
-first-none k N o e t v q = nobody-waits k N o (sym (leader-none (k .tasks) (those (k .tasks) (WaitersOf o) (listed (k .order)))) ∙ ap isNone e) t v q
+first-none k N o e t x v q = nobody-waits k N o (sym (leader-none (k .tasks) (those (k .tasks) (WaitersOf o) (listed (k .order)))) ∙ ap isNone e) t x v q
 
 -- ── the caller waits: its wake tick is ahead
-pub wake-ahead : (tick w : ℕ) (o : ObjSlot) → tick ≤ 4294967295 → 0 < w → settled tick idle (Waiting o (wakeOf tick w)) ≡ true
-wake-ahead tick w o h s = go (leb 4294967295 w) refl
+pub wake-ahead : (tick w : ℕ) (y : Wait) → tick ≤ 4294967295 → 0 < w → settled tick idle (Waiting y (wakeOf tick w)) ≡ true
+wake-ahead tick w y h s = go (leb 4294967295 w) refl
   where
-    go : (b : Bool) → leb 4294967295 w ≡ b → settled tick idle (Waiting o (if b then Never else At (later tick w))) ≡ true
+    go : (b : Bool) → leb 4294967295 w ≡ b → settled tick idle (Waiting y (if b then Never else At (later tick w))) ≡ true
     go true e = refl
     go false e = later-ahead tick w h s (omega (arith, leb-false 4294967295 w e))
 
@@ -97,10 +102,10 @@ module _ (k : State) (S : Sound k) (store : ℕ) where
   R = S .running .runs
 
   -- an object that was free becomes one that nobody holds
-  new-object : (o : ObjSlot) (y : Kind) → o .0 < 16 → kindAt (k .objects) o ≡ Unused → KindFits y → isHeld y ≡ false → Keeps (withObject k o y)
+  pub new-object : (o : ObjSlot) (y : Kind) → o .0 < 16 → kindAt (k .objects) o ≡ Unused → KindFits y → isHeld y ≡ false → Keeps (withObject k o y)
   new-object o y low e F H =
       record {
-        nearly = object-nearly k N o y low (λ t v p. absurd (no-wait (S .tables .tasks t .waits o v p) e)) F (λ t q. absurd (not-by H q));
+        nearly = object-nearly k N o y low (λ t x v p. absurd (no-wait (S .tables .tasks t .waits (waitOn o x) v p) e)) F (λ t q. absurd (not-by H q));
         runs = λ h. R;
       }
 
@@ -127,7 +132,7 @@ module _ (k : State) (S : Sound k) (store : ℕ) where
           some = ltb-false c 1 (a .0);
           few = ltb-false 64 c (b .0);
           small = ltb-false 64 z (d .0);
-          whole = ltb-false 512 (c * z) (d .1);
+          whole = ltb-false 512 (c * z) (or-off (ltb 512 (c * z)) _ (d .1) .0);
           starts = omega (arith, ltb-false c 1 (a .0));
           counts = omega arith;
         }
@@ -176,7 +181,7 @@ module _ (k : State) (S : Sound k) (store : ℕ) where
         nothing-there y u =
             record {
               nearly =
-                  object-nearly k N o y (object-low (k .objects) o (S .tables .object-slots) named) (λ t v p. absurd (nobody-waits k N o unwaited t v p))
+                  object-nearly k N o y (object-low (k .objects) o (S .tables .object-slots) named) (λ t x v p. absurd (nobody-waits k N o unwaited t x v p))
                   (vacant u)
                   (λ t e. absurd (not-by (unused-unheld y u) e));
               runs = λ h. R;

@@ -11,11 +11,12 @@ use Rattle.lists.proofs.Bools.{on, not-off}
 use Rattle.calls.specs.Behind.{onObject}
 use Rattle.slots.specs.Places.{waitsOn}
 use Rattle.slots.specs.Kinds.{isUnused, isQueue, kindAt}
-use Rattle.rules.specs.Types.{TaskSlot, ObjSlot, Wake, Place, Free, Ready, Delayed, Waiting, Suspended, Spent, Ring, Kind, Queue, WaitersOf, toWaiter, toQueue, toCaller, State, AQueue}
+use Rattle.rules.specs.Types.{TaskSlot, ObjSlot, Wait, Wake, Place, Free, Ready, Delayed, Waiting, Suspended, Spent, Ring, Kind, Queue, WaitersOf, toWaiter, toQueue, toCaller, State, AQueue, Want, Turn}
+use Rattle.slots.specs.Wants.{waitOn}
 use Rattle.slots.specs.Values.{taskAt}
 use Rattle.rules.specs.Tables.{withObject}
 use Rattle.rules.specs.Lines.{first, toTail}
-use Rattle.rules.specs.Sentences.{MayWait, receiver, sender, taker, RingFits, a-queue, Sound}
+use Rattle.rules.specs.Sentences.{MayWait, receiver, sender, taker, awaiter, RingFits, a-queue, Sound}
 use Rattle.rows.specs.Applies.{namesNone}
 use Rattle.rules.specs.Waits.{arrives, waitFor}
 use Rattle.rules.specs.Rings.{oneMore, oneLess, roomOr}
@@ -33,16 +34,24 @@ use Rattle.rules.proofs.Keeps.{Keeps, wait-busy, wait-free, must-wait, 
 use Rattle.rules.proofs.KeepObjects.{object-low, first-none, wake-ahead}
 
 -- who waits on a queue finds it empty or full
-empty-or-full : {t : TaskSlot} {x : Kind} → MayWait t x → (q : Ring) → x ≡ Queue q → (0 < q .count) → q .count ≡ q .capacity
+empty-or-full : {t : TaskSlot} {y : Want} {x : Kind} → MayWait t y x → (q : Ring) → x ≡ Queue q → (0 < q .count) → q .count ≡ q .capacity
 empty-or-full (receiver {q = r} e) q p h = let z : r ≡ q = cc in absurd (omega (arith, e, ap (λ (y : Ring). y .count) z))
 empty-or-full (sender {q = r} e) q p h = let z : r ≡ q = cc in subst (λ (y : Ring). y .count ≡ y .capacity) z e
+empty-or-full (awaiter a b c) q p h = absurd (let z : _≡_ {A = ℕ} 0 1 = cc in omega arith)
 empty-or-full (taker n) q p h = absurd (let z : _≡_ {A = ℕ} 0 1 = cc in omega arith)
 
-waiting-as : (o : ObjSlot) (p : Place) → waitsOn o p ≡ true → (A : Type 0) → ((v : Wake) → p ≡ Waiting o v → A) → A
+-- who waited on a queue may wait on it when it is full
+still-sends : {t : TaskSlot} {y : Want} {x : Kind} → MayWait t y x → (q : Ring) → x ≡ Queue q → {r : Ring} → r .count ≡ r .capacity → MayWait t y (Queue r)
+still-sends (receiver e) q p f = sender f
+still-sends (sender e) q p f = sender f
+still-sends (taker n) q p f = absurd (let z : _≡_ {A = ℕ} 0 1 = cc in omega arith)
+still-sends (awaiter a b c) q p f = absurd (let z : _≡_ {A = ℕ} 0 1 = cc in omega arith)
+
+waiting-as : (o : ObjSlot) (p : Place) → waitsOn o p ≡ true → (A : Type 0) → ((x : Want) (v : Wake) → p ≡ Waiting (waitOn o x) v → A) → A
 waiting-as o Free e A f = absurd (false≢true e)
 waiting-as o Ready e A f = absurd (false≢true e)
 waiting-as o (Delayed w) e A f = absurd (false≢true e)
-waiting-as o (Waiting q w) e A f = f w (λ i. Waiting (record { 0 = eqb-true (q .0) (o .0) e i }) w)
+waiting-as o (Waiting y w) e A f = f (y .want) w (λ i. Waiting (waitOn (record { 0 = eqb-true (y .object .0) (o .0) e i }) (y .want)) w)
 waiting-as o Suspended e A f = absurd (false≢true e)
 waiting-as o Spent e A f = absurd (false≢true e)
 
@@ -63,18 +72,18 @@ module _ (k : State) (S : Sound k) (o : ObjSlot) (q : Ring) (kind : kindAt (k .o
   ring = ring-of (kindAt (k .objects) o) (S .tables .ranges o) kind
 
   -- the ring changes, and no one's waiting is upset
-  ring-keeps : (r : Ring) → RingFits r → ((t : TaskSlot) (v : Wake) → taskAt (k .tasks) t .place ≡ Waiting o v → MayWait t (Queue r)) → Nearly (settled (k .tick)) (withObject k o (Queue r))
+  ring-keeps : (r : Ring) → RingFits r → ((t : TaskSlot) (x : Want) (v : Wake) → taskAt (k .tasks) t .place ≡ Waiting (waitOn o x) v → MayWait t x (Queue r)) → Nearly (settled (k .tick)) (withObject k o (Queue r))
   ring-keeps r f W =
       object-nearly k N o (Queue r) low W (a-queue f) (λ t e. absurd (let z : _≡_ {A = ℕ} 0 1 = cc in omega arith))
 
   -- the caller waits
-  caller-waits : (w : ℕ) → 0 < w → (k .running .0 ≡ 0 → ⊥) → (0 < k .hold → ⊥) → MayWait (k .running) (Queue q) → Keeps (waitFor k o w)
+  caller-waits : (w : ℕ) → 0 < w → (k .running .0 ≡ 0 → ⊥) → (0 < k .hold → ⊥) → MayWait (k .running) Turn (Queue q) → Keeps (waitFor k o Turn w)
   unfolding waitFor arrives toTail
   caller-waits w s busy no-hold m =
       record {
         nearly = arrives-nearly k N (k .running) caller-low (to-wait refl busy
-            (λ p v e. let z : o ≡ p = cc in subst (λ x. MayWait (k .running) (kindAt (k .objects) x)) z (subst (λ (x : Kind). MayWait (k .running) x) (sym kind) m))
-            (wake-ahead (k .tick) w o (S .clock .counts .tick-range) s));
+            (λ p v e. let z : waitOn o Turn ≡ p = cc in subst (λ (y : Wait). MayWait (k .running) (y .want) (kindAt (k .objects) (y .object))) z (subst (λ (x : Kind). MayWait (k .running) Turn x) (sym kind) m))
+            (wake-ahead (k .tick) w (waitOn o Turn) (S .clock .counts .tick-range) s));
         runs = λ h. absurd (no-hold h);
       }
 
@@ -94,7 +103,7 @@ module _ (k : State) (S : Sound k) (o : ObjSlot) (q : Ring) (kind : kindAt (k .o
     waiter-keeps = record { nearly = arrives-nearly k N t waiter-low (to-ready (omega arith) refl); runs = λ h. arrives-runs k N t waiter-low (to-ready (omega arith) refl) R not-caller }
 
     full-then : 0 < q .count → q .count ≡ q .capacity
-    full-then h = waiting-as o (taskAt (k .tasks) t .place) waits-here _ (λ v p. empty-or-full (S .tables .tasks t .waits o v p) q kind h)
+    full-then h = waiting-as o (taskAt (k .tasks) t .place) waits-here _ (λ x v p. empty-or-full (S .tables .tasks t .waits (waitOn o x) v p) q kind h)
 
     refilled-keeps : 0 < q .count → Keeps (arrives (withObject k o (Queue (oneMore (oneLess q)))) t Ready 1)
     unfolding arrives toTail
@@ -102,7 +111,7 @@ module _ (k : State) (S : Sound k) (o : ObjSlot) (q : Ring) (kind : kindAt (k .o
         let full = full-then h in
         let less = less-fits q ring in
         let M = ring-keeps (oneMore (oneLess q)) (record { some = ring .some; few = ring .few; small = ring .small; whole = ring .whole; starts = less .starts; counts = omega arith })
-        (λ u v p. sender (omega arith)) in
+        (λ u x v p. still-sends (S .tables .tasks u .waits (waitOn o x) v p) q kind (omega arith)) in
         record {
           nearly = arrives-nearly (withObject k o (Queue (oneMore (oneLess q)))) M t waiter-low (to-ready (omega arith) refl);
           runs = λ z. arrives-runs (withObject k o (Queue (oneMore (oneLess q)))) M t waiter-low (to-ready (omega arith) refl) R not-caller;
@@ -111,7 +120,7 @@ module _ (k : State) (S : Sound k) (o : ObjSlot) (q : Ring) (kind : kindAt (k .o
   -- 13: send
   module _ (w : ℕ) (wait : q .count ≡ q .capacity → 0 < w) (busy : 0 < w → k .running .0 ≡ 0 → ⊥) (no-hold : 0 < w → 0 < k .hold → ⊥) where
     -- into the queue, where nobody waits; or the caller waits
-    room-keeps : (q .count < q .capacity → (t : TaskSlot) (v : Wake) → taskAt (k .tasks) t .place ≡ Waiting o v → ⊥) → Keeps (sentBy k o q w (roomOr q))
+    room-keeps : (q .count < q .capacity → (t : TaskSlot) (x : Want) (v : Wake) → taskAt (k .tasks) t .place ≡ Waiting (waitOn o x) v → ⊥) → Keeps (sentBy k o q w (roomOr q))
     room-keeps none = go (ltb (q .count) (q .capacity)) refl
       where
         go : (b : Bool) → ltb (q .count) (q .capacity) ≡ b → Keeps (sentBy k o q w (if b then toQueue else toCaller))
@@ -119,7 +128,7 @@ module _ (k : State) (S : Sound k) (o : ObjSlot) (q : Ring) (kind : kindAt (k .o
             let l : q .count < q .capacity = ltb-true (q .count) (q .capacity) e in
             record {
               nearly = ring-keeps (oneMore q) (record { some = ring .some; few = ring .few; small = ring .small; whole = ring .whole; starts = ring .starts; counts = omega arith })
-                  (λ t v p. absurd (none l t v p));
+                  (λ t x v p. absurd (none l t x v p));
               runs = λ h. R;
             }
         go false e =
@@ -132,10 +141,10 @@ module _ (k : State) (S : Sound k) (o : ObjSlot) (q : Ring) (kind : kindAt (k .o
       where
         told : (t : TaskSlot) → first k (WaitersOf o) ≡ t ∷ [] → (b : Bool) → eqb (q .count) 0 ≡ b → Keeps (sentBy k o q w (if b then toWaiter t else roomOr q))
         told t e true z = waiter-keeps t e
-        told t e false z = room-keeps (λ l u v p. let full = full-then t e (omega (arith, eqb-false (q .count) 0 z)) in omega arith)
+        told t e false z = room-keeps (λ l u x v p. let full = full-then t e (omega (arith, eqb-false (q .count) 0 z)) in omega arith)
 
         go : (f : List TaskSlot) → first k (WaitersOf o) ≡ f → Keeps (sentBy k o q w (outletFor q f))
-        go [] e = room-keeps (λ l t v p. first-none k N o e t v p)
+        go [] e = room-keeps (λ l t x v p. first-none k N o e t x v p)
         go (t ∷ r) e = told t (first-single k (WaitersOf o) t r e) (eqb (q .count) 0) refl
 
   -- 14: receive
@@ -147,12 +156,12 @@ module _ (k : State) (S : Sound k) (o : ObjSlot) (q : Ring) (kind : kindAt (k .o
         refill : 0 < q .count → (f : List TaskSlot) → first k (WaitersOf o) ≡ f → Keeps (refilledBy k o (oneLess q) f)
         refill h [] e =
             record {
-              nearly = ring-keeps (oneLess q) (less-fits q ring) (λ t v p. absurd (first-none k N o e t v p));
+              nearly = ring-keeps (oneLess q) (less-fits q ring) (λ t x v p. absurd (first-none k N o e t x v p));
               runs = λ z. R;
             }
         refill h (t ∷ r) e = refilled-keeps t (first-single k (WaitersOf o) t r e) h
 
-        go : (b : Bool) → eqb (q .count) 0 ≡ b → Keeps (if b then waitFor k o w else refilledBy k o (oneLess q) (first k (WaitersOf o)))
+        go : (b : Bool) → eqb (q .count) 0 ≡ b → Keeps (if b then waitFor k o Turn w else refilledBy k o (oneLess q) (first k (WaitersOf o)))
         go true e = let z : q .count ≡ 0 = eqb-true (q .count) 0 e in caller-waits w (wait z) (busy (wait z)) (no-hold (wait z)) (receiver z)
         go false e = refill (omega (arith, eqb-false (q .count) 0 e)) (first k (WaitersOf o)) refl
 
@@ -174,7 +183,7 @@ module _ (k : State) (S : Sound k) (store : ℕ) (o : ObjSlot) (w : ℕ) where
     unfolding namesNone
     queue-keeps does f =
         by-kind (kindAt (k .objects) o) (λ x. isQueue x ≡ true → Keeps (does x)) (λ m. absurd (false≢true m)) (λ m. absurd (false≢true m)) (λ q e m. f q e)
-        (λ s h e m. absurd (false≢true m))
+        (λ s h e m. absurd (false≢true m)) (λ b e m. absurd (false≢true m))
         (on (isQueue (kindAt (k .objects) o)) (P .named))
 
   module _ {l : Bool} (P : Passed k (onObject 13 AQueue o l w) store) where

@@ -7,6 +7,7 @@ use mathlib.Core.List.{List, [], _∷_}
 use lib.Dec.{eqb, ltb}
 use lib.ListN.{length, set}
 use lib.Seq.{set-out}
+use lib.Bits.{bitOr}
 use borrow.Author.Tests.{eqb-true, eqb-false, ltb-true, ltb-false}
 use Rattle.lists.specs.Choice.{if_then_else_}
 use Rattle.lists.specs.Lists.{foldl, upTo}
@@ -16,10 +17,11 @@ use Rattle.calls.specs.Behind.{asked}
 use Rattle.order.proofs.Passing.{one-number}
 use Rattle.order.specs.Order.{listed}
 use Rattle.slots.specs.Places.{isFree, isListed, waitsOn, wakesAt, outcomeDue}
+use Rattle.slots.specs.Wants.{waitOn, satisfiedOn}
 use Rattle.slots.specs.Values.{placed, brokenOff, taskAt}
 use Rattle.slots.specs.Kinds.{isUnused, kindAt}
-use Rattle.rules.specs.Types.{TaskSlot, ObjSlot, Place, Free, Ready, Delayed, Waiting, Suspended, Spent, Task, Ring, Holder, Sort, Kind, Unused, SpentObject, Queue, Mutex, Object, WaitersOf}
-use Rattle.rules.specs.Types.{Call, Create, Delete, Suspend, Resume, SetPriority, Delay, Yield, Hold, Release, MakeQueue, MakeMutex, Remove, Send, Receive, Take, Give, Tick, Advance, MakeRecursive, State}
+use Rattle.rules.specs.Types.{TaskSlot, ObjSlot, Place, Free, Ready, Delayed, Waiting, Suspended, Spent, Task, Ring, Holder, Sort, Kind, Unused, SpentObject, Queue, Mutex, Object, WaitersOf, Want, Turn, Group, SatisfiedOn}
+use Rattle.rules.specs.Types.{Call, Create, Delete, Suspend, Resume, SetPriority, Delay, Yield, Hold, Release, MakeQueue, MakeMutex, Remove, Send, Receive, Take, Give, Tick, Advance, MakeRecursive, MakeGroup, SetBits, ClearBits, Await, State}
 use Rattle.rules.specs.Tables.{withTask, withObject, withTick, withHold}
 use Rattle.rules.specs.Lines.{begun, first, toTail, leaves}
 use Rattle.rules.specs.Sentences.{Sound}
@@ -39,7 +41,9 @@ use Rattle.rules.proofs.KeepTicks.{due-there}
 use Rattle.rules.proofs.RowPasses.{Passed}
 use Rattle.rows.specs.Applies.{namesNone}
 use Rattle.rules.proofs.LoanWorks.{worked-place, worked-same}
+use Rattle.rules.proofs.EventCases.{by-bits, by-set, by-clear, by-await}
 use Rattle.rules.specs.Steps.{after}
+use Rattle.rules.specs.Events.{setOn, clearedOn, awaitedOn}
 
 -- what stands in a slot: 0 nothing, 1 a task, and 2 nothing ever after
 abbrev pub stands : Place → ℕ
@@ -55,6 +59,7 @@ standsAs Unused = 0
 standsAs SpentObject = 2
 standsAs (Queue q) = 1
 standsAs (Mutex s h) = 1
+standsAs (Group b) = 1
 
 pub there-stands : (p : Place) → isFree p ≡ false → stands p ≡ 1
 there-stands Free e = absurd (false≢true (sym e))
@@ -77,12 +82,14 @@ used-stands Unused e = absurd (false≢true (sym e))
 used-stands SpentObject e = absurd (false≢true (sym e))
 used-stands (Queue q) e = refl
 used-stands (Mutex s h) e = refl
+used-stands (Group b) e = refl
 
 pub stands-used : (x : Kind) → standsAs x ≡ 1 → isUnused x ≡ false
 stands-used Unused e = absurd (omega arith)
 stands-used SpentObject e = absurd (omega arith)
 stands-used (Queue q) e = refl
 stands-used (Mutex s h) e = refl
+stands-used (Group b) e = refl
 
 -- what holds of the stored task, and of every task as it was, holds of every task
 pub each-task : (ts : List Task) (u : TaskSlot) (x : Task) (P : TaskSlot → Task → Type 0) → P u x → ((v : TaskSlot) → P v (taskAt ts v)) → (v : TaskSlot) → P v (taskAt (set ts (u .0) x) v)
@@ -131,9 +138,9 @@ arrives-stays k t p n a b =
     let s = task-stays k t (placed (taskAt (k .tasks) t) p n) (there-stands p a ∙ sym (there-stands (taskAt (k .tasks) t .place) b)) in
     record { tasks = s .tasks; objects = λ o. refl }
 
-wait-stays : (k : State) (o : ObjSlot) (w : ℕ) → isFree (taskAt (k .tasks) (k .running) .place) ≡ false → Stays k (waitFor k o w)
+wait-stays : (k : State) (o : ObjSlot) (x : Want) (w : ℕ) → isFree (taskAt (k .tasks) (k .running) .place) ≡ false → Stays k (waitFor k o x w)
 unfolding waitFor
-wait-stays k o w e = arrives-stays k (k .running) (Waiting o (wakeOf (k .tick) w)) 0 refl e
+wait-stays k o x w e = arrives-stays k (k .running) (Waiting (waitOn o x) (wakeOf (k .tick) w)) 0 refl e
 
 pub worked-stays : (k : State) → Stays k (workedOut k)
 worked-stays k =
@@ -229,34 +236,52 @@ module _ (k : State) (S : Sound k) where
     sent-stays : Stays k (sent k o q w)
     unfolding sent
     sent-stays =
-        by-outlet k o q (λ x. Stays k (sentBy k o q w x)) (λ t e. arrives-stays k t Ready 1 refl (first-there o t [] e)) (queue-stays _) (wait-stays k o w caller-there)
+        by-outlet k o q (λ x. Stays k (sentBy k o q w x)) (λ t e. arrives-stays k t Ready 1 refl (first-there o t [] e)) (queue-stays _) (wait-stays k o Turn w caller-there)
 
     received-stays : Stays k (received k o q w)
     unfolding received
     received-stays = go (eqb (q .count) 0) (first k (WaitersOf o)) refl
       where
-        go : (b : Bool) (l : List TaskSlot) → first k (WaitersOf o) ≡ l → Stays k (if b then waitFor k o w else refilledBy k o (oneLess q) l)
-        go true l e = wait-stays k o w caller-there
+        go : (b : Bool) (l : List TaskSlot) → first k (WaitersOf o) ≡ l → Stays k (if b then waitFor k o Turn w else refilledBy k o (oneLess q) l)
+        go true l e = wait-stays k o Turn w caller-there
         go false [] e = queue-stays _
         go false (t ∷ l) e = onward (queue-stays _) (arrives-stays (withObject k o (Queue _)) t Ready 1 refl (first-there o t l e))
 
   pub send-stays : (o : ObjSlot) (w : ℕ) → Stays k (sentTo k o (kindAt (k .objects) o) w)
-  send-stays o w = by-kind (kindAt (k .objects) o) (λ x. Stays k (sentTo k o x w)) stays stays (λ q e. sent-stays o q w e) (λ s h e. stays)
+  send-stays o w = by-kind (kindAt (k .objects) o) (λ x. Stays k (sentTo k o x w)) stays stays (λ q e. sent-stays o q w e) (λ s h e. stays) (λ b e. stays)
 
   pub receive-stays : (o : ObjSlot) (w : ℕ) → Stays k (receivedFrom k o (kindAt (k .objects) o) w)
-  receive-stays o w = by-kind (kindAt (k .objects) o) (λ x. Stays k (receivedFrom k o x w)) stays stays (λ q e. received-stays o q w e) (λ s h e. stays)
+  receive-stays o w = by-kind (kindAt (k .objects) o) (λ x. Stays k (receivedFrom k o x w)) stays stays (λ q e. received-stays o q w e) (λ s h e. stays) (λ b e. stays)
 
   -- a mutex stays a mutex
   mutex-stays : (o : ObjSlot) {s : Sort} {h : Holder} (j : State) (m : Sort) (i : Holder) → kindAt (k .objects) o ≡ Mutex s h → Stays k j → Stays k (withObject j o (Mutex m i))
   mutex-stays o j m i e t = onward t (object-stays j o (Mutex m i) (sym (t .objects o ∙ ap standsAs e)))
 
   pub take-stays : (o : ObjSlot) (w : ℕ) → Stays k (taken k o w)
-  take-stays o w = by-take k o (Stays k) w (λ m. stays) (λ s e. mutex-stays o k _ _ e stays) (λ s e. mutex-stays o k _ _ e stays) (λ s h e d. wait-stays k o w caller-there)
+  take-stays o w = by-take k o (Stays k) w (λ m. stays) (λ s e. mutex-stays o k _ _ e stays) (λ s e. mutex-stays o k _ _ e stays) (λ s h e d. wait-stays k o Turn w caller-there)
 
   pub give-stays : (o : ObjSlot) → Stays k (given k o)
   give-stays o =
       by-give k o (Stays k) (λ m. stays) (λ s h e m. mutex-stays o k _ _ e stays) (λ s h e m q. mutex-stays o k _ _ e stays)
       (λ s h e m t l q. mutex-stays o (arrives k t Ready 1) _ _ e (arrives-stays k t Ready 1 refl (first-there o t l q)))
+
+  -- a group stays a group
+  group-stays : (o : ObjSlot) (b : ℕ) (kind : kindAt (k .objects) o ≡ Group b) (j : State) → Stays k j → (c : ℕ) → Stays k (withObject j o (Group c))
+  group-stays o b kind j s c = onward s (object-stays j o (Group c) (sym (s .objects o ∙ ap standsAs kind)))
+
+  woken-there : (o : ObjSlot) (b : ℕ) (j : State) (t : TaskSlot) → first j (SatisfiedOn o b) ≡ t ∷ [] → isFree (taskAt (j .tasks) t .place) ≡ false
+  woken-there o b j t e = passes-there (satisfiedOn o b) (taskAt (j .tasks) t .place) refl refl (first-meant j (SatisfiedOn o b) t e)
+
+  pub set-stays : (o : ObjSlot) (m : ℕ) → Stays k (setOn k o (kindAt (k .objects) o) m)
+  set-stays o m =
+      by-set k o (Stays k) (λ e. stays) m
+      (λ b e. by-bits o (bitOr b m) (Stays k) (λ j t s f. onward s (arrives-stays j t Ready 1 refl (woken-there o (bitOr b m) j t f))) (λ j c s. group-stays o b e j s c) k stays)
+
+  pub clear-stays : (o : ObjSlot) (m : ℕ) → Stays k (clearedOn k o (kindAt (k .objects) o) m)
+  clear-stays o m = by-clear k o (Stays k) (λ e. stays) m (λ b e. group-stays o b e k stays _)
+
+  pub await-stays : (o : ObjSlot) (x : Want) (w : ℕ) → Stays k (awaitedOn k o (kindAt (k .objects) o) x w)
+  await-stays o x w = by-await k o (Stays k) (λ e. stays) x w (λ b e q. group-stays o b e k stays _) (λ b e q. wait-stays k o x w caller-there)
 
 -- ── every call
 -- the calls that take a slot or give one up
@@ -280,6 +305,10 @@ changesSlots (Give o) = false
 changesSlots Tick = false
 changesSlots (Advance n) = false
 changesSlots MakeRecursive = true
+changesSlots MakeGroup = true
+changesSlots (SetBits o m) = false
+changesSlots (ClearBits o m) = false
+changesSlots (Await o m a c w) = false
 
 pub effect-stays : (k : State) → Sound k → (n : ℕ) (c : Call) → changesSlots c ≡ false → Passed k (asked (k .uses) c) n → Stays k (effect k (asked (k .uses) c))
 unfolding effect asked namesNone resumed newPriority held
@@ -302,6 +331,10 @@ effect-stays k S n (Give o) x P = give-stays k S (objSlot (k .uses) o)
 effect-stays k S n Tick x P = ticked-stays k
 effect-stays k S n (Advance d) x P = advanced-stays k d
 effect-stays k S n MakeRecursive x P = absurd (false≢true (sym x))
+effect-stays k S n MakeGroup x P = absurd (false≢true (sym x))
+effect-stays k S n (SetBits o m) x P = set-stays k S (objSlot (k .uses) o) m
+effect-stays k S n (ClearBits o m) x P = clear-stays k S (objSlot (k .uses) o) m
+effect-stays k S n (Await o m a c w) x P = await-stays k S (objSlot (k .uses) o) _ w
 
 -- the effective priorities worked out, too
 pub after-stays : (k : State) → Sound k → (n : ℕ) (c : Call) → changesSlots c ≡ false → Passed k (asked (k .uses) c) n → Stays k (after k (asked (k .uses) c))

@@ -13,7 +13,7 @@ use Rattle.calls.specs.Behind.{nothing, onTask}
 use Rattle.order.proofs.Passing.{one-number}
 use Rattle.slots.specs.Places.{isFree, takesTask, isSuspended, isBlocked, isListed}
 use Rattle.slots.specs.Values.{freeTask, spentTask, readyAt, owned, brokenOff, inLine, taskAt}
-use Rattle.rules.specs.Types.{TaskSlot, ObjSlot, Wake, Free, Ready, Delayed, Waiting, Spent, Task, State}
+use Rattle.rules.specs.Types.{TaskSlot, ObjSlot, Wake, Free, Ready, Delayed, Waiting, Spent, Task, State, Wait}
 use Rattle.rules.specs.Tables.{holds, freeSlot, withTask}
 use Rattle.rules.specs.Lines.{level, toTail, leaves}
 use Rattle.rules.specs.Sentences.{Holds, HoldsNothing, AsIdle, TaskFits, Sound}
@@ -117,7 +117,7 @@ module _ (k : State) (S : Sound k) (store : ℕ) where
         go true = a
         go false = b
 
-    nobody-fits : (x : Task) → x .outcome ≡ 0 → ((o : ObjSlot) (v : Wake) → x .place ≡ Waiting o v → ⊥) → (x .place ≡ Free → x ≡ freeTask) → (x .place ≡ Spent → x ≡ spentTask)
+    nobody-fits : (x : Task) → x .outcome ≡ 0 → ((y : Wait) (v : Wake) → x .place ≡ Waiting y v → ⊥) → (x .place ≡ Free → x ≡ freeTask) → (x .place ≡ Spent → x ≡ spentTask)
         → TaskFits (k .objects) t x
     nobody-fits x n w f s =
         record { waits = λ o v e. absurd (w o v e); outcome-range = omega (arith, n); delay-outcome = λ v e. n; wait-outcome = λ o v e. n; free = f; spent = s }

@@ -21,7 +21,7 @@ use Rattle.order.proofs.Passing.{one-number}
 use Rattle.slots.specs.Places.{isFree, isBlocked, wakesAt, outcomeDue}
 use Rattle.slots.specs.Values.{taskAt, placed}
 use Rattle.slots.specs.SoundSlots.{wakesInRange, notDue}
-use Rattle.rules.specs.Types.{TaskSlot, Place, Free, Ready, Delayed, Waiting, Suspended, Spent, Task, State, ObjSlot, Wake}
+use Rattle.rules.specs.Types.{TaskSlot, Place, Free, Ready, Delayed, Waiting, Suspended, Spent, Task, State, ObjSlot, Wake, Wait}
 use Rattle.rules.specs.Tables.{withTick, withHold, withUses}
 use Rattle.rules.specs.Lines.{begun, level, toTail}
 use Rattle.rules.specs.Sound.{noHigher}
@@ -219,7 +219,7 @@ tick-lowers k l R t h =
     let c : getD (ruled (j .tasks) (j .objects)) (t .0) 0 ≡ getD (ruled (j .tasks) (k .objects)) (t .0) 0 = ap (λ os. getD (ruled (j .tasks) os) (t .0) 0) (W .objects) in
     omega (arith, a, b, c, R t h)
   where
-    old : (v : TaskSlot) (o : ObjSlot) (w : Wake) → (taskAt (countedOn k .tasks) v .place ≡ taskAt (k .tasks) v .place) ⊎ (taskAt (countedOn k .tasks) v .place ≡ Ready)
+    old : (v : TaskSlot) (o : Wait) (w : Wake) → (taskAt (countedOn k .tasks) v .place ≡ taskAt (k .tasks) v .place) ⊎ (taskAt (countedOn k .tasks) v .place ≡ Ready)
         → taskAt (countedOn k .tasks) v .place ≡ Waiting o w → taskAt (k .tasks) v .place ≡ Waiting o w
     old v o w (inl f) e = sym f ∙ e
     old v o w (inr f) e = absurd (let q : Ready ≡ Waiting o w = sym f ∙ e in let z : _≡_ {A = ℕ} 0 1 = cc in omega arith)

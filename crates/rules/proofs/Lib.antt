@@ -30,6 +30,8 @@ pub mod TickJumps
 pub mod KeepTicks
 pub mod KeepObjects
 pub mod KeepMutexes
+pub mod EventCases
+pub mod KeepEvents
 pub mod KeepQueues
 pub mod KeepUses
 pub mod KeepTaken
@@ -38,6 +40,7 @@ pub mod KeepCircles
 pub mod Begun
 pub mod BegunCalls
 pub mod BegunPairs
+pub mod BegunSets
 pub mod BegunEnds
 pub mod TickSleeps
 pub mod KeepEvery

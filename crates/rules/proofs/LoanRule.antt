@@ -12,7 +12,7 @@ use Rattle.chains.specs.Chains.{Along, here, link}
 use Rattle.chains.proofs.Lending.{level-least, level-one, levels-sixteen, levels-same}
 use Rattle.slots.specs.Kinds.{kindAt, hands, byWhom, holderOf}
 use Rattle.slots.specs.Values.{taskAt}
-use Rattle.rules.specs.Types.{TaskSlot, ObjSlot, Wake, Place, Free, Ready, Delayed, Waiting, Suspended, Spent, Task, Holder, Nobody, By, Object}
+use Rattle.rules.specs.Types.{TaskSlot, ObjSlot, Wake, Place, Free, Ready, Delayed, Waiting, Suspended, Spent, Task, Holder, Nobody, By, Object, Wait}
 use Rattle.rules.specs.Lines.{level}
 use Rattle.rules.specs.Loans.{forWhom, waitsFor, ruled, Reckoned}
 use Rattle.rules.specs.Sentences.{Holds, HoldsNothing, Reaches, itself, along, LargestOwn, Levels}
@@ -27,19 +27,19 @@ module _ (ts : List Task) (os : List Object) where
 
   -- ── one link
   -- who waits on a held mutex waits for its holder
-  pub waits-for-holder : (s h : TaskSlot) (o : ObjSlot) (w : Wake) → taskAt ts s .place ≡ Waiting o w → Holds os h o → waitsFor ts os s ≡ h
+  pub waits-for-holder : (s h : TaskSlot) (y : Wait) (w : Wake) → taskAt ts s .place ≡ Waiting y w → Holds os h (y .object) → waitsFor ts os s ≡ h
   waits-for-holder s h o w p q = rw (p, q)
 
   -- and everyone else for nobody
-  by-kind-waited : (s : TaskSlot) (o : ObjSlot) (w : Wake) (P : Type 0) → taskAt ts s .place ≡ Waiting o w → (holderOf (kindAt os o) ≡ task 16 → P)
-      → ((h : TaskSlot) → Holds os h o → P) → P
-  by-kind-waited s o w P e none some = go (hands (kindAt os o)) refl
+  by-kind-waited : (s : TaskSlot) (y : Wait) (w : Wake) (P : Type 0) → taskAt ts s .place ≡ Waiting y w → (holderOf (kindAt os (y .object)) ≡ task 16 → P)
+      → ((h : TaskSlot) → Holds os h (y .object) → P) → P
+  by-kind-waited s y w P e none some = go (hands (kindAt os (y .object))) refl
     where
-      go : (x : Holder) → hands (kindAt os o) ≡ x → P
+      go : (x : Holder) → hands (kindAt os (y .object)) ≡ x → P
       go Nobody q = none (ap byWhom q)
       go (By h) q = some h q
 
-  pub by-link : (s : TaskSlot) (P : Type 0) → (waitsFor ts os s ≡ task 16 → P) → ((o : ObjSlot) (w : Wake) (h : TaskSlot) → taskAt ts s .place ≡ Waiting o w → Holds os h o → P) → P
+  pub by-link : (s : TaskSlot) (P : Type 0) → (waitsFor ts os s ≡ task 16 → P) → ((y : Wait) (w : Wake) (h : TaskSlot) → taskAt ts s .place ≡ Waiting y w → Holds os h (y .object) → P) → P
   by-link s P none some = go (taskAt ts s .place) refl
     where
       go : (p : Place) → taskAt ts s .place ≡ p → P
@@ -53,7 +53,7 @@ module _ (ts : List Task) (os : List Object) where
   -- ── a task that holds nothing is reached by itself alone
   pub reached-alone : {s t : TaskSlot} → HoldsNothing os t → Reaches ts os s t → s ≡ t
   reached-alone f itself = refl
-  reached-alone {s} {t} f (along {h = h} o w p q r) = let e : h ≡ t = reached-alone f r in absurd (f o (q ∙ ap By e))
+  reached-alone {s} {t} f (along {h = h} y w p q r) = let e : h ≡ t = reached-alone f r in absurd (f (y .object) (q ∙ ap By e))
 
   module _ (full : length ts ≡ 16) where
     pub links-past : (s : ℕ) → 16 ≤ s → 16 ≤ nextOf s
@@ -116,7 +116,7 @@ unfolding ruled
 ruled-same ts us os ps e f = levels-same (ownOf ts os) (ownOf us ps) (nextOf ts os) (nextOf us ps) (λ s l. e (task s) l) (λ s l. ap (λ (v : TaskSlot). v .0) (f (task s) l))
 
 -- where no wait is new, nobody gets more
-module _ (ts us : List Task) (os : List Object) (old : (t : TaskSlot) (o : ObjSlot) (w : Wake) → taskAt us t .place ≡ Waiting o w → taskAt ts t .place ≡ Waiting o w) where
+module _ (ts us : List Task) (os : List Object) (old : (t : TaskSlot) (y : Wait) (w : Wake) → taskAt us t .place ≡ Waiting y w → taskAt ts t .place ≡ Waiting y w) where
   pub fewer-reach : {s t : TaskSlot} → Reaches us os s t → Reaches ts os s t
   fewer-reach itself = itself
   fewer-reach {s} (along o w p q r) = along o w (old s o w p) q (fewer-reach r)

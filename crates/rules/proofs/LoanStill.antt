@@ -6,13 +6,15 @@ use mathlib.Core.Bool.{Bool, true, false, false≢true, _&&_}
 use mathlib.Core.List.{List, [], _∷_}
 use lib.Dec.{eqb, ltb}
 use lib.ListN.{getD, set, length, length-set}
+use lib.Bits.{bitOr}
 use borrow.Author.Tests.{eqb-true, eqb-false}
 use Rattle.lists.specs.Choice.{if_then_else_}
-use Rattle.numbers.specs.Numbers.{task, object}
+use Rattle.numbers.specs.Numbers.{task, object, sameObject}
 use Rattle.slots.specs.Places.{waitsOn, isWaiting, isSuspended, isFree, wakesAt, outcomeDue}
 use Rattle.slots.specs.Kinds.{kindAt, isTaken, hands, byWhom, holderOf, isHeld}
+use Rattle.slots.specs.Wants.{waitOn, satisfiedOn}
 use Rattle.slots.specs.Values.{placed, taskAt, readyAt}
-use Rattle.rules.specs.Types.{Call, Create, Delete, Suspend, Resume, SetPriority, Delay, Yield, Hold, Release, MakeQueue, MakeMutex, Remove, Send, Receive, Take, Give, Tick, Advance, MakeRecursive}
+use Rattle.rules.specs.Types.{Call, Create, Delete, Suspend, Resume, SetPriority, Delay, Yield, Hold, Release, MakeQueue, MakeMutex, Remove, Send, Receive, Take, Give, Tick, Advance, MakeRecursive, MakeGroup, SetBits, ClearBits, Await, Want, Wait, Turn, Group, SatisfiedOn}
 use Rattle.rules.specs.Types.{TaskSlot, ObjSlot, Place, Free, Ready, Delayed, Waiting, Suspended, Spent, Task, Ring, Kind, Queue, Object, WaitersOf, State, Holder, Nobody, By, Wake, Unused, SpentObject}
 use Rattle.rules.specs.Tables.{withObject, withHold, freeSlot, freeObject}
 use Rattle.rules.specs.Lines.{level, first, toTail}
@@ -41,8 +43,10 @@ use Rattle.rules.proofs.KeepTasks.{is-free, has-slot}
 use Rattle.rows.specs.Applies.{noneFree, notSuspended}
 use native.Mathlib.Omega.{arith}
 use Rattle.rules.specs.Refusals.{inUse, heldOrWaited}
-use Rattle.lists.proofs.Bools.{on, or-off}
+use Rattle.rules.specs.Events.{groupMade, bitsSet, setOn, clearedOn, awaitedOn}
+use Rattle.lists.proofs.Bools.{on, or-off, and-left}
 use Rattle.rules.proofs.KeepObjects.{free-kind, free-low}
+use Rattle.rules.proofs.EventCases.{by-bits, by-set, by-clear, by-await}
 
 -- ── the rule looks at owns and at whom each waits for
 -- the same of both, and the same effective priorities
@@ -73,7 +77,7 @@ module _ (k : State) (R : Reckoned (k .tasks) (k .objects)) where
       waits Free = refl
       waits Ready = refl
       waits (Delayed w) = refl
-      waits (Waiting q w) = same q
+      waits (Waiting y w) = same (y .object)
       waits Suspended = refl
       waits Spent = refl
 
@@ -114,12 +118,21 @@ for-nobody : (os : List Object) (o : ObjSlot) (p : Place) → waitsOn o p ≡ tr
 for-nobody os o Free e h = refl
 for-nobody os o Ready e h = refl
 for-nobody os o (Delayed w) e h = refl
-for-nobody os o (Waiting q w) e h = ap (λ v. holderOf (kindAt os v)) (one-object q o (eqb-true (q .0) (o .0) e)) ∙ h
+for-nobody os o (Waiting y w) e h = ap (λ v. holderOf (kindAt os v)) (one-object (y .object) o (eqb-true (y .object .0) (o .0) e)) ∙ h
   where
     one-object : (x y : ObjSlot) → x .0 ≡ y .0 → x ≡ y
     one-object x y z = λ i. record { 0 = z i }
 for-nobody os o Suspended e h = refl
 for-nobody os o Spent e h = refl
+
+-- whom the bits satisfy waits
+pub met-waits : (o : ObjSlot) (b : ℕ) (p : Place) → satisfiedOn o b p ≡ true → waitsOn o p ≡ true
+met-waits o b Free e = absurd (false≢true e)
+met-waits o b Ready e = absurd (false≢true e)
+met-waits o b (Delayed w) e = absurd (false≢true e)
+met-waits o b (Waiting y w) e = and-left (sameObject (y .object) o) _ e
+met-waits o b Suspended e = absurd (false≢true e)
+met-waits o b Spent e = absurd (false≢true e)
 
 module _ (k : State) (S : Sound k) where
   abbrev R : Reckoned (k .tasks) (k .objects)
@@ -149,9 +162,9 @@ module _ (k : State) (S : Sound k) where
     waiter-woken : (t : TaskSlot) (l : List TaskSlot) → first k (WaitersOf o) ≡ t ∷ l → waitsFor (k .tasks) (k .objects) t ≡ task 16
     waiter-woken t l e = for-nobody (k .objects) o (taskAt (k .tasks) t .place) (first-meant k (WaitersOf o) t (first-single k (WaitersOf o) t l e)) no-holder
 
-    caller-waits : Reckoned (waitFor k o w .tasks) (waitFor k o w .objects)
+    caller-waits : Reckoned (waitFor k o Turn w .tasks) (waitFor k o Turn w .objects)
     unfolding waitFor
-    caller-waits = placed-reckoned k R (k .running) (Waiting o (wakeOf (k .tick) w)) 0 (no-holder ∙ sym caller-for-nobody)
+    caller-waits = placed-reckoned k R (k .running) (Waiting (waitOn o Turn) (wakeOf (k .tick) w)) 0 (no-holder ∙ sym caller-for-nobody)
 
     queue-reckoned : (r : Ring) → Reckoned (k .tasks) (kinds (k .objects) o (Queue r))
     queue-reckoned r = object-reckoned k R o (Queue r) (sym no-holder)
@@ -165,7 +178,7 @@ module _ (k : State) (S : Sound k) where
     unfolding received
     received-reckoned = go (eqb (q .count) 0) (first k (WaitersOf o)) refl
       where
-        go : (b : Bool) (l : List TaskSlot) → first k (WaitersOf o) ≡ l → let j = if b then waitFor k o w else refilledBy k o (oneLess q) l in Reckoned (j .tasks) (j .objects)
+        go : (b : Bool) (l : List TaskSlot) → first k (WaitersOf o) ≡ l → let j = if b then waitFor k o Turn w else refilledBy k o (oneLess q) l in Reckoned (j .tasks) (j .objects)
         go true l e = caller-waits
         go false [] e = queue-reckoned (oneLess q)
         go false (t ∷ l) e =
@@ -177,15 +190,54 @@ module _ (k : State) (S : Sound k) where
             waits-still Ready z = refl
             waits-still (Delayed v) z = refl
             waits-still (Waiting x v) z =
-                each-kind (k .objects) o (Queue (oneMore (oneLess q))) (λ y c. holderOf (kindAt (k .objects) y) ≡ task 16 → holderOf c ≡ task 16) (λ h. refl) (λ y h. h) x z
+                each-kind (k .objects) o (Queue (oneMore (oneLess q))) (λ y c. holderOf (kindAt (k .objects) y) ≡ task 16 → holderOf c ≡ task 16) (λ h. refl) (λ y h. h) (x .object) z
             waits-still Suspended z = refl
             waits-still Spent z = refl
 
   pub send-reckoned : (o : ObjSlot) (w : ℕ) → let j = sentTo k o (kindAt (k .objects) o) w in Reckoned (j .tasks) (j .objects)
-  send-reckoned o w = by-kind (kindAt (k .objects) o) (λ x. Reckoned (sentTo k o x w .tasks) (sentTo k o x w .objects)) R R (λ q e. sent-reckoned o q w e) (λ s h e. R)
+  send-reckoned o w = by-kind (kindAt (k .objects) o) (λ x. Reckoned (sentTo k o x w .tasks) (sentTo k o x w .objects)) R R (λ q e. sent-reckoned o q w e) (λ s h e. R) (λ b e. R)
 
   pub receive-reckoned : (o : ObjSlot) (w : ℕ) → let j = receivedFrom k o (kindAt (k .objects) o) w in Reckoned (j .tasks) (j .objects)
-  receive-reckoned o w = by-kind (kindAt (k .objects) o) (λ x. Reckoned (receivedFrom k o x w .tasks) (receivedFrom k o x w .objects)) R R (λ q e. received-reckoned o q w e) (λ s h e. R)
+  receive-reckoned o w = by-kind (kindAt (k .objects) o) (λ x. Reckoned (receivedFrom k o x w .tasks) (receivedFrom k o x w .objects)) R R (λ q e. received-reckoned o q w e) (λ s h e. R) (λ b e. R)
+
+  -- ── 21 to 23: set, clear and wait. A group has no holder
+  module _ (o : ObjSlot) (b : ℕ) (kind : kindAt (k .objects) o ≡ Group b) where
+    -- on the way, the group has none either
+    pub record Unlent (j : State) : Type 0 where
+      pub reckoned : Reckoned (j .tasks) (j .objects)
+      pub no-one : holderOf (kindAt (j .objects) o) ≡ task 16
+
+    unlent : Unlent k
+    unlent = record { reckoned = R; no-one = ap holderOf kind }
+
+    bits-reckoned : (j : State) (c : ℕ) → Unlent j → Unlent (withObject j o (Group c))
+    bits-reckoned j c U =
+        record {
+          reckoned = object-reckoned j (U .reckoned) o (Group c) (sym (U .no-one));
+          no-one = each-kind (j .objects) o (Group c) (λ p x. (p .0 ≡ o .0 → holderOf (kindAt (j .objects) p) ≡ task 16) → p .0 ≡ o .0 → holderOf x ≡ task 16) (λ f e. refl) (λ p f e. f e) o (λ e. U .no-one) refl;
+        }
+
+    set-unlent : (m : ℕ) → Unlent (bitsSet k o m)
+    unfolding arrives toTail
+    set-unlent m =
+        by-bits o m Unlent
+        (λ j t U e. record {
+          reckoned = placed-reckoned j (U .reckoned) t Ready 1 (sym (for-nobody (j .objects) o (taskAt (j .tasks) t .place) (met-waits o m (taskAt (j .tasks) t .place) (first-meant j (SatisfiedOn o m) t e)) (U .no-one)));
+          no-one = U .no-one;
+        }) bits-reckoned k unlent
+
+    await-reckoned : (x : Want) (w : ℕ) → Reckoned (waitFor k o x w .tasks) (waitFor k o x w .objects)
+    unfolding waitFor
+    await-reckoned x w = placed-reckoned k R (k .running) (Waiting (waitOn o x) (wakeOf (k .tick) w)) 0 (ap holderOf kind ∙ sym caller-for-nobody)
+
+  pub events-reckoned : (o : ObjSlot) (m : ℕ) → let j = setOn k o (kindAt (k .objects) o) m in Reckoned (j .tasks) (j .objects)
+  events-reckoned o m = by-set k o (λ j. Reckoned (j .tasks) (j .objects)) (λ e. R) m (λ b e. set-unlent o b e (bitOr b m) .reckoned)
+
+  pub clear-reckoned : (o : ObjSlot) (m : ℕ) → let j = clearedOn k o (kindAt (k .objects) o) m in Reckoned (j .tasks) (j .objects)
+  clear-reckoned o m = by-clear k o (λ j. Reckoned (j .tasks) (j .objects)) (λ e. R) m (λ b e. bits-reckoned o b e k _ (unlent o b e) .reckoned)
+
+  pub awaited-reckoned : (o : ObjSlot) (x : Want) (w : ℕ) → let j = awaitedOn k o (kindAt (k .objects) o) x w in Reckoned (j .tasks) (j .objects)
+  awaited-reckoned o x w = by-await k o (λ j. Reckoned (j .tasks) (j .objects)) (λ e. R) x w (λ b e q. bits-reckoned o b e k _ (unlent o b e) .reckoned) (λ b e q. await-reckoned o b e x w)
 
   -- ── 9: release; 17: tick; 18: advance. They end with the effective priorities worked out
   pub ticked-reckoned : Reckoned (ticked k .tasks) (ticked k .objects)
@@ -247,10 +299,10 @@ module _ (k : State) (S : Sound k) where
     others v d = at-other (k .tasks) t (readyAt p) v d
 
     -- neither the free slot nor the new task waits
-    no-wait : (q : Place) (o : ObjSlot) (w : Wake) → isFree q ≡ true → q ≡ Waiting o w → ⊥
+    no-wait : (q : Place) (y : Wait) (w : Wake) → isFree q ≡ true → q ≡ Waiting y w → ⊥
     no-wait q o w e f = false≢true (ap isFree (sym f) ∙ e)
 
-    waits-as-before : (v : TaskSlot) (o : ObjSlot) (w : Wake) → taskAt us v .place ≡ Waiting o w → taskAt (k .tasks) v .place ≡ Waiting o w
+    waits-as-before : (v : TaskSlot) (o : Wait) (w : Wake) → taskAt us v .place ≡ Waiting o w → taskAt (k .tasks) v .place ≡ Waiting o w
     waits-as-before v o w e = go (eqb (v .0) (t .0)) refl
       where
         go : (b : Bool) → eqb (v .0) (t .0) ≡ b → taskAt (k .tasks) v .place ≡ Waiting o w
@@ -259,7 +311,7 @@ module _ (k : State) (S : Sound k) where
             absurd (let y : _≡_ {A = ℕ} 0 1 = cc in omega arith)
         go false q = ap (λ (x : Task). x .place) (sym (others v (eqb-false (v .0) (t .0) q))) ∙ e
 
-    waits-then : (v : TaskSlot) (o : ObjSlot) (w : Wake) → taskAt (k .tasks) v .place ≡ Waiting o w → taskAt us v .place ≡ Waiting o w
+    waits-then : (v : TaskSlot) (o : Wait) (w : Wake) → taskAt (k .tasks) v .place ≡ Waiting o w → taskAt us v .place ≡ Waiting o w
     waits-then v o w e = go (eqb (v .0) (t .0)) refl
       where
         go : (b : Bool) → eqb (v .0) (t .0) ≡ b → taskAt us v .place ≡ Waiting o w
@@ -312,7 +364,7 @@ module _ (k : State) (S : Sound k) where
 -- the calls that may change an own priority, a holder or a wait on a mutex: delete, suspend, set priority, take and give
 pub settles : (k : State) → Sound k → (n : ℕ) (c : Call) → Passed k (asked (k .uses) c) n → mayLend (asked (k .uses) c) ≡ false
     → Reckoned (effect k (asked (k .uses) c) .tasks) (effect k (asked (k .uses) c) .objects)
-unfolding effect asked mayLend held queueMade mutexMade removed noneFree notSuspended inUse heldOrWaited
+unfolding effect asked mayLend held queueMade mutexMade groupMade removed noneFree notSuspended inUse heldOrWaited
 settles k S n (Create p) P e = create-reckoned k S n p P
 settles k S n (Delete t) P e = absurd (false≢true (sym e))
 settles k S n (Suspend t) P e = absurd (false≢true (sym e))
@@ -336,3 +388,7 @@ settles k S n (Give o) P e = absurd (false≢true (sym e))
 settles k S n Tick P e = ticked-reckoned k S
 settles k S n (Advance d) P e = advanced-reckoned k S d
 settles k S n MakeRecursive P e = made-reckoned k S (object (freeObject (k .objects))) _ refl (ap isHeld (free-kind k S n (free-low k S n (P .slot))))
+settles k S n MakeGroup P e = made-reckoned k S (object (freeObject (k .objects))) _ refl (ap isHeld (free-kind k S n (free-low k S n (P .slot))))
+settles k S n (SetBits o m) P e = events-reckoned k S (objSlot (k .uses) o) m
+settles k S n (ClearBits o m) P e = clear-reckoned k S (objSlot (k .uses) o) m
+settles k S n (Await o m a c w) P e = awaited-reckoned k S (objSlot (k .uses) o) _ w

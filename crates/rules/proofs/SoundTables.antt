@@ -1,5 +1,5 @@
 -- Of the tables the test is true exactly if every sentence holds.
-use Prim.Native.Nat.{ℕ, _*_}
+use Prim.Native.Nat.{ℕ, _*_, _≤_}
 use mathlib.Core.Path.{_≡_, refl, sym, ap, _∙_, subst}
 use mathlib.Core.Bool.{Bool, true, false, not, _&&_, _||_, false≢true}
 use mathlib.Core.List.{List}
@@ -12,11 +12,12 @@ use Rattle.numbers.specs.Numbers.{task, object, idle, sameTask}
 use Rattle.slots.specs.Places.{isFree, isReady, isBlocked}
 use Rattle.slots.specs.Values.{taskAt}
 use Rattle.slots.specs.Kinds.{isUnused, hands, kindAt}
-use Rattle.slots.specs.SoundSlots.{idleFine, mayWait, waitsFine, holderThere, ringFine, kindInRange, outcomeFine, freshIfFree}
-use Rattle.rules.specs.Types.{TaskSlot, ObjSlot, Place, Free, Ready, Delayed, Waiting, Suspended, Spent, Task, Ring, Holder, Nobody, By, Ordinary, Recursive, Kind, Unused, SpentObject, Queue, Mutex, Object}
+use Rattle.slots.specs.Wants.{allBits, holdsOf, acceptedMask}
+use Rattle.slots.specs.SoundSlots.{idleFine, awaitsTurn, awaitsBits, mayWait, waitsFine, holderThere, ringFine, kindInRange, outcomeFine, freshIfFree}
+use Rattle.rules.specs.Types.{TaskSlot, ObjSlot, Want, Turn, Bits, Place, Free, Ready, Delayed, Waiting, Suspended, Spent, Task, Ring, Holder, Nobody, By, Ordinary, Recursive, Kind, Unused, SpentObject, Queue, Mutex, Group, Object}
 use Rattle.rules.specs.Tables.{holds}
 use Rattle.rules.specs.Sound.{slotTask, sixteen, waitersFine, holdersThere, kindsInRange, outcomesFine, freshSlots, tablesFine}
-use Rattle.rules.specs.Sentences.{MayWait, receiver, sender, taker, RingFits, KindFits, vacant, a-queue, an-ordinary, free-recursive, held-recursive, TaskFits, Tables}
+use Rattle.rules.specs.Sentences.{MayWait, receiver, sender, taker, awaiter, RingFits, KindFits, vacant, a-queue, a-group, an-ordinary, free-recursive, held-recursive, TaskFits, Tables}
 use Rattle.rules.proofs.TableSlots.{any-task, any-kind, is-ready}
 use Rattle.rules.proofs.TableHolds.{none-holds, not-held}
 
@@ -52,18 +53,34 @@ tested-tables ts os T =
     (also _ _ (T .holders) (also _ _ (T .ranges) (also _ _ (T .outcomes) (also _ _ (T .fresh) none)))))))
 
 -- ── tests and propositions on one value
-may-wait : (t : TaskSlot) (x : Kind) → mayWait t x ≡ true → MayWait t x
-may-wait t Unused e = absurd (false≢true e)
-may-wait t SpentObject e = absurd (false≢true e)
-may-wait t (Queue q) e = go (eqb (q .count) 0) refl e
+may-turn : (t : TaskSlot) (x : Kind) → awaitsTurn t x ≡ true → MayWait t Turn x
+may-turn t Unused e = absurd (false≢true e)
+may-turn t SpentObject e = absurd (false≢true e)
+may-turn t (Queue q) e = go (eqb (q .count) 0) refl e
   where
-    go : (b : Bool) → eqb (q .count) 0 ≡ b → b || eqb (q .count) (q .capacity) ≡ true → MayWait t (Queue q)
+    go : (b : Bool) → eqb (q .count) 0 ≡ b → b || eqb (q .count) (q .capacity) ≡ true → MayWait t Turn (Queue q)
     go true f g = receiver (eqb-true (q .count) 0 f)
     go false f g = sender (eqb-true (q .count) (q .capacity) g)
-may-wait t (Mutex s Nobody) e = absurd (false≢true e)
-may-wait t (Mutex s (By u)) e = taker (eqb-false (u .0) (t .0) (off (sameTask u t) e))
+may-turn t (Mutex s Nobody) e = absurd (false≢true e)
+may-turn t (Mutex s (By u)) e = taker (eqb-false (u .0) (t .0) (off (sameTask u t) e))
+may-turn t (Group b) e = absurd (false≢true e)
 
-waits-may : {t : TaskSlot} {x : Kind} → MayWait t x → mayWait t x ≡ true
+may-await : (t : TaskSlot) (m : ℕ) (all clear : Bool) (x : Kind) → awaitsBits m all x ≡ true → MayWait t (Bits m all clear) x
+may-await t m all clear Unused e = absurd (false≢true e)
+may-await t m all clear SpentObject e = absurd (false≢true e)
+may-await t m all clear (Queue q) e = absurd (false≢true e)
+may-await t m all clear (Mutex s h) e = absurd (false≢true e)
+may-await t m all clear (Group b) e =
+    let mask = and-left (acceptedMask m) _ e in
+    awaiter (leb-true 1 m (and-left (leb 1 m) _ mask)) (leb-true m allBits (and-right (leb 1 m) _ mask)) (off (holdsOf b m all) (and-right (acceptedMask m) _ e))
+
+may-wait : (t : TaskSlot) (y : Want) (x : Kind) → mayWait t y x ≡ true → MayWait t y x
+may-wait t Turn x e = may-turn t x e
+may-wait t (Bits m all clear) x e = may-await t m all clear x e
+
+waits-may : {t : TaskSlot} {y : Want} {x : Kind} → MayWait t y x → mayWait t y x ≡ true
+waits-may (awaiter {b = b} {m = m} {all = all} l h e) =
+    and-intro (acceptedMask m) _ (and-intro (leb 1 m) _ (le-leb 1 m l) (le-leb m allBits h)) (not-off (holdsOf b m all) e)
 waits-may (receiver {q = q} e) = or-left (eqb (q .count) 0) (eqb (q .count) (q .capacity)) (eq-eqb (q .count) 0 e)
 waits-may (sender {q = q} e) = or-right (eqb (q .count) 0) (eqb (q .count) (q .capacity)) (eq-eqb (q .count) (q .capacity) e)
 waits-may {t} (taker {u = u} n) = not-off (sameTask u t) (ne-eqb (u .0) (t .0) n)
@@ -93,6 +110,7 @@ kind-fits : (x : Kind) → kindInRange x ≡ true → KindFits x
 kind-fits Unused e = vacant refl
 kind-fits SpentObject e = vacant refl
 kind-fits (Queue q) e = a-queue (ring-fits q e)
+kind-fits (Group b) e = a-group (leb-true b allBits e)
 kind-fits (Mutex Ordinary h) e = an-ordinary
 kind-fits (Mutex (Recursive n) Nobody) e = free-recursive (eqb-true n 0 e)
 kind-fits (Mutex (Recursive n) (By t)) e = held-recursive (leb-true 1 n (and-left (leb 1 n) _ e)) (leb-true n 255 (and-right (leb 1 n) _ e))
@@ -105,15 +123,22 @@ fits-kind {x} (vacant e) = go x e
     go SpentObject f = refl
     go (Queue q) f = absurd (false≢true f)
     go (Mutex s h) f = absurd (false≢true f)
+    go (Group b) f = absurd (false≢true f)
 fits-kind (a-queue {q = q} r) = fits-ring q r
+fits-kind (a-group {b = b} h) = le-leb b allBits h
 fits-kind an-ordinary = refl
 fits-kind (free-recursive {n = n} e) = eq-eqb n 0 e
 fits-kind (held-recursive {n = n} a b) = and-intro _ _ (le-leb 1 n a) (le-leb n 255 b)
+
+-- a group's bits
+pub bits-of : (x : Kind) {b : ℕ} → KindFits x → x ≡ Group b → b ≤ allBits
+bits-of x {b} F f = leb-true b allBits (rw f at (fits-kind F))
 
 -- a queue's ring
 pub ring-of : (x : Kind) {q : Ring} → KindFits x → x ≡ Queue q → RingFits q
 ring-of x (vacant e) f = absurd (false≢true (sym (ap isUnused f) ∙ e))
 ring-of (Queue p) {q} (a-queue r) f = let z : p ≡ q = cc in subst RingFits z r
+ring-of x (a-group h) f = absurd (let z : _≡_ {A = ℕ} 0 1 = cc in omega arith)
 ring-of x an-ordinary f = absurd (let z : _≡_ {A = ℕ} 0 1 = cc in omega arith)
 ring-of x (free-recursive e) f = absurd (let z : _≡_ {A = ℕ} 0 1 = cc in omega arith)
 ring-of x (held-recursive a b) f = absurd (let z : _≡_ {A = ℕ} 0 1 = cc in omega arith)
@@ -134,7 +159,7 @@ fresh-is x e p f q =
 task-says : (os : List Object) (t : TaskSlot) (x : Task) → waitsFine t os (x .place) ≡ true → outcomeFine x ≡ true → freshIfFree x ≡ true → TaskFits os t x
 task-says os t x w o f =
     record {
-      waits = λ b v q. may-wait t (kindAt os b) (rw q at w);
+      waits = λ y v q. may-wait t (y .want) (kindAt os (y .object)) (rw q at w);
       outcome-range = leb-true _ _ (and-left (leb (x .outcome) 3) _ o);
       delay-outcome = λ v q. blocked-outcome x o (rw q);
       wait-outcome = λ b v q. blocked-outcome x o (rw q);

@@ -11,7 +11,7 @@ use Rattle.lists.proofs.Bools.{on, untrue}
 use Rattle.numbers.specs.Numbers.{object}
 use Rattle.order.proofs.Passing.{one-number}
 use Rattle.slots.specs.Kinds.{unused, sortOf, isRecursive, isBy, hands, heldBy, recursiveBy, kindAt}
-use Rattle.rules.specs.Types.{TaskSlot, ObjSlot, Holder, Nobody, By, Sort, Kind, Unused, SpentObject, Queue, Mutex, Object}
+use Rattle.rules.specs.Types.{TaskSlot, ObjSlot, Holder, Nobody, By, Sort, Kind, Unused, SpentObject, Queue, Mutex, Object, Group}
 use Rattle.rules.specs.Tables.{holds}
 use Rattle.rules.specs.Sentences.{Holds, HoldsNothing}
 
@@ -25,6 +25,7 @@ held-mutex Unused t e = absurd (let z : _≡_ {A = ℕ} 0 1 = cc in omega arith)
 held-mutex SpentObject t e = absurd (let z : _≡_ {A = ℕ} 0 1 = cc in omega arith)
 held-mutex (Queue q) t e = absurd (let z : _≡_ {A = ℕ} 0 1 = cc in omega arith)
 held-mutex (Mutex s h) t e = (s, ap (Mutex s) e)
+held-mutex (Group b) t e = absurd (let z : _≡_ {A = ℕ} 0 1 = cc in omega arith)
 
 pub some-holds : (os : List Object) (t : TaskSlot) (o : ObjSlot) → Holds os t o → holds os t ≡ true
 unfolding holds kindAt

@@ -1,5 +1,5 @@
 -- A number past a table names a free slot, so what holds of each slot holds of each number.
-use Prim.Native.Nat.{_≤_}
+use Prim.Native.Nat.{ℕ, _≤_}
 use mathlib.Core.Path.{_≡_, refl, sym, ap, _∙_}
 use mathlib.Core.Bool.{Bool, true, false, false≢true}
 use mathlib.Core.List.{List}
@@ -13,7 +13,7 @@ use Rattle.numbers.specs.Numbers.{task, object}
 use Rattle.slots.specs.Places.{isFree, takesTask, isReady, isBlocked}
 use Rattle.slots.specs.Values.{freeTask, taskAt}
 use Rattle.slots.specs.Kinds.{unused, kindAt}
-use Rattle.rules.specs.Types.{TaskSlot, ObjSlot, Place, Free, Ready, Delayed, Waiting, Suspended, Spent, Task, Ring, Holder, Sort, Kind, Object, Unused, SpentObject, Queue, Mutex}
+use Rattle.rules.specs.Types.{TaskSlot, ObjSlot, Place, Free, Ready, Delayed, Waiting, Suspended, Spent, Task, Ring, Holder, Sort, Kind, Object, Unused, SpentObject, Queue, Mutex, Group}
 
 pub past-tasks : (ts : List Task) (t : TaskSlot) → length ts ≤ t .0 → taskAt ts t ≡ freeTask
 unfolding taskAt
@@ -76,8 +76,10 @@ takes-free Suspended e = absurd (false≢true e)
 takes-free Spent e = refl
 
 -- by the kind of an object
-pub by-kind : (x : Kind) (P : Kind → Type 0) → P Unused → P SpentObject → ((q : Ring) → x ≡ Queue q → P (Queue q)) → ((s : Sort) (h : Holder) → x ≡ Mutex s h → P (Mutex s h)) → P x
-by-kind Unused P none spent queue mutex = none
-by-kind SpentObject P none spent queue mutex = spent
-by-kind (Queue q) P none spent queue mutex = queue q refl
-by-kind (Mutex s h) P none spent queue mutex = mutex s h refl
+pub by-kind : (x : Kind) (P : Kind → Type 0) → P Unused → P SpentObject → ((q : Ring) → x ≡ Queue q → P (Queue q)) → ((s : Sort) (h : Holder) → x ≡ Mutex s h → P (Mutex s h))
+    → ((b : ℕ) → x ≡ Group b → P (Group b)) → P x
+by-kind Unused P none spent queue mutex group = none
+by-kind SpentObject P none spent queue mutex group = spent
+by-kind (Queue q) P none spent queue mutex group = queue q refl
+by-kind (Mutex s h) P none spent queue mutex group = mutex s h refl
+by-kind (Group b) P none spent queue mutex group = group b refl

@@ -14,7 +14,7 @@ use Rattle.lists.proofs.Bools.{and-left}
 use Rattle.lists.proofs.Tests.{kept-kept, kept-head}
 use Rattle.order.specs.Order.{listed}
 use Rattle.slots.specs.Leads.{isWho}
-use Rattle.rules.specs.Types.{TaskSlot, ObjSlot, Task, Ring, Unused, Queue, Object, Who, AllReady, WaitersOf, Outlet, toWaiter, toQueue, toCaller, State}
+use Rattle.rules.specs.Types.{TaskSlot, ObjSlot, Task, Ring, Unused, Queue, Object, Who, AllReady, WaitersOf, SatisfiedOn, Outlet, toWaiter, toQueue, toCaller, State}
 use Rattle.slots.specs.Values.{taskAt}
 use Rattle.slots.specs.Kinds.{kindAt}
 use Rattle.rules.specs.Lines.{those, level, highest, leader, first}
@@ -43,6 +43,7 @@ first-meant k w t e =
 no-free : (w : Who) (ts : List Task) (t : TaskSlot) → length ts ≤ t .0 → isWho w (taskAt ts t .place) ≡ true → ⊥
 no-free AllReady ts t h e = false≢true (rw (past-tasks ts t h) at e)
 no-free (WaitersOf o) ts t h e = false≢true (rw (past-tasks ts t h) at e)
+no-free (SatisfiedOn o b) ts t h e = false≢true (rw (past-tasks ts t h) at e)
 
 pub first-within : (k : State) (w : Who) (t : TaskSlot) → first k w ≡ t ∷ [] → t .0 < length (k .tasks)
 first-within k w t e = go (leb (length (k .tasks)) (t .0)) refl

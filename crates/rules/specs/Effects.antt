@@ -7,7 +7,7 @@ use Rattle.lists.specs.Choice.{if_then_else_}
 use Rattle.numbers.specs.Numbers.{task, object, sameTask}
 use Rattle.slots.specs.Places.{isListed}
 use Rattle.slots.specs.Values.{freeTask, spentTask, readyAt, brokenOff, taskAt}
-use Rattle.rules.specs.Types.{TaskSlot, ObjSlot, Ready, Delayed, Nobody, By, Sort, Ordinary, Recursive, Kind, Unused, SpentObject, Queue, Mutex, WaitersOf, Asked, State}
+use Rattle.rules.specs.Types.{TaskSlot, ObjSlot, Turn, Ready, Delayed, Nobody, By, Sort, Ordinary, Recursive, Kind, Unused, SpentObject, Queue, Mutex, Group, WaitersOf, Asked, State}
 use Rattle.slots.specs.Kinds.{countOf, counting, kindAt}
 use Rattle.rules.specs.Tables.{freeSlot, freeObject, withTask, withObject}
 use Rattle.rows.specs.Asking.{is}
@@ -16,6 +16,7 @@ use Rattle.rules.specs.Waits.{later, arrives, waitFor}
 use Rattle.rules.specs.Loans.{newPriority}
 use Rattle.rules.specs.Ticks.{ticked, held, released, advanced}
 use Rattle.rules.specs.Queues.{sentTo, receivedFrom}
+use Rattle.rules.specs.Events.{groupMade, setOn, clearedOn, wantBy, awaitedOn}
 
 -- 1: "lowest free slot; ready"
 unfoldable pub created : State → ℕ → State
@@ -59,8 +60,9 @@ abbrev pub takenFrom : State → ObjSlot → Kind → ℕ → State
 takenFrom k o Unused w = k
 takenFrom k o SpentObject w = k
 takenFrom k o (Queue q) w = k
+takenFrom k o (Group b) w = k
 takenFrom k o (Mutex s Nobody) w = withObject k o (Mutex (counting s 1) (By (k .running)))
-takenFrom k o (Mutex s (By h)) w = if sameTask h (k .running) then withObject k o (Mutex (counting s (countOf s + 1)) (By h)) else waitFor k o w
+takenFrom k o (Mutex s (By h)) w = if sameTask h (k .running) then withObject k o (Mutex (counting s (countOf s + 1)) (By h)) else waitFor k o Turn w
 
 unfoldable pub taken : State → ObjSlot → ℕ → State
 taken k o w = takenFrom k o (kindAt (k .objects) o) w
@@ -75,6 +77,7 @@ abbrev pub givenBack : State → ObjSlot → Kind → State
 givenBack k o Unused = k
 givenBack k o SpentObject = k
 givenBack k o (Queue q) = k
+givenBack k o (Group b) = k
 givenBack k o (Mutex s h) = if ltb 1 (countOf s) then withObject k o (Mutex (counting s (countOf s - 1)) h) else handedTo k o s (first k (WaitersOf o))
 
 unfoldable pub given : State → ObjSlot → State
@@ -102,4 +105,8 @@ effect k a =
     else if is 17 a then ticked k
     else if is 18 a then advanced k (a .ticks)
     else if is 19 a then mutexMade k (Recursive 0)
+    else if is 20 a then groupMade k
+    else if is 21 a then setOn k (a .object) (kindAt (k .objects) (a .object)) (a .bits)
+    else if is 22 a then clearedOn k (a .object) (kindAt (k .objects) (a .object)) (a .bits)
+    else if is 23 a then awaitedOn k (a .object) (kindAt (k .objects) (a .object)) (wantBy a) (a .wait)
     else k

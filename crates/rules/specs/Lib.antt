@@ -13,6 +13,7 @@ pub mod Ticks
 pub mod Parts
 pub mod Rings
 pub mod Queues
+pub mod Events
 pub mod Effects
 pub mod Steps
 pub mod Sessions

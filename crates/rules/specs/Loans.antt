@@ -18,7 +18,7 @@ use Rattle.rules.specs.Lines.{level, toTail, toHead}
 
 -- whom a task in that place waits for: the holder of the mutex that it waits on; a number past the table for nobody
 abbrev pub forWhom : List Object → Place → TaskSlot
-forWhom os p = ofBlocked (task 16) (λ w. task 16) (λ o w. holderOf (kindAt os o)) p
+forWhom os p = ofBlocked (task 16) (λ w. task 16) (λ x w. holderOf (kindAt os (x .object))) p
 
 abbrev pub waitsFor : List Task → List Object → TaskSlot → TaskSlot
 waitsFor ts os t = forWhom os (taskAt ts t .place)

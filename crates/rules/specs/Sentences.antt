@@ -1,7 +1,7 @@
 -- "A kernel value is sound when", as propositions, in the seven parts of Sound.antt: for each task, each object, each line and each list what the sentence says.
 use Prim.Native.Nat.{ℕ, _*_, _<_, _≤_}
 use mathlib.Core.Path.{_≡_}
-use mathlib.Core.Bool.{true, false}
+use mathlib.Core.Bool.{Bool, true, false}
 use mathlib.Core.List.{List, [], _∷_}
 use lib.ListN.{length, getD}
 use Rattle.lists.specs.Choice.{if_then_else_}
@@ -12,8 +12,9 @@ use Rattle.order.specs.Order.{listed}
 use Rattle.order.specs.Tidy.{count}
 use Rattle.slots.specs.Places.{isFree, isBlocked, isListed, waitsOn}
 use Rattle.slots.specs.Values.{freeTask, spentTask, inLine, taskAt}
-use Rattle.rules.specs.Types.{TaskSlot, ObjSlot, Wake, At, Place, Free, Ready, Delayed, Waiting, Spent, Order, Uses, Task, Ring, Holder, Nobody, By, Sort, Ordinary, Recursive, Kind, Queue, Mutex, Object, WaitersOf, State}
+use Rattle.rules.specs.Types.{TaskSlot, ObjSlot, Want, Turn, Bits, Wait, Wake, At, Place, Free, Ready, Delayed, Waiting, Spent, Order, Uses, Task, Ring, Holder, Nobody, By, Sort, Ordinary, Recursive, Kind, Queue, Mutex, Group, Object, WaitersOf, State}
 use Rattle.slots.specs.Kinds.{isUnused, hands, kindAt}
+use Rattle.slots.specs.Wants.{allBits, holdsOf}
 use Rattle.rules.specs.Tables.{withUses}
 use Rattle.rules.specs.Lines.{line, those, begun, level}
 
@@ -29,11 +30,13 @@ HoldsNothing os t = (o : ObjSlot) → Holds os t o → ⊥
 abbrev pub Exists : List Task → TaskSlot → Type 0
 Exists ts t = isFree (taskAt ts t .place) ≡ false
 
--- "receivers wait only on an empty queue, senders only on a full one, takers only on a mutex held by another"
-pub data MayWait (t : TaskSlot) : Kind → Type 0 where
-  receiver : {q : Ring} → q .count ≡ 0 → MayWait t (Queue q)
-  sender : {q : Ring} → q .count ≡ q .capacity → MayWait t (Queue q)
-  taker : {s : Sort} {u : TaskSlot} → (u .0 ≡ t .0 → ⊥) → MayWait t (Mutex s (By u))
+-- "receivers wait only on an empty queue, senders only on a full one, takers only on a mutex held by another", each for its turn; of an event group "Waiters stand only where
+-- unsatisfied, with a mask and flags that the call accepts": the mask is not empty and within the 24 bits
+pub data MayWait (t : TaskSlot) : Want → Kind → Type 0 where
+  receiver : {q : Ring} → q .count ≡ 0 → MayWait t Turn (Queue q)
+  sender : {q : Ring} → q .count ≡ q .capacity → MayWait t Turn (Queue q)
+  taker : {s : Sort} {u : TaskSlot} → (u .0 ≡ t .0 → ⊥) → MayWait t Turn (Mutex s (By u))
+  awaiter : {b m : ℕ} {all clear : Bool} → 1 ≤ m → m ≤ allBits → holdsOf b m all ≡ false → MayWait t (Bits m all clear) (Group b)
 
 -- "A queue has capacity 1 to 64 and item size 0 to 64 bytes, with capacity times size at most 512."
 pub record RingFits (q : Ring) : Type 0 where
@@ -44,10 +47,11 @@ pub record RingFits (q : Ring) : Type 0 where
   pub starts : q .first < q .capacity
   pub counts : q .count ≤ q .capacity
 
--- of an object by itself: "up to 255 times in all" for a held recursive mutex, and a free one has no count
+-- of an object by itself: "up to 255 times in all" for a held recursive mutex, and a free one has no count; the bits of an event group are within the 24
 pub data KindFits : Kind → Type 0 where
   vacant : {x : Kind} → isUnused x ≡ true → KindFits x
   a-queue : {q : Ring} → RingFits q → KindFits (Queue q)
+  a-group : {b : ℕ} → b ≤ allBits → KindFits (Group b)
   an-ordinary : {h : Holder} → KindFits (Mutex Ordinary h)
   free-recursive : {n : ℕ} → n ≡ 0 → KindFits (Mutex (Recursive n) Nobody)
   held-recursive : {n : ℕ} {t : TaskSlot} → 1 ≤ n → n ≤ 255 → KindFits (Mutex (Recursive n) (By t))
@@ -62,11 +66,12 @@ pub record AsIdle (x : Task) : Type 0 where
 -- of the task t, whose slot holds x
 pub record TaskFits (os : List Object) (t : TaskSlot) (x : Task) : Type 0 where
   -- "receivers wait only on an empty queue, senders only on a full one, takers only on a mutex held by another"
-  pub waits : (o : ObjSlot) (w : Wake) → x .place ≡ Waiting o w → MayWait t (kindAt os o)
+  -- and of an event group "only where unsatisfied, with a mask and flags that the call accepts"
+  pub waits : (y : Wait) (w : Wake) → x .place ≡ Waiting y w → MayWait t (y .want) (kindAt os (y .object))
   -- "an outcome is 0 to 3, and 0 if delayed or waiting"
   pub outcome-range : x .outcome ≤ 3
   pub delay-outcome : (w : ℕ) → x .place ≡ Delayed w → x .outcome ≡ 0
-  pub wait-outcome : (o : ObjSlot) (w : Wake) → x .place ≡ Waiting o w → x .outcome ≡ 0
+  pub wait-outcome : (y : Wait) (w : Wake) → x .place ≡ Waiting y w → x .outcome ≡ 0
   -- "free slots carry the fresh values"
   pub free : x .place ≡ Free → x ≡ freeTask
   pub spent : x .place ≡ Spent → x ≡ spentTask
@@ -88,7 +93,7 @@ pub record Tables (ts : List Task) (os : List Object) : Type 0 where
 -- s is t, or waits "directly or along a chain of holders, on a mutex" that t holds: over any number of links
 pub data Reaches (ts : List Task) (os : List Object) : TaskSlot → TaskSlot → Type 0 where
   itself : {t : TaskSlot} → Reaches ts os t t
-  along : {s h t : TaskSlot} (o : ObjSlot) (w : Wake) → taskAt ts s .place ≡ Waiting o w → Holds os h o → Reaches ts os h t → Reaches ts os s t
+  along : {s h t : TaskSlot} (y : Wait) (w : Wake) → taskAt ts s .place ≡ Waiting y w → Holds os h (y .object) → Reaches ts os h t → Reaches ts os s t
 
 -- p is "the largest own priority among itself and all tasks that wait, directly or along a chain of holders, on a mutex it holds"
 pub record LargestOwn (ts : List Task) (os : List Object) (t : TaskSlot) (p : ℕ) : Type 0 where
@@ -129,10 +134,10 @@ pub record Listing (ts : List Task) (o : Order) : Type 0 where
 pub record WakeFits (tick : ℕ) (p : Place) : Type 0 where
   -- "no wake tick of a delayed or waiting task equals the tick count"
   pub delay-ahead : (w : ℕ) → p ≡ Delayed w → w ≡ tick → ⊥
-  pub wait-ahead : (o : ObjSlot) (w : ℕ) → p ≡ Waiting o (At w) → w ≡ tick → ⊥
+  pub wait-ahead : (y : Wait) (w : ℕ) → p ≡ Waiting y (At w) → w ≡ tick → ⊥
   -- "counts and places obey the ranges": those of the wake ticks
   pub delay-range : (w : ℕ) → p ≡ Delayed w → w ≤ 4294967295
-  pub wait-range : (o : ObjSlot) (w : ℕ) → p ≡ Waiting o (At w) → w ≤ 4294967295
+  pub wait-range : (y : Wait) (w : ℕ) → p ≡ Waiting y (At w) → w ≤ 4294967295
 
 pub record Counts (tick hold pended : ℕ) : Type 0 where
   -- "Hold depth 0 to 255. Pended ticks 0 to 65,535. Tick count 0 to 4,294,967,295"
@@ -170,7 +175,7 @@ pub record Used (us : Uses) : Type 0 where
 -- ── the circles
 -- the task s waits on a mutex whose holder is s, or waits, "directly or along a chain of holders, on a mutex" that s holds: over any number of links
 pub data Circle (ts : List Task) (os : List Object) (s : TaskSlot) : Type 0 where
-  back : {h : TaskSlot} (o : ObjSlot) (w : Wake) → taskAt ts s .place ≡ Waiting o w → Holds os h o → Reaches ts os h s → Circle ts os s
+  back : {h : TaskSlot} (y : Wait) (w : Wake) → taskAt ts s .place ≡ Waiting y w → Holds os h (y .object) → Reaches ts os h s → Circle ts os s
 
 -- "no circle can then arise"
 abbrev pub NoCircle : List Task → List Object → Type 0

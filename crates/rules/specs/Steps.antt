@@ -17,16 +17,19 @@ use Rattle.rules.specs.Tables.{withUses}
 use Rattle.rules.specs.Lines.{chosen}
 use Rattle.rules.specs.Loans.{workedOut}
 use Rattle.rules.specs.Queues.{storeSentTo, storeReceivedFrom}
+use Rattle.rules.specs.Events.{wantBy, storeSetOn, storeAwaitedOn}
 use Rattle.rows.specs.Asking.{is, makes}
 use Rattle.rules.specs.Refusals.{newSlot}
 use Rattle.rules.specs.Refusals.{refusal}
 use Rattle.rules.specs.Effects.{effect}
 
--- send and receive change the store; "no other call changes the store"
+-- send and receive change the store, and so do a set that wakes and a wait that need not wait; "no other call changes the store"
 unfoldable pub stored : State → Asked → List ℕ → List ℕ → List ℕ
 stored k a item s =
     if is 13 a then storeSentTo k (a .object) (kindAt (k .objects) (a .object)) item s
     else if is 14 a then storeReceivedFrom k (a .object) (kindAt (k .objects) (a .object)) s
+    else if is 21 a then storeSetOn k (a .object) (kindAt (k .objects) (a .object)) (a .bits) s
+    else if is 23 a then storeAwaitedOn k (kindAt (k .objects) (a .object)) (wantBy a) s
     else s
 
 -- the number of the slot n that a create or make takes, where the slots have these uses

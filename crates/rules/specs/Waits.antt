@@ -3,7 +3,8 @@ use Prim.Native.Nat.{ℕ, _+_, _%_, _^_}
 use lib.Dec.{leb}
 use Rattle.lists.specs.Choice.{if_then_else_}
 use Rattle.slots.specs.Values.{placed, taskAt}
-use Rattle.rules.specs.Types.{TaskSlot, ObjSlot, Wake, Never, At, Place, Waiting, State}
+use Rattle.slots.specs.Wants.{waitOn}
+use Rattle.rules.specs.Types.{TaskSlot, ObjSlot, Want, Wake, Never, At, Place, Waiting, State}
 use Rattle.rules.specs.Tables.{withTask}
 use Rattle.rules.specs.Lines.{toTail}
 
@@ -19,6 +20,6 @@ wakeOf now w = if leb 4294967295 w then Never else At (later now w)
 unfoldable pub arrives : State → TaskSlot → Place → ℕ → State
 arrives k t p n = toTail (withTask k t (placed (taskAt (k .tasks) t) p n)) t
 
--- "the caller waits" on an object
-unfoldable pub waitFor : State → ObjSlot → ℕ → State
-waitFor k o w = arrives k (k .running) (Waiting o (wakeOf (k .tick) w)) 0
+-- "the caller waits" on an object, for its turn or for bits
+unfoldable pub waitFor : State → ObjSlot → Want → ℕ → State
+waitFor k o x w = arrives k (k .running) (Waiting (waitOn o x) (wakeOf (k .tick) w)) 0

@@ -1,4 +1,4 @@
--- "16 object slots, each free, a queue or a mutex."; a mutex is ordinary or recursive
+-- "16 object slots, each free, a queue or a mutex"; a mutex is ordinary or recursive; "FreeRTOS event groups as a third kind of object"
 use Prim.Native.Nat.{ℕ}
 use mathlib.Core.Bool.{Bool, true, false, _&&_}
 use mathlib.Core.List.{List}
@@ -7,7 +7,7 @@ use Rattle.lists.specs.Lists.{foldl}
 use Rattle.numbers.specs.declared.TaskSlot.{TaskSlot}
 use Rattle.numbers.specs.declared.ObjSlot.{ObjSlot}
 use Rattle.numbers.specs.Numbers.{task, sameTask}
-use Rattle.slots.specs.Types.{Holder, Nobody, By, Sort, Ordinary, Recursive, Kind, Unused, SpentObject, Queue, Mutex, Object}
+use Rattle.slots.specs.Types.{Holder, Nobody, By, Sort, Ordinary, Recursive, Kind, Unused, SpentObject, Queue, Mutex, Group, Object}
 
 -- a free slot
 abbrev pub unused : Object
@@ -36,6 +36,7 @@ isUnused Unused = true
 isUnused SpentObject = true
 isUnused (Queue q) = false
 isUnused (Mutex s h) = false
+isUnused (Group b) = false
 
 -- a make may take it: nothing stands in it, and it is not spent
 abbrev pub takesObject : Kind → Bool
@@ -43,18 +44,28 @@ takesObject Unused = true
 takesObject SpentObject = false
 takesObject (Queue q) = false
 takesObject (Mutex s h) = false
+takesObject (Group b) = false
 
 abbrev pub isQueue : Kind → Bool
 isQueue Unused = false
 isQueue SpentObject = false
 isQueue (Queue q) = true
 isQueue (Mutex s h) = false
+isQueue (Group b) = false
 
 abbrev pub isMutex : Kind → Bool
 isMutex Unused = false
 isMutex SpentObject = false
 isMutex (Queue q) = false
 isMutex (Mutex s h) = true
+isMutex (Group b) = false
+
+abbrev pub isGroup : Kind → Bool
+isGroup Unused = false
+isGroup SpentObject = false
+isGroup (Queue q) = false
+isGroup (Mutex s h) = false
+isGroup (Group b) = true
 
 abbrev pub isBy : TaskSlot → Holder → Bool
 isBy t Nobody = false
@@ -70,6 +81,7 @@ hands Unused = Nobody
 hands SpentObject = Nobody
 hands (Queue q) = Nobody
 hands (Mutex s h) = h
+hands (Group b) = Nobody
 
 -- a mutex that t holds; one that someone holds
 abbrev pub heldBy : TaskSlot → Kind → Bool
@@ -84,6 +96,7 @@ sortOf Unused = Ordinary
 sortOf SpentObject = Ordinary
 sortOf (Queue q) = Ordinary
 sortOf (Mutex s h) = s
+sortOf (Group b) = Ordinary
 
 abbrev pub countIn : Kind → ℕ
 countIn x = countOf (sortOf x)

@@ -5,9 +5,10 @@ use mathlib.Core.List.{List}
 use lib.Dec.{eqb, ltb, leb}
 use lib.ListN.{getD}
 use Rattle.numbers.specs.declared.TaskSlot.{TaskSlot}
-use Rattle.slots.specs.Types.{Wake, Never, At, Place, Free, Ready, Delayed, Waiting, Suspended, Spent, Task, Ring, Holder, Nobody, By, Sort, Ordinary, Recursive, Kind, Unused, SpentObject, Queue, Mutex, Object}
+use Rattle.slots.specs.Types.{Wake, Never, At, Want, Turn, Bits, Place, Free, Ready, Delayed, Waiting, Suspended, Spent, Task, Ring, Holder, Nobody, By, Sort, Ordinary, Recursive, Kind, Unused, SpentObject, Queue, Mutex, Group, Object}
 use Rattle.slots.specs.Places.{isFree, isReady, isBlocked, isListed, wakesAt}
 use Rattle.slots.specs.Values.{taskAt}
+use Rattle.slots.specs.Wants.{allBits, holdsOf, acceptedMask}
 use Rattle.slots.specs.Kinds.{kindAt, isBy, isTaken}
 
 -- idle is "always there, always ready, priority 0"
@@ -19,18 +20,31 @@ abbrev pub standsFine : ℕ → Place → Bool
 standsFine n Free = true
 standsFine n Ready = eqb n 1
 standsFine n (Delayed w) = true
-standsFine n (Waiting o w) = eqb n 1
+standsFine n (Waiting x w) = eqb n 1
 standsFine n Suspended = true
 standsFine n Spent = true
 
 -- "receivers wait only on an empty queue, senders only on a full one, takers only on a mutex held by another"
-abbrev pub mayWait : TaskSlot → Kind → Bool
-mayWait t Unused = false
-mayWait t SpentObject = false
-mayWait t (Queue q) = eqb (q .count) 0 || eqb (q .count) (q .capacity)
-mayWait t (Mutex s h) = isTaken h && not (isBy t h)
+abbrev pub awaitsTurn : TaskSlot → Kind → Bool
+awaitsTurn t Unused = false
+awaitsTurn t SpentObject = false
+awaitsTurn t (Queue q) = eqb (q .count) 0 || eqb (q .count) (q .capacity)
+awaitsTurn t (Mutex s h) = isTaken h && not (isBy t h)
+awaitsTurn t (Group b) = false
 
--- the same by what is noted of each object: it is a queue that is empty or full, or a mutex that is taken, and by whom
+-- of an event group: "Waiters stand only where unsatisfied, with a mask and flags that the call accepts"
+abbrev pub awaitsBits : ℕ → Bool → Kind → Bool
+awaitsBits m all Unused = false
+awaitsBits m all SpentObject = false
+awaitsBits m all (Queue q) = false
+awaitsBits m all (Mutex s h) = false
+awaitsBits m all (Group b) = acceptedMask m && not (holdsOf b m all)
+
+abbrev pub mayWait : TaskSlot → Want → Kind → Bool
+mayWait t Turn x = awaitsTurn t x
+mayWait t (Bits m all clear) x = awaitsBits m all x
+
+-- for its turn, by what is noted of each object: it is a queue that is empty or full, or a mutex that is taken, and by whom
 abbrev pub mayWaitOn : List Bool → List Bool → List ℕ → TaskSlot → ℕ → Bool
 mayWaitOn opens takes holder t n = getD opens n false || (getD takes n false && not (eqb (getD holder n 0) (t .0)))
 
@@ -38,7 +52,7 @@ abbrev pub waitsFine : TaskSlot → List Object → Place → Bool
 waitsFine t os Free = true
 waitsFine t os Ready = true
 waitsFine t os (Delayed w) = true
-waitsFine t os (Waiting o w) = mayWait t (kindAt os o)
+waitsFine t os (Waiting x w) = mayWait t (x .want) (kindAt os (x .object))
 waitsFine t os Suspended = true
 waitsFine t os Spent = true
 
@@ -68,7 +82,7 @@ abbrev pub wakesInRange : Place → Bool
 wakesInRange Free = true
 wakesInRange Ready = true
 wakesInRange (Delayed w) = leb w 4294967295
-wakesInRange (Waiting o w) = wakeInRange w
+wakesInRange (Waiting x w) = wakeInRange w
 wakesInRange Suspended = true
 wakesInRange Spent = true
 
@@ -93,6 +107,7 @@ kindInRange Unused = true
 kindInRange SpentObject = true
 kindInRange (Queue q) = ringFine q
 kindInRange (Mutex s h) = countFine s h
+kindInRange (Group b) = leb b allBits
 
 -- "an outcome is 0 to 3, and 0 if delayed or waiting"
 abbrev pub outcomeFine : Task → Bool

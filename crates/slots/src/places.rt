@@ -1,7 +1,9 @@
 // Where a task stands.
 ghost use mathlib.Core.Path.{_≡_};
+ghost use Rattle.slots.specs.Wants.{wantIn};
 ghost use Rattle.slots.specs.Places.{isFree, isReady, isSuspended, isBlocked, isListed, ahead};
 use crate::Place;
+use crate::Want;
 
 // How many ticks come before the one that makes the count `w`, from `now` on. A smaller `w` is not past: the count wraps before it comes.
 pub fn ahead(now: u32, w: u32) -> u32
@@ -69,5 +71,19 @@ impl Place {
         ensures { λ r. ⌜ r ≡ isListed self ⌝ }
     {
         lists::either(self.is_ready(), self.is_blocked())
+    }
+
+    // What it waits for; its turn, if it does not wait.
+    pub fn want(self) -> Want
+        ensures { λ r. ⌜ r ≡ wantIn self ⌝ }
+    {
+        match self {
+            Place::Free => Want::Turn,
+            Place::Ready => Want::Turn,
+            Place::Delayed(_) => Want::Turn,
+            Place::Waiting(x, _) => x.want,
+            Place::Suspended => Want::Turn,
+            Place::Spent => Want::Turn,
+        }
     }
 }

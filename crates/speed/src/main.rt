@@ -204,6 +204,58 @@ fn again(start: Kernel, times: u32, store: &mut [u8]) -> u32 {
     same(k, Call::Take(own, 0), Call::Give(own), times, store)
 }
 
+// An event group with a bit set, on which nobody waits: a set, a clear, and a wait that is satisfied at once, each twice a turn.
+fn bits(start: Kernel, pair: u8, times: u32, store: &mut [u8]) -> u32 {
+    let own = ObjNo::of(2);
+    let k = both(start, Call::MakeGroup, Call::SetBits(own, 1), store);
+    let call = match pair {
+        114 => Call::SetBits(own, 6),
+        116 => Call::ClearBits(own, 6),
+        _ => Call::Await(own, 1, 1, 0, 0),
+    };
+    same(k, call, call, times, store)
+}
+
+fn watching(k: Kernel, store: &mut [u8]) -> Kernel {
+    k.step(Call::Await(ObjNo::of(2), 1, 1, 1, 4294967295), b"", store)
+        .kernel
+}
+
+// Each task waits for the bit, and idle runs.
+fn watched(start: Kernel, m: u32, store: &mut [u8]) -> Kernel {
+    let mut k = start;
+    let mut i = 0u32;
+    while i < m {
+        k = watching(k, store);
+        i += 1;
+    }
+    k
+}
+
+fn grouped(start: Kernel, m: u32, store: &mut [u8]) -> Kernel {
+    let k = start.step(Call::MakeGroup, b"", store).kernel;
+    watched(k, m, store)
+}
+
+// From there a set that wakes every one of them.
+fn opened(k: Kernel, store: &mut [u8]) -> u32 {
+    let next = k.step(Call::SetBits(ObjNo::of(2), 1), b"", store).kernel;
+    next.runs().number()
+}
+
+// Twice a turn.
+fn gates(start: Kernel, m: u32, times: u32, store: &mut [u8]) -> u32 {
+    let k = grouped(start, m, store);
+    let mut sum = 0u32;
+    let mut i = 0u32;
+    while i < times {
+        sum = std::num::wrapping_add_u32(sum, opened(k, store));
+        sum = std::num::wrapping_add_u32(sum, opened(k, store));
+        i += 1;
+    }
+    sum
+}
+
 fn pairs(start: Kernel, pair: u8, m: u32, times: u32, store: &mut [u8]) -> u32 {
     if pair == 110 {
         nights(start, m, times, store)
@@ -213,6 +265,10 @@ fn pairs(start: Kernel, pair: u8, m: u32, times: u32, store: &mut [u8]) -> u32 {
         circles(start, m, times, store)
     } else if pair == 113 {
         again(start, times, store)
+    } else if pair == 115 {
+        gates(start, m, times, store)
+    } else if lists::both(114 <= pair, pair <= 117) {
+        bits(start, pair, times, store)
     } else if lists::both(104 <= pair, pair <= 106) {
         renewed(start, pair, m, times, store)
     } else {
@@ -244,7 +300,7 @@ fn tests(start: Kernel, times: u32) -> u32 {
 fn each(start: Kernel, m: u32, times: u32, store: &mut [u8]) -> u32 {
     let mut sum = tests(start, times);
     let mut pair = 97u8;
-    while pair < 114 {
+    while pair < 118 {
         let one = pairs(start, pair, m, times, store);
         sum = std::num::wrapping_add_u32(sum, one);
         pair += 1;

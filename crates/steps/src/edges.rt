@@ -58,7 +58,8 @@ pub(crate) fn full() {
     let p = p.creates(1);
     let p = p.creates(40);
     let p = p.does(Call::MakeMutex);
-    p.does(Call::MakeQueue(1, 1));
+    let p = p.does(Call::MakeQueue(1, 1));
+    p.does(Call::MakeGroup);
 }
 
 // Task 3 does not exist, and so cannot run.

@@ -1,6 +1,7 @@
 // Steps of the kernel, one line each: what was called, what it answered, who runs then. Every call is accepted somewhere, and every refusal that a step can give is given.
 mod again;
 mod edges;
+mod groups;
 mod holds;
 mod idle;
 mod lives;
@@ -20,6 +21,7 @@ fn main() {
     mutexes::loans();
     again::counted();
     queues::items();
+    groups::gates();
     edges::sizes();
     edges::full();
     edges::unsound();

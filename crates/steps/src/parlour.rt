@@ -85,6 +85,19 @@ impl Parlour {
         self.does(Call::Give(ObjNo::of(o)))
     }
 
+    // Sets bits of an event group.
+    pub(crate) fn raises(self, o: u32, bits: u32) -> Parlour {
+        self.does(Call::SetBits(ObjNo::of(o), bits))
+    }
+
+    pub(crate) fn clears(self, o: u32, bits: u32) -> Parlour {
+        self.does(Call::ClearBits(ObjNo::of(o), bits))
+    }
+
+    pub(crate) fn awaits(self, o: u32, mask: u32, all: u32, clear: u32, wait: u32) -> Parlour {
+        self.does(Call::Await(ObjNo::of(o), mask, all, clear, wait))
+    }
+
     // The bytes of the store from one place up to another.
     pub(crate) fn shows(self, words: &[u8], from: usize, to: usize) {
         let store = self.store;
@@ -107,6 +120,12 @@ impl Parlour {
             let from = 512 * (o as usize);
             self.shows(b": ", from, from + 6);
         }
+    }
+
+    // The bits of an event group.
+    pub(crate) fn bits(self, o: u32) {
+        let k = self.kernel;
+        words::bits(k, ObjNo::of(o));
     }
 
     pub(crate) fn outcome(self, t: u32) {

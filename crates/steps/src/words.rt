@@ -1,9 +1,11 @@
 // What a line says.
 use calls::Answer;
 use calls::Call;
+use calls::ObjNo;
 use calls::TaskNo;
 use kernel::Kernel;
 use kernel::Sleep;
+use slots::Kind;
 
 pub(crate) fn text(words: &[u8]) {
     io::write_all(libc::STDOUT_FILENO, words);
@@ -31,6 +33,12 @@ fn sent(o: u32, length: usize, wait: u32) {
     one(b" bytes, wait", wait);
 }
 
+fn awaited(o: u32, mask: u32, all: u32, clear: u32, wait: u32) {
+    two(b"await in", o, b" bits", mask);
+    two(b", all", all, b", clear", clear);
+    one(b", wait", wait);
+}
+
 // The call and its arguments; `length` is that of the item lent with it.
 pub(crate) fn called(call: Call, length: usize) {
     match call {
@@ -53,6 +61,10 @@ pub(crate) fn called(call: Call, length: usize) {
         Call::Tick => text(b"tick"),
         Call::Advance(n) => one(b"advance", n),
         Call::MakeRecursive => text(b"make recursive mutex"),
+        Call::MakeGroup => text(b"make event group"),
+        Call::SetBits(o, m) => two(b"set in", o.number(), b" bits", m),
+        Call::ClearBits(o, m) => two(b"clear in", o.number(), b" bits", m),
+        Call::Await(o, m, all, clear, w) => awaited(o.number(), m, all, clear, w),
     }
 }
 
@@ -93,6 +105,21 @@ pub(crate) fn outcome(k: Kernel, t: TaskNo) {
     let uses = k.uses.tasks;
     let x = k.core.tasks.get(t.slot(uses));
     two(b"  outcome of", t.number(), b":", x.outcome as u32);
+    text(b"\n");
+}
+
+// The bits of the event group `o`.
+pub(crate) fn bits(k: Kernel, o: ObjNo) {
+    let uses = k.uses.objects;
+    let x = k.core.objects.get(o.slot(uses));
+    one(b"  bits of", o.number());
+    match x {
+        Kind::Unused => text(b": none"),
+        Kind::Spent => text(b": none"),
+        Kind::Queue(_) => text(b": none"),
+        Kind::Mutex(_, _) => text(b": none"),
+        Kind::Group(b) => one(b":", b),
+    }
     text(b"\n");
 }
 

@@ -8,9 +8,10 @@ use lib.Dec.{eqb, ltb}
 use lib.ListN.{length, getD, set, length-map, List·getD-map, List·getD-eq-default}
 use borrow.Author.Tests.{ltb-true, ltb-false}
 use Rattle.lists.specs.Choice.{if_then_else_}
-use Rattle.lists.specs.Lists.{foldl, kept, index, upTo, values, allBelow}
+use Rattle.lists.specs.Lists.{foldl, any, kept, index, upTo, values, allBelow}
 use Rattle.lists.proofs.Bools.{all-below}
 use Rattle.numbers.specs.declared.TaskSlot.{TaskSlot}
+use Rattle.numbers.specs.declared.ObjSlot.{ObjSlot}
 use Rattle.numbers.specs.Numbers.{task, sameTask}
 use Rattle.order.specs.declared.Order.{Order}
 use Rattle.heights.specs.Heights.{occupied, largest}
@@ -22,13 +23,13 @@ use Rattle.slots.specs.declared.Place.the-variants.{Free, Ready, Delayed, Waiti
 use Rattle.slots.specs.declared.Task.{Task}
 use Rattle.slots.specs.Who.{Who}
 use Rattle.slots.specs.declared.Lead.the-variants.{Open}
-use Rattle.slots.specs.Places.{isReady, takesTask, waitedOn, wakesAt, away}
+use Rattle.slots.specs.Places.{isReady, takesTask, waitsOn, waitedOn, wakesAt, away}
 use Rattle.slots.specs.Values.{freeTask, levelled, taskAt, inLine}
 use Rattle.slots.specs.Leads.{better}
 use Rattle.tasks.specs.declared.Woken.{Woken}
 use Rattle.tasks.specs.Numbering.{cellsOf}
 use Rattle.tasks.specs.Columns.{wakeCell, tasksOf, freeIn, put, levelledAt, rowAt}
-use Rattle.tasks.specs.Walks.{leadIn, lineIn, topIn, linesIn}
+use Rattle.tasks.specs.Walks.{leadIn, lineIn, topIn, linesIn, waitedIn}
 use Rattle.tasks.specs.Dues.{untilIn, wakeNow, waitEnds, woken, readyOf, tailed, wakeIn, wakesIn}
 use Rattle.tasks.specs.Loans.{levelsIn, reachesIn, fronted, levelIn, workedIn}
 use Rattle.tasks.proofs.Columns.{row-of, rows-of, put-of, levelled-of}
@@ -63,6 +64,10 @@ top-of xs l = ap (λ (row : TaskSlot → Task). largest (λ t. row t .effective)
 pub lines-of : (xs : List Task) (l : List TaskSlot) → linesIn (tasksOf xs) l ≡ occupied (λ t. isReady (taskAt xs t .place)) (λ t. taskAt xs t .effective) l
 unfolding linesIn
 lines-of xs l = ap (λ (row : TaskSlot → Task). occupied (λ t. isReady (row t .place)) (λ t. row t .effective) l) (λ i t. task-of xs t i)
+
+pub waited-of : (xs : List Task) (o : ObjSlot) → waitedIn (tasksOf xs) o ≡ any (λ (x : Task). waitsOn o (x .place)) xs
+unfolding waitedIn
+waited-of xs o = rw (rows-of xs)
 
 pub free-of : (xs : List Task) → freeIn (tasksOf xs) ≡ index (λ (x : Task). takesTask (x .place)) xs
 unfolding freeIn

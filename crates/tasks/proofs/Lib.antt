@@ -1,4 +1,6 @@
+pub mod Wanted
 pub mod Columns
+pub mod Lengths
 pub mod StateTests
 pub mod WalkTurns
 pub mod Heads

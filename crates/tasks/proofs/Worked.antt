@@ -24,6 +24,7 @@ use Rattle.slots.specs.Places.{waitedOn}
 use Rattle.slots.proofs.Sweeps.{none-counted, Filled, fill-values}
 use Rattle.lists.proofs.Loops.{values-many, value-at}
 use Rattle.tasks.specs.declared.Tasks.{Tasks}
+use Rattle.tasks.specs.declared.Wants.{Wants}
 use Rattle.tasks.specs.Columns.{rowAt, levelledAt}
 use Rattle.tasks.specs.Dues.{woken, tailed}
 use Rattle.tasks.specs.Known.{waitsState}
@@ -119,8 +120,8 @@ module _ (ts : Tasks) (full : Full ts) (by : List ℕ) where
     ended-end = walked (λ m. endedTo (ontosIn ts) by m ≡ endedIn ts by) none-ended (ap (λ (f : ℕ → ℕ). allBelow 16 (λ s. ends f 16 (f s))) next-is)
 
 -- one turn of the walk: a row at its level, one that is ready and one that is not
-pub levelled-alike : {s o w own e e′ out : List ℕ} {p p′ : Order} → e ≡ e′ → p ≡ p′ → woken (columns s o w own e out) p ≡ woken (columns s o w own e′ out) p′
-levelled-alike {s} {o} {w} {own} {out = out} a b = λ i. woken (columns s o w own (a i) out) (b i)
+pub levelled-alike : {s o w own e e′ out : List ℕ} {x : Wants} {p p′ : Order} → e ≡ e′ → p ≡ p′ → woken (columns s o w x own e out) p ≡ woken (columns s o w x own e′ out) p′
+levelled-alike {s} {o} {w} {own} {out = out} {x = x} a b = λ i. woken (columns s o w x own (a i) out) (b i)
 
 differs : (ts : Tasks) (ls : List ℕ) (i : ℕ) → (getD (ts .effective) i 0 ≡ getD ls i 0 → ⊥) → eqb (rowAt ts i .effective) (getD ls i 0) ≡ false
 unfolding rowAt
@@ -137,12 +138,12 @@ module _ (r : TaskSlot) (ls : List ℕ) (ts : Tasks) (o : Order) (i : ℕ) where
   set-level b n s = rw (differs ts ls i n, row-meant ts i AllReady ∙ s)
 
   pub level-moves : {p : Order} → (getD (ts .effective) i 0 ≡ getD ls i 0 → ⊥) → getD (ts .state) i 0 ≡ 1 → p ≡ (if sameTask (task i) r then fronted o (task i) else tailed o (task i))
-      → woken (columns (ts .state) (ts .object) (ts .wake) (ts .own) (set (ts .effective) i (getD ls i 0)) (ts .outcome)) p ≡ levelIn r ls (woken ts o) i
+      → woken (columns (ts .state) (ts .object) (ts .wake) (ts .wants) (ts .own) (set (ts .effective) i (getD ls i 0)) (ts .outcome)) p ≡ levelIn r ls (woken ts o) i
   unfolding levelledAt
   level-moves n s q = rw q (set-level true n (eq-eqb (getD (ts .state) i 0) 1 s))
 
   pub level-stays : (getD (ts .effective) i 0 ≡ getD ls i 0 → ⊥) → (getD (ts .state) i 0 ≡ 1 → ⊥)
-      → woken (columns (ts .state) (ts .object) (ts .wake) (ts .own) (set (ts .effective) i (getD ls i 0)) (ts .outcome)) o ≡ levelIn r ls (woken ts o) i
+      → woken (columns (ts .state) (ts .object) (ts .wake) (ts .wants) (ts .own) (set (ts .effective) i (getD ls i 0)) (ts .outcome)) o ≡ levelIn r ls (woken ts o) i
   unfolding levelledAt
   level-stays n s = set-level false n (ne-eqb (getD (ts .state) i 0) 1 s)
 

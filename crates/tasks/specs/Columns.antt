@@ -3,10 +3,12 @@ use Prim.Native.Nat.{ℕ}
 use mathlib.Core.List.{List, map}
 use lib.ListN.{length, getD, set}
 use Rattle.lists.specs.Lists.{index, values}
+use Rattle.slots.specs.declared.Want.{Want}
 use Rattle.slots.specs.declared.Place.{Place}
 use Rattle.slots.specs.declared.Task.{Task}
 use Rattle.slots.specs.Places.{takesTask}
 use Rattle.tasks.specs.declared.Tasks.{Tasks}
+use Rattle.tasks.specs.Masks.{wantsOf, wantPut, wantAt}
 use Rattle.tasks.specs.Numbering.{cells, cellsOf, placeOf}
 
 -- a task's numbers
@@ -19,6 +21,9 @@ objectCell x = cellsOf (x .place) .object
 abbrev pub wakeCell : Task → ℕ
 wakeCell x = cellsOf (x .place) .wake
 
+abbrev pub wantCell : Task → Want
+wantCell x = cellsOf (x .place) .want
+
 -- the columns that stand for a list of tasks
 unfoldable pub tasksOf : List Task → Tasks
 tasksOf xs =
@@ -26,6 +31,7 @@ tasksOf xs =
       state = map stateOf xs;
       object = map objectCell xs;
       wake = map wakeCell xs;
+      wants = wantsOf (map wantCell xs);
       own = map (λ (x : Task). x .own) xs;
       effective = map (λ (x : Task). x .effective) xs;
       outcome = map (λ (x : Task). x .outcome) xs;
@@ -38,6 +44,7 @@ put ts n x =
       state = set (ts .state) n (stateOf x);
       object = set (ts .object) n (objectCell x);
       wake = set (ts .wake) n (wakeCell x);
+      wants = wantPut (ts .wants) n (wantCell x);
       own = set (ts .own) n (x .own);
       effective = set (ts .effective) n (x .effective);
       outcome = set (ts .outcome) n (x .outcome);
@@ -50,6 +57,7 @@ placedAt ts n p o =
       state = set (ts .state) n (cellsOf p .state);
       object = set (ts .object) n (cellsOf p .object);
       wake = set (ts .wake) n (cellsOf p .wake);
+      wants = wantPut (ts .wants) n (cellsOf p .want);
       own = ts .own;
       effective = ts .effective;
       outcome = set (ts .outcome) n o;
@@ -62,6 +70,7 @@ ownedAt ts n own =
       state = ts .state;
       object = ts .object;
       wake = ts .wake;
+      wants = ts .wants;
       own = set (ts .own) n own;
       effective = ts .effective;
       outcome = ts .outcome;
@@ -73,6 +82,7 @@ levelledAt ts n effective =
       state = ts .state;
       object = ts .object;
       wake = ts .wake;
+      wants = ts .wants;
       own = ts .own;
       effective = set (ts .effective) n effective;
       outcome = ts .outcome;
@@ -82,7 +92,7 @@ levelledAt ts n effective =
 unfoldable pub rowAt : Tasks → ℕ → Task
 rowAt ts n =
     record {
-      place = placeOf (cells (getD (ts .state) n 0) (getD (ts .object) n 0) (getD (ts .wake) n 0));
+      place = placeOf (cells (getD (ts .state) n 0) (getD (ts .object) n 0) (getD (ts .wake) n 0) (wantAt (ts .wants) n));
       own = getD (ts .own) n 0;
       effective = getD (ts .effective) n 0;
       outcome = getD (ts .outcome) n 0;

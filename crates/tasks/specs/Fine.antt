@@ -9,6 +9,8 @@ use Rattle.lists.specs.Choice.{if_then_else_}
 use Rattle.lists.specs.Lists.{allBelow, upTo}
 use Rattle.numbers.specs.declared.TaskSlot.{TaskSlot}
 use Rattle.numbers.specs.Numbers.{task, sameTask}
+use Rattle.slots.specs.declared.Want.{Want}
+use Rattle.slots.specs.declared.Want.the-variants.{Turn, Bits}
 use Rattle.slots.specs.declared.Place.{Place}
 use Rattle.slots.specs.declared.Place.the-variants.{Free, Ready, Delayed, Waiting, Suspended, Spent}
 use Rattle.slots.specs.declared.Task.{Task}
@@ -17,6 +19,7 @@ use Rattle.tasks.specs.declared.Tasks.{Tasks}
 use Rattle.tasks.specs.Columns.{tasksOf, rowAt, rowsOf}
 use Rattle.tasks.specs.Walks.{lineIn, readyAt, levelAt, topIn}
 use Rattle.tasks.specs.Dues.{timed}
+use Rattle.tasks.specs.Masks.{maskFine}
 use Rattle.tasks.specs.Known.{waitsState, known, wakeKnown}
 
 abbrev pub blocked : ℕ → Bool
@@ -33,9 +36,9 @@ aloneFine n held x =
     && (freshIfFree x
     && freeHolds held (x .place))))))
 
-unfoldable pub rowFine : ℕ → ℕ → ℕ → ℕ → ℕ → ℕ → Bool → Bool
-rowFine s o own level outcome n held =
-    known s o
+unfoldable pub rowFine : ℕ → ℕ → ℕ → ℕ → ℕ → ℕ → ℕ → Bool → Bool
+rowFine s o f own level outcome n held =
+    known s o f
     && (eqb n (if eqb s 1 || blocked s then 1 else 0)
     && (leb own 31
     && ((leb outcome 3 && (not (blocked s) || eqb outcome 0))
@@ -50,14 +53,17 @@ abbrev pub idleIf : Bool → ℕ → ℕ → ℕ → Bool → Bool
 idleIf idle s own level held = not idle || ((eqb s 1 && (eqb own 0 && eqb level 0)) && not held)
 
 abbrev pub rowsFine : Tasks → List ℕ → List Bool → ℕ → Bool
-rowsFine ts stands holds i = known (getD (ts .state) i 0) (getD (ts .object) i 0) && aloneFine (getD stands i 0) (getD holds i false) (rowAt ts i)
+rowsFine ts stands holds i =
+    known (getD (ts .state) i 0) (getD (ts .object) i 0) (getD (ts .wants .flags) i 0) && aloneFine (getD stands i 0) (getD holds i false) (rowAt ts i)
 
 -- its wake tick
 unfoldable pub wakeFine : ℕ → ℕ → ℕ → Bool
 wakeFine s w tick = if timed s then leb w 4294967295 && not (eqb w tick) else eqb w 0
 
+-- and its mask
 abbrev pub wakesFine : Tasks → ℕ → ℕ → Bool
-wakesFine ts tick i = wakeKnown (getD (ts .state) i 0) (getD (ts .wake) i 0) && notDue tick (rowAt ts i .place)
+wakesFine ts tick i =
+    (wakeKnown (getD (ts .state) i 0) (getD (ts .wake) i 0) && notDue tick (rowAt ts i .place)) && maskFine (getD (ts .wants .mask) i 0) (getD (ts .wants .flags) i 0)
 
 -- all that is answered: what is fine stands for the list that it reads as
 pub record Fine (ts : Tasks) (tick : ℕ) (stands : List ℕ) (holds : List Bool) (r : Bool) : Type 0 where
@@ -65,12 +71,17 @@ pub record Fine (ts : Tasks) (tick : ℕ) (stands : List ℕ) (holds : List Bool
   pub said : r ≡ (idleAlone (getD holds 0 false) (rowAt ts 0) && (allBelow 16 (rowsFine ts stands holds) && allBelow 16 (wakesFine ts tick)))
   pub whole : r ≡ true → ts ≡ tasksOf (rowsOf ts)
 
--- "receivers wait only on an empty queue, senders only on a full one, takers only on a mutex held by another", by what is noted of each object
+-- "receivers wait only on an empty queue, senders only on a full one, takers only on a mutex held by another", by what is noted of each object; whoever waits for bits is not
+-- asked here
+abbrev pub waitsTurn : List Bool → List Bool → List ℕ → TaskSlot → Want → ℕ → Bool
+waitsTurn opens takes holder t Turn n = ltb n 16 && mayWaitOn opens takes holder t n
+waitsTurn opens takes holder t (Bits m all clear) n = true
+
 abbrev pub waitsBy : List Bool → List Bool → List ℕ → TaskSlot → Place → Bool
 waitsBy opens takes holder t Free = true
 waitsBy opens takes holder t Ready = true
 waitsBy opens takes holder t (Delayed w) = true
-waitsBy opens takes holder t (Waiting o w) = ltb (o .0) 16 && mayWaitOn opens takes holder t (o .0)
+waitsBy opens takes holder t (Waiting x w) = waitsTurn opens takes holder t (x .want) (x .object .0)
 waitsBy opens takes holder t Suspended = true
 waitsBy opens takes holder t Spent = true
 
@@ -80,6 +91,10 @@ waitsAt ts opens takes holder i = waitsBy opens takes holder (task i) (rowAt ts 
 -- how many wait on an object
 unfoldable pub waitingIn : Tasks → ℕ
 waitingIn ts = upTo (λ n i. n + (if waitsState (getD (ts .state) i 0) then 1 else 0)) 16 0
+
+-- how many want bits
+unfoldable pub wantingIn : Tasks → ℕ
+wantingIn ts = upTo (λ n i. n + (if eqb (getD (ts .wants .flags) i 0) 0 then 0 else 1)) 16 0
 
 -- "the running task heads its line"
 abbrev pub headed : List TaskSlot → TaskSlot → Bool

@@ -5,19 +5,22 @@ use lib.Dec.{eqb, leb}
 use lib.ListN.{getD}
 use Rattle.lists.specs.Lists.{allBelow}
 use Rattle.tasks.specs.declared.Tasks.{Tasks}
+use Rattle.tasks.specs.Masks.{maskFine}
 use Rattle.tasks.specs.Dues.{timed}
 
 -- the states that have an object
 abbrev pub waitsState : ℕ → Bool
 waitsState s = eqb s 3 || eqb s 4
 
--- of a state and its object; of a state and its wake tick
-abbrev pub known : ℕ → ℕ → Bool
-known s o = leb s 6 && (waitsState s || eqb o 0)
+-- of a state, its object and the flags of what is wanted; of a state and its wake tick
+abbrev pub known : ℕ → ℕ → ℕ → Bool
+known s o f = leb s 6 && (leb f 4 && (waitsState s || (eqb o 0 && eqb f 0)))
 
 abbrev pub wakeKnown : ℕ → ℕ → Bool
 wakeKnown s w = timed s || eqb w 0
 
 -- of every row
 unfoldable pub canonical : Tasks → Bool
-canonical ts = allBelow 16 (λ i. known (getD (ts .state) i 0) (getD (ts .object) i 0) && wakeKnown (getD (ts .state) i 0) (getD (ts .wake) i 0))
+canonical ts =
+    allBelow 16 (λ i. known (getD (ts .state) i 0) (getD (ts .object) i 0) (getD (ts .wants .flags) i 0)
+    && (wakeKnown (getD (ts .state) i 0) (getD (ts .wake) i 0) && maskFine (getD (ts .wants .mask) i 0) (getD (ts .wants .flags) i 0)))

@@ -1,3 +1,4 @@
+pub mod Masks
 pub mod Numbering
 pub mod Columns
 pub mod Walks

@@ -8,11 +8,13 @@ use Rattle.numbers.specs.declared.TaskSlot.{TaskSlot}
 use Rattle.numbers.specs.declared.ObjSlot.{ObjSlot}
 use Rattle.heights.specs.declared.Lines.{Lines}
 use Rattle.heights.specs.Heights.{occupied, largest}
+use Rattle.slots.specs.declared.Want.{Want}
 use Rattle.slots.specs.declared.Task.{Task}
-use Rattle.slots.specs.Who.{Who, AllReady, WaitersOf}
+use Rattle.slots.specs.Who.{Who, AllReady, WaitersOf, SatisfiedOn}
 use Rattle.slots.specs.declared.Lead.{Lead}
 use Rattle.slots.specs.declared.Lead.the-variants.{Open}
 use Rattle.slots.specs.Places.{isReady, waitsOn}
+use Rattle.slots.specs.Wants.{satisfied}
 use Rattle.slots.specs.Leads.{better}
 use Rattle.slots.specs.Values.{inLine}
 use Rattle.tasks.specs.declared.Tasks.{Tasks}
@@ -49,6 +51,7 @@ unfoldable pub waitedIn : Tasks → ObjSlot → Bool
 waitedIn ts o = any (λ (x : Task). waitsOn o (x .place)) (rowsOf ts)
 
 -- who is meant, in numbers
-abbrev pub isMeant : Who → ℕ → ℕ → Bool
-isMeant AllReady s o = eqb s 1
-isMeant (WaitersOf x) s o = (eqb s 3 || eqb s 4) && eqb o (x .0)
+abbrev pub isMeant : Who → ℕ → ℕ → Want → Bool
+isMeant AllReady s o w = eqb s 1
+isMeant (WaitersOf x) s o w = (eqb s 3 || eqb s 4) && eqb o (x .0)
+isMeant (SatisfiedOn x b) s o w = ((eqb s 3 || eqb s 4) && eqb o (x .0)) && satisfied b w

@@ -11,6 +11,7 @@ ghost use Rattle.tasks.specs.Dues.{timed, untilIn, wakeNow, waitEnds, wa
 use crate::Tasks;
 use crate::Woken;
 use order::Order;
+use slots::Want;
 
 // The state has a wake tick.
 fn timed(state: u8) -> bool
@@ -89,6 +90,7 @@ impl Tasks {
         let mut state = self.state;
         let mut object = self.object;
         let mut wake = self.wake;
+        let mut wants = self.wants;
         let own = self.own;
         let effective = self.effective;
         let mut outcome = self.outcome;
@@ -106,6 +108,7 @@ impl Tasks {
                         state[s] = 1;
                         object[s] = 0;
                         wake[s] = 0;
+                        wants = wants.set(s, Want::Turn);
                         order = order.to_tail(t);
                     }
                 }
@@ -116,6 +119,7 @@ impl Tasks {
             state,
             object,
             wake,
+            wants,
             own,
             effective,
             outcome,

@@ -79,6 +79,15 @@ impl Tasks {
         ok
     }
 
+    fn lent_fine(self, by: [u8; 16], n: usize) -> bool
+        requires { ⌜ n ≡ min 16 (16 * waitingIn self) ⌝ }
+        ensures { λ r. ⌜ r ≡ (endedIn self by && allBelow 16 (λ n. eqb (rowAt self n .effective) (getD (levelsIn self by) n 0))) ⌝ }
+    {
+        let lent = self.levels(by, n);
+        let each = lent.levels;
+        lists::both(lent.ended, self.at_levels(each))
+    }
+
     // Each task is at its level, and no chain leads back to where it began. Where nobody waits there is no chain to go along.
     pub fn levels_fine(self, by: [u8; 16]) -> bool
         ensures { λ r. ⌜ r ≡ (endedIn self by && allBelow 16 (λ n. eqb (rowAt self n .effective) (getD (levelsIn self by) n 0))) ⌝ }
@@ -88,9 +97,7 @@ impl Tasks {
         if n == 0 {
             return self.at_levels(own);
         }
-        let lent = self.levels(by, n);
-        let levels = lent.levels;
-        lists::both(lent.ended, self.at_levels(levels))
+        self.lent_fine(by, n)
     }
 
     // Whether the chain from the task h leads to u.
@@ -107,6 +114,7 @@ impl Tasks {
         let state = self.state;
         let object = self.object;
         let wake = self.wake;
+        let wants = self.wants;
         let own = self.own;
         let mut effective = self.effective;
         let outcome = self.outcome;
@@ -125,6 +133,7 @@ impl Tasks {
             state,
             object,
             wake,
+            wants,
             own,
             effective,
             outcome,

@@ -4,7 +4,8 @@ ghost use mathlib.Core.Bool.{_&&_};
 ghost use lib.Dec.{eqb};
 ghost use Rattle.numbers.specs.Numbers.{task};
 ghost use Rattle.order.specs.Order.{listed, ordered};
-ghost use Rattle.slots.specs.Who.{WaitersOf};
+ghost use Rattle.slots.specs.declared.Want.the-variants.{Turn};
+ghost use Rattle.slots.specs.Who.{WaitersOf, SatisfiedOn};
 ghost use Rattle.tasks.specs.Columns.{freeIn};
 ghost use Rattle.tasks.specs.Walks.{isMeant, leadIn, lineIn, headOr, linesIn, topIn, waitedIn};
 use crate::Tasks;
@@ -13,11 +14,18 @@ use numbers::ObjSlot;
 use numbers::TaskSlot;
 use order::Order;
 use slots::Lead;
+use slots::Want;
 
 fn waiting(state: u8, object: u8, o: ObjSlot) -> bool
-    ensures { λ r. ⌜ r ≡ isMeant (WaitersOf o) state object ⌝ }
+    ensures { λ r. ⌜ r ≡ isMeant (WaitersOf o) state object Turn ⌝ }
 {
     lists::both(lists::either(state == 3, state == 4), object == o.0)
+}
+
+fn satisfies(state: u8, object: u8, want: Want, x: ObjSlot, bits: u32) -> bool
+    ensures { λ r. ⌜ r ≡ isMeant (SatisfiedOn x bits) state object want ⌝ }
+{
+    lists::both(waiting(state, object, x), want.satisfied(bits))
 }
 
 fn in_line(state: u8, effective: u8, p: u8) -> bool
@@ -114,6 +122,7 @@ impl Tasks {
         if t.slot() < 16 { t } else { u }
     }
 
+    // Some row waits on `o`.
     fn waited(self, o: ObjSlot) -> bool
         ensures { λ r. ⌜ r ≡ waitedIn self o ⌝ }
     {
@@ -122,6 +131,22 @@ impl Tasks {
         let mut found = false;
         let mut i = 0usize;
         while i < 16 {
+            found = lists::either(found, waiting(state[i], object[i], o));
+            i += 1;
+        }
+        found
+    }
+
+    // The same, for the rows of the refusal table: by a walk that is no part of another, and over as many as there may be.
+    pub fn waits_on(self, o: ObjSlot) -> bool
+        ensures { λ r. ⌜ r ≡ waitedIn self o ⌝ }
+    {
+        let state = self.state;
+        let object = self.object;
+        let n = lists::bound(self.waiting());
+        let mut found = false;
+        let mut i = 0usize;
+        while i < n {
             found = lists::either(found, waiting(state[i], object[i], o));
             i += 1;
         }
@@ -161,6 +186,31 @@ impl Tasks {
         } else {
             Lead::Open
         }
+    }
+
+    // The first, likewise, among those that wait on `x` and that the bits satisfy.
+    pub fn satisfied(self, x: ObjSlot, bits: u32, o: Order) -> Lead
+        ensures { λ r. ⌜ r ≡ leadIn self (SatisfiedOn x bits) (listed o) ⌝ }
+    {
+        let state = self.state;
+        let object = self.object;
+        let wants = self.wants;
+        let effective = self.effective;
+        let places = o.places;
+        let n = o.reach();
+        let mut best = Lead::Open;
+        let mut i = 0usize;
+        while i < n {
+            let t = places[i];
+            let s = t.slot();
+            if s < 16 {
+                if satisfies(state[s], object[s], wants.get(s), x, bits) {
+                    best = best.behind(t, effective[s]);
+                }
+            }
+            i += 1;
+        }
+        best
     }
 
     // The lowest free slot; 16 where there is none.

@@ -11,7 +11,9 @@ use slots::Place;
 use slots::Ring;
 use slots::Sort;
 use slots::Task;
+use slots::Wait;
 use slots::Wake;
+use slots::Want;
 
 mod kinds;
 mod orders;
@@ -43,8 +45,18 @@ fn recursive_held(n: u8, count: u8) -> Kind {
     Kind::Mutex(Sort::Recursive(count), Holder::By(TaskSlot::of(n)))
 }
 
+fn wanting(o: u8, want: Want, w: Wake) -> Place {
+    let object = ObjSlot::of(o);
+    Place::Waiting(Wait { object, want }, w)
+}
+
+// For its turn; for bits of an event group.
 fn waiting(o: u8, w: Wake) -> Place {
-    Place::Waiting(ObjSlot::of(o), w)
+    wanting(o, Want::Turn, w)
+}
+
+fn awaiting(o: u8, mask: u32, all: bool, w: Wake) -> Place {
+    wanting(o, Want::Bits(mask, all, true), w)
 }
 
 fn put_task(mut k: Kernel, i: u8, x: Task) -> Kernel {
@@ -146,6 +158,16 @@ fn say_kind(label: &[u8], i: u8, kind: Kind) {
     say(label, put_kind(parlour(), i, kind));
 }
 
+// The parlour with event group 4, on which task 4 waits.
+fn gate(bits: u32, mask: u32, all: bool) -> Kernel {
+    let x = task(awaiting(4, mask, all, Wake::At(20)), 4, 4, 0);
+    put_kind(put_task(parlour(), 4, x), 4, Kind::Group(bits))
+}
+
+fn say_gate(label: &[u8], bits: u32, mask: u32, all: bool) {
+    say(label, gate(bits, mask, all));
+}
+
 fn good() {
     say(b"fresh", Kernel::fresh());
     say(b"a suspended task that the order does not list", parlour());
@@ -161,6 +183,7 @@ fn main() {
     values::priorities();
     values::others();
     values::uses();
+    values::awaits();
     orders::listing();
     orders::many();
     orders::running();
@@ -168,4 +191,6 @@ fn main() {
     kinds::holders();
     kinds::rings();
     kinds::counts();
+    kinds::groups();
+    kinds::wants();
 }

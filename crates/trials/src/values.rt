@@ -1,7 +1,10 @@
 // Tasks with a value that no sound kernel has.
+use crate::awaiting;
+use crate::gate;
 use crate::given_up;
 use crate::held_by;
 use crate::parlour;
+use crate::put_kind;
 use crate::put_task;
 use crate::say;
 use crate::say_kind;
@@ -62,6 +65,28 @@ pub(crate) fn others() {
     let mut k = parlour();
     k.core.pended = 1;
     say(b"a tick pended with no hold", k);
+}
+
+// Of a task that waits for bits.
+pub(crate) fn awaits() {
+    let mut k = gate(9, 6, false);
+    k.core.tick = 20;
+    say(b"the wake tick of a wait for bits is the tick count", k);
+    let k = gate(9, 6, false);
+    let x = task(awaiting(4, 6, false, Wake::Never), 4, 4, 0);
+    say(b"a wait for bits for ever", put_task(k, 4, x));
+    let x = task(awaiting(4, 6, false, Wake::At(20)), 4, 4, 1);
+    say(b"outcome 1 while waiting for bits", put_task(k, 4, x));
+    let x = task(awaiting(4, 6, false, Wake::At(20)), 4, 5, 0);
+    say(
+        b"effective above own while waiting for bits",
+        put_task(k, 4, x),
+    );
+    say(b"a waiter for bits listed nowhere", unlisted(k, 4));
+    say(
+        b"an event group that a task waits on, spent",
+        put_kind(k, 4, Kind::Spent),
+    );
 }
 
 // Slots that were given up.

@@ -218,8 +218,8 @@ impl Author {
     fn nest_by_idle(&mut self, nest: Nest, mutex: Mutex) -> Option<Fields> {
         let number = self.kernel().object_number(nest.object);
         match (self.random.below(100), mutex.holder) {
-            (0..=8, _) => Some(self.ask(nest.object)),
-            (9..=12, _) => Some(call(&[16, number])),
+            (0..=10, _) => Some(self.ask(nest.object)),
+            (11..=12, _) => Some(call(&[16, number])),
             (13..=15, Some(_)) => Some(call(&[12, number])),
             (16..=18, Some(holder)) => Some(call(&[2, self.kernel().task_number(holder)])),
             (_, Some(holder)) => Some(self.wake(holder)),
@@ -246,7 +246,7 @@ impl Author {
     }
 
     /// A send or receive by this number.
-    fn as_a_queue(&mut self, number: u32) -> Fields {
+    pub(super) fn as_a_queue(&mut self, number: u32) -> Fields {
         let send = self.random.percent(50);
         let mut fields = call(&[if send { 13 } else { 14 }, number]);
         if send {

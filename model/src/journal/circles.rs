@@ -15,6 +15,7 @@ pub(super) enum Rest {
     Delayed,
     Suspended,
     OnAQueue,
+    OnAGroup,
 }
 
 /// The mutexes that another task holds: those whose chain leads back to the caller, and the others.
@@ -34,7 +35,9 @@ pub(super) fn links_from(kernel: &Kernel, object: ObjectSlot) -> usize {
 impl Author {
     /// A plan for one chain of so many links.
     pub(super) fn stretch_tasks(&mut self, links: usize) -> Plan {
-        let rest = self.random.pick(&[Rest::Ready, Rest::Ready, Rest::Delayed, Rest::Suspended, Rest::OnAQueue]);
+        const RESTS: [Rest; 6] =
+            [Rest::Ready, Rest::Ready, Rest::Delayed, Rest::Suspended, Rest::OnAQueue, Rest::OnAGroup];
+        let rest = self.random.pick(&RESTS);
         Plan::Stretch(10 + 5 * links as u32, links, rest)
     }
 
@@ -99,8 +102,8 @@ impl Author {
         TaskSlot::all().find(is_light).map(|task| call(&[2, kernel.task_number(task)]))
     }
 
-    /// The caller takes a free mutex, or makes it; without a free slot, a queue without waiters goes for the longest
-    /// chain.
+    /// The caller takes a free mutex, or makes it; without a free slot, another object without waiters goes for the
+    /// longest chain.
     fn first_mutex(&mut self, links: usize) -> Option<Fields> {
         let fields = self.take_a_free_one();
         if self.refusal_of(&fields).is_none() {
@@ -111,18 +114,18 @@ impl Author {
         }
         let kernel = self.kernel();
         let unused = |object: &ObjectSlot| {
-            matches!(kernel.object(*object).kind, Kind::Queue(_)) && kernel.object(*object).waiters.is_empty()
+            !matches!(kernel.object(*object).kind, Kind::Mutex(_)) && kernel.object(*object).waiters.is_empty()
         };
         ObjectSlot::all().find(unused).map(|object| call(&[12, kernel.object_number(object)]))
     }
 
-    /// A free mutex goes if most objects are mutexes, so that there is room for queues again.
+    /// A free mutex goes if most objects are mutexes, so that there is room for others again.
     pub(super) fn spare_mutex(&self) -> Option<Fields> {
         let kernel = self.kernel();
         let is_mutex = |object: &ObjectSlot| matches!(kernel.object(*object).kind, Kind::Mutex(_));
         let mutexes: Vec<ObjectSlot> = ObjectSlot::all().filter(is_mutex).collect();
         let spare = mutexes.iter().rfind(|&&object| kernel.object(object).holder().is_none())?;
-        (mutexes.len() > 3 * OBJECTS / 4).then(|| call(&[12, kernel.object_number(*spare)]))
+        (mutexes.len() > 11 * OBJECTS / 16).then(|| call(&[12, kernel.object_number(*spare)]))
     }
 
     /// The running task goes to stand so.
@@ -140,7 +143,15 @@ impl Author {
                     None => call(&[10, 2, 1]),
                 }
             }
-            _ => call(&[3, kernel.running_number()]),
+            Rest::OnAGroup => {
+                let is_group = |object: &ObjectSlot| matches!(kernel.object(*object).kind, Kind::Group(_));
+                let wait = if self.random.percent(50) { FOR_EVER } else { ticks };
+                match ObjectSlot::all().find(is_group) {
+                    Some(group) => self.begin_at(group, wait),
+                    None => call(&[20]),
+                }
+            }
+            Rest::Ready | Rest::Suspended => call(&[3, kernel.running_number()]),
         }
     }
 
@@ -252,7 +263,7 @@ impl Author {
         }
     }
 
-    /// For idle: this task is resumed, or gets what it waits for on a queue; else a tick.
+    /// For idle: this task is resumed, or gets what it waits for on a queue or an event group; else a tick.
     pub(super) fn wake(&mut self, task: TaskSlot) -> Fields {
         let kernel = &self.machine.kernel;
         match kernel.task(task).stand {
@@ -266,6 +277,7 @@ impl Author {
                 fields.push(decimal(0));
                 fields
             }
+            Stand::Waiting { object, role: Role::Watcher(_), .. } => self.set_for(task, object),
             _ => {
                 let ticks = kernel.distance(task).unwrap_or(1).min(MOST_AHEAD);
                 if self.random.percent(50) {

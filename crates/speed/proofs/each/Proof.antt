@@ -6,10 +6,10 @@ use Rattle.speed.proofs.each.Statement.{statement}
 use Rattle.speed.proofs.each.Tie as tie
 
 abbrev Inv-loop : tie.InvT-loop
-Inv-loop start m times store₀ sum₀ pair₀ store sum pair = (pair ≤ 114) × (length store ≡ length store₀)
+Inv-loop start m times store₀ sum₀ pair₀ store sum pair = (pair ≤ 118) × (length store ≡ length store₀)
 
 abbrev μ-loop : tie.MeasureT-loop
-μ-loop start m times store₀ sum₀ pair₀ store sum pair = 114 - pair
+μ-loop start m times store₀ sum₀ pair₀ store sum pair = 118 - pair
 
 pub each-spec : {M : Type 1} → statement M
 each-spec =

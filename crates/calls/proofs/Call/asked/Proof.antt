@@ -1,6 +1,6 @@
 use mathlib.Core.Path.{_∙_}
 use borrow.Author.Needs.{needs}
-use Rattle.calls.specs.Types.{Nothing, ATask, AnObject, AQueue, AMutex}
+use Rattle.calls.specs.Types.{Nothing, ATask, AnObject, AQueue, AMutex, AGroup}
 use Rattle.calls.proofs.CallAgain.{asked-by}
 use Rattle.calls.proofs.Call.asked.Statement.{statement}
 use Rattle.calls.proofs.Call.asked.Tie as tie
@@ -30,6 +30,11 @@ returns-5 c =
     let t = c .before in
     c .on-object3 .ensures ∙ asked-by _ _ _ AMutex (t .before .before .before .before .before .before .frame .ensures .0) (t .enum-told5 .given .1)
 
+returns-6 : tie.Need-returns-6
+returns-6 c =
+    let t = c .before .before .before .before in
+    c .on-group .ensures ∙ asked-by _ _ _ AGroup (t .before .before .before .before .before .before .frame .ensures .0) (t .enum-told6 .given .1)
+
 pub asked-spec : {M : Type 1} → statement M
 asked-spec =
     tie.close
@@ -47,8 +52,14 @@ asked-spec =
     (λ c κs. search needs)
     (λ c. search needs)
     (λ c κs. search needs)
+    (λ c. search needs)
+    (λ c. search needs)
+    (λ c. search needs)
+    (λ c. search needs)
+    (λ c κs. search needs)
     returns
     returns-2
     returns-3
     returns-4
-    returns-5)
+    returns-5
+    returns-6)

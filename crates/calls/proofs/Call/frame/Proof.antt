@@ -119,10 +119,42 @@ returns-19 c =
     let k = c .before .enum-told6 .given in
     (c .of19 .ensures ∙ ap frameOf (sym (k .1)), rw (k .1) (search needs))
 
+returns-20 : tie.Need-returns-20
+unfolding asked
+returns-20 c =
+    let k = c .before .enum-told7 .given in
+    (c .of20 .ensures ∙ ap frameOf (sym (k .1)), rw (k .1) (search needs))
+
+returns-21 : tie.Need-returns-21
+unfolding asked
+returns-21 c =
+    let k = c .before .before .self14 .given in
+    (c .of21 .ensures ∙ ap frameOf (sym (k .1)), rw (k .1) (search needs))
+
+returns-22 : tie.Need-returns-22
+unfolding asked
+returns-22 c =
+    let k = c .before .before .self15 .given in
+    (c .of22 .ensures ∙ ap frameOf (sym (k .1)), rw (k .1) (search needs))
+
+returns-23 : tie.Need-returns-23
+unfolding asked
+returns-23 c =
+    let k = c .before .before .self16 .given in
+    (c .five .ensures ∙ ap frameOf (sym (k .1)), rw (k .1) (search needs))
+
 pub frame-spec : {M : Type 1} → statement M
 frame-spec =
     tie.close
     (tie.spec
+    (λ c. search needs)
+    (λ c κs. search needs)
+    (λ c. search needs)
+    (λ c κs. search needs)
+    (λ c. search needs)
+    (λ c κs. search needs)
+    (λ c. search needs)
+    (λ c κs. search needs)
     (λ c. search needs)
     (λ c κs. search needs)
     (λ c. search needs)
@@ -179,4 +211,8 @@ frame-spec =
     returns-16
     returns-17
     returns-18
-    returns-19)
+    returns-19
+    returns-20
+    returns-21
+    returns-22
+    returns-23)

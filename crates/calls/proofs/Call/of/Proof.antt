@@ -10,12 +10,12 @@ use Rattle.calls.proofs.Ranges.{NotUpto, outside}
 use Rattle.calls.proofs.Call.of.Statement.{statement}
 use Rattle.calls.proofs.Call.of.Tie as tie
 
-other-call : (n : ℕ) (vs : List ℕ) → NotUpto 19 n → Tick ≡ callOf n vs
+other-call : (n : ℕ) (vs : List ℕ) → NotUpto 23 n → Tick ≡ callOf n vs
 unfolding callOf
 other-call n vs h =
     ⊎-elim (λ (e : n ≡ 0). rw e)
-    (λ (l : 19 < n). sym (List·getD-eq-default (entries vs) Tick {n = n} l))
-    (outside 19 n h)
+    (λ (l : 23 < n). sym (List·getD-eq-default (entries vs) Tick {n = n} l))
+    (outside 23 n h)
 
 returns : tie.Need-returns
 unfolding callOf
@@ -94,12 +94,31 @@ unfolding callOf
 returns-19 c = rw (c .match .keys19)
 
 returns-20 : tie.Need-returns-20
-returns-20 c = other-call _ _ (c .match .rest)
+unfolding callOf
+returns-20 c = rw (c .match .keys20)
+
+returns-21 : tie.Need-returns-21
+unfolding callOf
+returns-21 c = rw (c .match .keys21)
+
+returns-22 : tie.Need-returns-22
+unfolding callOf
+returns-22 c = rw (c .match .keys22)
+
+returns-23 : tie.Need-returns-23
+unfolding callOf
+returns-23 c = rw (c .match .keys23)
+
+returns-24 : tie.Need-returns-24
+returns-24 c = other-call _ _ (c .match .rest)
 
 pub of-spec : {M : Type 1} → statement M
 of-spec =
     tie.close
     (tie.spec
+    (λ c. search needs)
+    (λ c. search needs)
+    (λ c. search needs)
     (λ c. search needs)
     (λ c. search needs)
     returns
@@ -121,4 +140,8 @@ of-spec =
     returns-17
     returns-18
     returns-19
-    returns-20)
+    returns-20
+    returns-21
+    returns-22
+    returns-23
+    returns-24)

@@ -15,44 +15,53 @@ use Rattle.calls.proofs.Shape.of.Tie as tie
 
 -- the keys of the arms, the last arm first
 abbrev arms : List (List ℕ)
-arms = (13 ∷ []) ∷ (5 ∷ 10 ∷ []) ∷ (6 ∷ 12 ∷ 16 ∷ 18 ∷ []) ∷ (11 ∷ 17 ∷ 19 ∷ []) ∷ []
+arms = (13 ∷ []) ∷ (23 ∷ []) ∷ (5 ∷ 10 ∷ []) ∷ (6 ∷ 12 ∷ 16 ∷ 18 ∷ []) ∷ (11 ∷ 17 ∷ []) ∷ []
 
--- past the ranges only the keys 17 to 19 are a call's
-beyond : (n : ℕ) → 16 ≤ n → Nones arms n → unknown ≡ shapeOf n
+-- past the ranges only the key 23 is a call's
+beyond : (n : ℕ) → 23 ≤ n → Nones arms n → unknown ≡ shapeOf n
 unfolding shapeOf any index
 beyond n l o =
-    ⊎-elim (λ (e : n < 20). ranged unknown arms 16 4 refl n l e o)
-    (λ (e : 20 ≤ n). sym (List·getD-eq-default shapes unknown {n = n} e))
-    (below-or n 20)
+    ⊎-elim (λ (e : n < 24). ranged unknown arms 23 1 refl n l e o)
+    (λ (e : 24 ≤ n). sym (List·getD-eq-default shapes unknown {n = n} e))
+    (below-or n 24)
 
 returns : tie.Need-returns
 unfolding shapeOf any index
-returns c = keyed (shaped true 1 true 1) (13 ∷ []) refl _ (c .match .keys4)
+returns c = c .plain .ensures ∙ keyed (numbersOnly 5) (23 ∷ []) refl _ (c .before .match .keys4)
 
 returns-2 : tie.Need-returns-2
 unfolding shapeOf any index
-returns-2 c = ranged unknown arms 0 1 refl _ (omega arith) (c .if1 .taken) (c .before .match .rest)
+returns-2 c = keyed (shaped true 1 true 1) (13 ∷ []) refl _ (c .match .keys5)
 
 returns-3 : tie.Need-returns-3
 unfolding shapeOf any index
-returns-3 c = beyond _ (c .if4 .left) (c .before .before .before .before .match .rest)
+returns-3 c = ranged unknown arms 0 1 refl _ (omega arith) (c .if1 .taken) (c .before .match .rest)
 
 returns-4 : tie.Need-returns-4
 unfolding shapeOf any index
-returns-4 c =
-    c .plain .ensures ∙ ⊎-elim (λ k. keyed (numbersOnly 0) (11 ∷ 17 ∷ 19 ∷ []) refl _ (k .keys1)) (λ w. ranged (numbersOnly 0) arms 5 5 refl _ (w .2 .left) (w .3 .taken) (w .0 .rest))
-    (c .before .match .came)
+returns-4 c = beyond _ (c .if6 .left) (c .before .before .before .before .before .before .match .rest)
 
 returns-5 : tie.Need-returns-5
 unfolding shapeOf any index
 returns-5 c =
-    c .plain2 .ensures ∙ ⊎-elim (λ k. keyed (numbersOnly 2) (5 ∷ 10 ∷ []) refl _ (k .keys3)) (λ w. ranged (numbersOnly 2) arms 10 6 refl _ (w .3 .left) (w .4 .taken) (w .0 .rest))
+    c .plain2 .ensures
+    ∙ ⊎-elim (λ k. keyed (numbersOnly 0) (11 ∷ 17 ∷ []) refl _ (k .keys1))
+    (⊎-elim (λ w. ranged (numbersOnly 0) arms 5 5 refl _ (w .2 .left) (w .3 .taken) (w .0 .rest)) (λ w. ranged (numbersOnly 0) arms 16 5 refl _ (w .4 .left) (w .5 .taken) (w .0 .rest)))
     (c .before .match .came)
 
 returns-6 : tie.Need-returns-6
 unfolding shapeOf any index
 returns-6 c =
-    c .plain3 .ensures ∙ ⊎-elim (λ k. keyed (numbersOnly 1) (6 ∷ 12 ∷ 16 ∷ 18 ∷ []) refl _ (k .keys2)) (λ w. ranged (numbersOnly 1) arms 1 4 refl _ (w .1 .left) (w .2 .taken) (w .0 .rest))
+    c .plain3 .ensures
+    ∙ ⊎-elim (λ k. keyed (numbersOnly 2) (5 ∷ 10 ∷ []) refl _ (k .keys3))
+    (⊎-elim (λ w. ranged (numbersOnly 2) arms 10 6 refl _ (w .3 .left) (w .4 .taken) (w .0 .rest)) (λ w. ranged (numbersOnly 2) arms 21 2 refl _ (w .5 .left) (w .6 .taken) (w .0 .rest)))
+    (c .before .match .came)
+
+returns-7 : tie.Need-returns-7
+unfolding shapeOf any index
+returns-7 c =
+    c .plain4 .ensures
+    ∙ ⊎-elim (λ k. keyed (numbersOnly 1) (6 ∷ 12 ∷ 16 ∷ 18 ∷ []) refl _ (k .keys2)) (λ w. ranged (numbersOnly 1) arms 1 4 refl _ (w .1 .left) (w .2 .taken) (w .0 .rest))
     (c .before .match .came)
 
 pub of-spec : {M : Type 1} → statement M
@@ -62,9 +71,11 @@ of-spec =
     (λ c κs. search needs)
     (λ c κs. search needs)
     (λ c κs. search needs)
+    (λ c κs. search needs)
     returns
     returns-2
     returns-3
     returns-4
     returns-5
-    returns-6)
+    returns-6
+    returns-7)

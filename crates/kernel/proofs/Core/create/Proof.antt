@@ -1,21 +1,20 @@
 use borrow.Author.Needs.{needs}
-use mathlib.Core.Path.{_∙_}
+use Rattle.kernel.specs.Stands.{coreOf}
 use Rattle.rules.specs.Effects.{created}
-use Rattle.rules.specs.Tables.{withTask}
-use Rattle.slots.specs.Values.{readyAt}
 use Rattle.numbers.specs.Numbers.{task}
+use Rattle.rules.specs.Tables.{freeSlot}
+use Rattle.rules.specs.Lines.{toTail}
+use Rattle.slots.specs.Values.{readyAt}
+use Rattle.tasks.proofs.Columns.{put-of}
 use Rattle.kernel.proofs.Core.create.Statement.{statement}
 use Rattle.kernel.proofs.Core.create.Tie as tie
 
 returns : tie.Need-returns
-unfolding created
+unfolding created toTail coreOf
 returns c =
-    let a = c .before .before .before .before .args in
+    let o = c .before .before .before .before in
     let of = c .before .before .before .of in
-    λ s h.
-    c .to-tail .ensures (withTask s (task (a .n)) (readyAt (a .p)))
-    (c .before .with-task .ensures s h ∙ rw (of .ensures, c .before .before .ready-at .ensures))
-    ∙ rw (of .ensures, c .before .before .before .before .pre s h)
+    λ s h. rw (c .before .set .ensures, c .to-tail .ensures, c .before .before .ready-at .ensures, of .ensures, o .pre s h, h, put-of (s .tasks) (task (freeSlot (s .tasks)) .0) (readyAt (o .args .p)))
 
 pub create-spec : {M : Type 1} → statement M
 create-spec =

@@ -20,6 +20,10 @@ returns-4 : tie.Need-returns-4
 unfolding given
 returns-4 c = λ s h. rw (sym (c .before .before .before .before .kind .ensures s h) ∙ c .before .before .m .given .1) (c .give-back .ensures s h)
 
+returns-5 : tie.Need-returns-5
+unfolding given
+returns-5 c = λ s h. rw (sym (c .before .before .kind .ensures s h) ∙ c .enum-told4 .given .1) h
+
 pub give-spec : {M : Type 1} → statement M
 give-spec =
     tie.close
@@ -30,7 +34,9 @@ give-spec =
     (λ c. search needs)
     (λ c. search needs)
     (λ c κs. search needs)
+    (λ c. search needs)
     returns
     returns-2
     returns-3
-    returns-4)
+    returns-4
+    returns-5)

@@ -22,6 +22,9 @@ returns-5 c = λ s h.
     rw (c .before .before .before .before .before .before .x .given .1)
     (rw (c .before .before .before .h .given .1) (c .reaches .ensures ∙ leads-core (o .pre) s h _ (c .before .holders .ensures) _))
 
+returns-6 : tie.Need-returns-6
+returns-6 c = λ s h. rw (c .enum-told5 .given .1) (none-leads (c .before .before .pre) s h)
+
 pub leads-back-spec : {M : Type 1} → statement M
 leads-back-spec =
     tie.close
@@ -34,8 +37,10 @@ leads-back-spec =
     (λ c. search needs)
     (λ c κs. search needs)
     (λ c κs. search needs)
+    (λ c. search needs)
     returns
     returns-2
     returns-3
     returns-4
-    returns-5)
+    returns-5
+    returns-6)

@@ -32,6 +32,9 @@ returns-3 c =
 returns-4 : tie.Need-returns-4
 returns-4 c = (λ s h. rw (sym (c .before .before .kind .ensures s h) ∙ c .enum-told3 .given .1) h, λ s h. rw (sym (c .before .before .kind .ensures s h) ∙ c .enum-told3 .given .1))
 
+returns-5 : tie.Need-returns-5
+returns-5 c = (λ s h. rw (sym (c .before .before .kind .ensures s h) ∙ c .enum-told4 .given .1) h, λ s h. rw (sym (c .before .before .kind .ensures s h) ∙ c .enum-told4 .given .1))
+
 pub receive-spec : {M : Type 1} → statement M
 receive-spec =
     tie.close
@@ -42,8 +45,10 @@ receive-spec =
     (λ c. search needs)
     receive-from-requires
     (λ c. search needs)
+    (λ c. search needs)
     returns
     returns-2
     (λ c. search needs)
     returns-3
-    returns-4)
+    returns-4
+    returns-5)

@@ -31,6 +31,9 @@ returns-3 c =
 returns-4 : tie.Need-returns-4
 returns-4 c = (λ s h. rw (sym (c .before .before .kind .ensures s h) ∙ c .enum-told3 .given .1) h, λ s h. rw (sym (c .before .before .kind .ensures s h) ∙ c .enum-told3 .given .1))
 
+returns-5 : tie.Need-returns-5
+returns-5 c = (λ s h. rw (sym (c .before .before .kind .ensures s h) ∙ c .enum-told4 .given .1) h, λ s h. rw (sym (c .before .before .kind .ensures s h) ∙ c .enum-told4 .given .1))
+
 pub send-spec : {M : Type 1} → statement M
 send-spec =
     tie.close
@@ -41,8 +44,10 @@ send-spec =
     (λ c. search needs)
     send-to-requires
     (λ c. search needs)
+    (λ c. search needs)
     returns
     returns-2
     (λ c. search needs)
     returns-3
-    returns-4)
+    returns-4
+    returns-5)

@@ -1,14 +1,17 @@
-use borrow.Author.Needs.{needs}
+use mathlib.Core.List.{[]}
+use Rattle.kernel.specs.Stands.{coreOf}
+use Rattle.kernel.proofs.Makes.{from-ten, at-most, under-one, from-24, Writes, writes-makes, writes-effect, writes-store, none-called}
 use Rattle.kernel.proofs.Stands.{same-running}
 use borrow.Author.Tests.{eqb-true, eqb-false, ne-eqb}
 use lib.ListN.{length}
 use mathlib.Core.Logic.{inl, inr, ⊎-elim}
-use mathlib.Core.Path.{_≡_, _∙_}
+use mathlib.Core.Path.{_≡_, sym, ap, _∙_}
 use native.Mathlib.Omega.{arith}
 use Rattle.rules.specs.Effects.{effect, yielded}
 use Rattle.rules.specs.Steps.{stored}
 use Rattle.kernel.proofs.LevelWorks.{firm-reckons}
 use Rattle.kernel.proofs.RowPassed.{in-range, whole, right-size, may-take, may-hold, may-release, may-tick, may-turn, task-slot, object-slot}
+use borrow.Author.Needs.{needs}
 use Rattle.kernel.proofs.Core.served.Statement.{statement}
 use Rattle.kernel.proofs.Core.served.Tie as tie
 
@@ -40,27 +43,11 @@ time-passes-requires c κs =
       firm-reckons (o .pre .0),
     )
 
-cast-make-queue : tie.Need-cast-make-queue
-cast-make-queue c =
-    let o = c .before .before .before .before in
-    let r = in-range (o .args .self) (o .pre .0) (o .args .a) (length (o .args .item .now)) (length (o .args .store .now)) (o .pre .1) in omega (arith, r .few)
-
-cast-make-queue-2 : tie.Need-cast-make-queue-2
-cast-make-queue-2 c =
-    let o = c .before .before .before .before .before in
-    let r = in-range (o .args .self) (o .pre .0) (o .args .a) (length (o .args .item .now)) (length (o .args .store .now)) (o .pre .1) in omega (arith, r .small)
-
-make-queue-requires : tie.Need-make-queue-requires
-make-queue-requires c κs = let o = c .before .before .before .before .before in object-slot (o .args .a) (o .pre .2) (rw (c .before .before .match .keys10)) (rw (c .before .before .match .keys10))
-
-make-mutex-requires : tie.Need-make-mutex-requires
-make-mutex-requires c κs = let o = c .before .before .before in object-slot (o .args .a) (o .pre .2) (rw (c .match .keys11)) (rw (c .match .keys11))
-
 send-requires : tie.Need-send-requires
 send-requires c κs =
     let o = c .before .before .before .before in (
       o .pre .0,
-      right-size (o .args .self) (o .pre .0) (o .args .a) (length (o .args .item .now)) (length (o .args .store .now)) (o .pre .1) (c .before .match .keys13),
+      right-size (o .args .self) (o .pre .0) (o .args .a) (length (o .args .item .now)) (length (o .args .store .now)) (o .pre .1) (c .before .match .keys10),
       whole (o .args .self) (o .pre .0) (o .args .a) (length (o .args .item .now)) (length (o .args .store .now)) (o .pre .1),
     )
 
@@ -69,18 +56,48 @@ receive-requires c κs =
     let o = c .before .before .before .before in
     (o .pre .0, whole (o .args .self) (o .pre .0) (o .args .a) (length (o .args .item .now)) (length (o .args .store .now)) (o .pre .1))
 
-recursive-requires : tie.Need-make-mutex-requires-2
-recursive-requires c κs = let o = c .before .before .before in object-slot (o .args .a) (o .pre .2) (rw (c .match .keys18)) (rw (c .match .keys18))
-
 take-requires : tie.Need-take-requires
 take-requires c κs =
     let o = c .before .before .before in
-    (o .pre .0, may-take (o .args .self) (o .pre .0) (o .args .a) (length (o .args .item .now)) (length (o .args .store .now)) (o .pre .1) (c .match .keys15))
+    (o .pre .0, may-take (o .args .self) (o .pre .0) (o .args .a) (length (o .args .item .now)) (length (o .args .store .now)) (o .pre .1) (c .match .keys12))
 
 tick-on-requires : tie.Need-tick-on-requires
 tick-on-requires c κs =
     let o = c .before .before .before in
-    (may-tick (o .args .self) (o .pre .0) (o .args .a) (length (o .args .item .now)) (length (o .args .store .now)) (o .pre .1) (c .match .keys17), firm-reckons (o .pre .0))
+    (may-tick (o .args .self) (o .pre .0) (o .args .a) (length (o .args .item .now)) (length (o .args .store .now)) (o .pre .1) (c .match .keys14), firm-reckons (o .pre .0))
+
+set-requires : tie.Need-set-requires
+set-requires c κs =
+    let o = c .before .before .before .before in
+    (o .pre .0, whole (o .args .self) (o .pre .0) (o .args .a) (length (o .args .item .now)) (length (o .args .store .now)) (o .pre .1), c .before .match .keys15)
+
+clear-requires : tie.Need-clear-requires
+clear-requires c κs =
+    let o = c .before .before .before .before in
+    (o .pre .0, whole (o .args .self) (o .pre .0) (o .args .a) (length (o .args .item .now)) (length (o .args .store .now)) (o .pre .1), c .before .match .keys16)
+
+awaits-requires : tie.Need-awaits-requires
+awaits-requires c κs =
+    let o = c .before .before .before .before in
+    (o .pre .0, whole (o .args .self) (o .pre .0) (o .args .a) (length (o .args .item .now)) (length (o .args .store .now)) (o .pre .1), c .before .match .keys17)
+
+make-or-remove-requires : tie.Need-make-or-remove-requires
+make-or-remove-requires c κs =
+    let o = c .before .before .before .before .before in
+    let a = o .args .a in
+    let r = c .before .before .match .rest in
+    let W : Writes (a .number) = record {
+      least = from-ten _ (c .before .if1 .left) (r .0 .0 .0 .0 .0 .0 .0 .0 .0 .0 .0 .0 .0 .0 .0 .0 .1) (r .0 .0 .0 .0 .0 .0 .0 .0 .0 .0 .0 .0 .0 .0 .0 .1) (r .0 .0 .0 .0 .0 .0 .0 .0 .0 .0 .0 .0 .0 .0 .1) (r .0 .0 .0 .0 .0 .0 .0 .0 .0 .0 .0 .0 .0 .1) (r .0 .0 .0 .0 .0 .0 .0 .0 .0 .0 .0 .0 .1) (r .0 .0 .0 .0 .0 .0 .0 .0 .0 .0 .0 .1) (r .0 .0 .0 .0 .0 .0 .0 .0 .0 .0 .1) (r .0 .0 .0 .0 .0 .0 .0 .0 .0 .1) (λ e. r .0 .0 .0 .0 .0 .0 .0 .0 .1 (inl e));
+      most = at-most _ (c .if2 .taken);
+      not-13 = r .0 .0 .0 .0 .0 .0 .0 .1;
+      not-14 = r .0 .0 .0 .0 .0 .0 .1;
+      not-15 = r .0 .0 .0 .0 .0 .1;
+      not-16 = r .0 .0 .0 .0 .1;
+      not-17 = r .0 .0 .0 .1;
+      not-18 = λ e. r .0 .0 .0 .0 .0 .0 .0 .0 .1 (inr e);
+    } in
+    let f = in-range (o .args .self) (o .pre .0) a (length (o .args .item .now)) (length (o .args .store .now)) (o .pre .1) in
+    (λ e. object-slot a (o .pre .2) (writes-makes a W e) (ne-eqb (a .number) 1 (r .0 .0 .0 .0 .0 .0 .0 .0 .0 .0 .0 .0 .0 .0 .0 .0 .1)), f .few, f .small)
 
 returns : tie.Need-returns
 unfolding effect stored
@@ -125,73 +142,76 @@ returns-9 c =
 returns-10 : tie.Need-returns-10
 unfolding effect stored
 returns-10 c =
-    let match = c .before .before .before .match in
-    (λ s h. rw (match .keys10) (c .make-queue .ensures s h), λ s h. rw (match .keys10))
+    let match = c .before .before .before .before .match in
+    (λ s h. rw (match .keys10) (c .before .before .send .ensures .0 s h), λ s h. rw (match .keys10) (c .before .before .send .ensures .1 s h))
 
 returns-11 : tie.Need-returns-11
 unfolding effect stored
-returns-11 c = (λ s h. rw (c .before .match .keys11) (c .make-mutex .ensures s h), λ s h. rw (c .before .match .keys11))
+returns-11 c =
+    let match = c .before .before .before .before .match in
+    (λ s h. rw (match .keys11) (c .before .before .receive .ensures .0 s h), λ s h. rw (match .keys11) (c .before .before .receive .ensures .1 s h))
 
 returns-12 : tie.Need-returns-12
 unfolding effect stored
-returns-12 c = (λ s h. rw (c .before .match .keys12) (c .remove .ensures s h), λ s h. rw (c .before .match .keys12))
+returns-12 c = (λ s h. rw (c .before .match .keys12) (c .take .ensures s h), λ s h. rw (c .before .match .keys12))
 
 returns-13 : tie.Need-returns-13
 unfolding effect stored
-returns-13 c =
-    let match = c .before .before .before .before .match in
-    (λ s h. rw (match .keys13) (c .before .before .send .ensures .0 s h), λ s h. rw (match .keys13) (c .before .before .send .ensures .1 s h))
+returns-13 c = (λ s h. rw (c .before .match .keys13) (c .give .ensures s h), λ s h. rw (c .before .match .keys13))
 
 returns-14 : tie.Need-returns-14
 unfolding effect stored
-returns-14 c =
-    let match = c .before .before .before .before .match in
-    (λ s h. rw (match .keys14) (c .before .before .receive .ensures .0 s h), λ s h. rw (match .keys14) (c .before .before .receive .ensures .1 s h))
+returns-14 c = (λ s h. rw (c .before .match .keys14) (c .tick-on .ensures s h), λ s h. rw (c .before .match .keys14))
 
 returns-15 : tie.Need-returns-15
-unfolding effect stored
-returns-15 c = (λ s h. rw (c .before .match .keys15) (c .take .ensures s h), λ s h. rw (c .before .match .keys15))
+unfolding stored
+returns-15 c =
+    let e = c .before .before .before .before .match .keys15 in
+    let did = c .before .before .set .ensures in
+    (did .0, λ s h. rw e (rw e at (did .1 s h)))
 
 returns-16 : tie.Need-returns-16
-unfolding effect stored
-returns-16 c = (λ s h. rw (c .before .match .keys16) (c .give .ensures s h), λ s h. rw (c .before .match .keys16))
+unfolding stored
+returns-16 c =
+    let e = c .before .before .before .before .match .keys16 in
+    let did = c .before .before .clear .ensures in
+    (did .0, λ s h. rw e (rw e at (did .1 s h)))
 
 returns-17 : tie.Need-returns-17
-unfolding effect stored
-returns-17 c = (λ s h. rw (c .before .match .keys17) (c .tick-on .ensures s h), λ s h. rw (c .before .match .keys17))
+unfolding stored
+returns-17 c =
+    let e = c .before .before .before .before .match .keys17 in
+    let did = c .before .before .awaits .ensures in
+    (did .0, λ s h. rw e (rw e at (did .1 s h)))
 
 returns-18 : tie.Need-returns-18
-unfolding effect stored
-returns-18 c = (λ s h. rw (c .before .match .keys18) (c .make-mutex2 .ensures s h), λ s h. rw (c .before .match .keys18))
+returns-18 c =
+    let a = c .before .before .before .before .before .before .args .a in
+    let r = c .before .before .before .match .rest in
+    let W : Writes (a .number) = record {
+      least = from-ten _ (c .before .before .if1 .left) (r .0 .0 .0 .0 .0 .0 .0 .0 .0 .0 .0 .0 .0 .0 .0 .0 .1) (r .0 .0 .0 .0 .0 .0 .0 .0 .0 .0 .0 .0 .0 .0 .0 .1) (r .0 .0 .0 .0 .0 .0 .0 .0 .0 .0 .0 .0 .0 .0 .1) (r .0 .0 .0 .0 .0 .0 .0 .0 .0 .0 .0 .0 .0 .1) (r .0 .0 .0 .0 .0 .0 .0 .0 .0 .0 .0 .0 .1) (r .0 .0 .0 .0 .0 .0 .0 .0 .0 .0 .0 .1) (r .0 .0 .0 .0 .0 .0 .0 .0 .0 .0 .1) (r .0 .0 .0 .0 .0 .0 .0 .0 .0 .1) (λ e. r .0 .0 .0 .0 .0 .0 .0 .0 .1 (inl e));
+      most = at-most _ (c .before .if2 .taken);
+      not-13 = r .0 .0 .0 .0 .0 .0 .0 .1;
+      not-14 = r .0 .0 .0 .0 .0 .0 .1;
+      not-15 = r .0 .0 .0 .0 .0 .1;
+      not-16 = r .0 .0 .0 .0 .1;
+      not-17 = r .0 .0 .0 .1;
+      not-18 = λ e. r .0 .0 .0 .0 .0 .0 .0 .0 .1 (inr e);
+    } in
+    (λ s h. c .make-or-remove .ensures s h ∙ ap coreOf (sym (writes-effect a W s)), λ s h. sym (writes-store a W s _ _))
 
 returns-19 : tie.Need-returns-19
-unfolding effect stored
 returns-19 c =
-    let r = c .match .rest in
-    let a = c .before .before .before .args .a .number in (
-      λ s h. rw (
-        ne-eqb a 1 (r .0 .0 .0 .0 .0 .0 .0 .0 .0 .0 .0 .0 .0 .0 .0 .0 .0 .1),
-        ne-eqb a 2 (r .0 .0 .0 .0 .0 .0 .0 .0 .0 .0 .0 .0 .0 .0 .0 .0 .1),
-        ne-eqb a 3 (r .0 .0 .0 .0 .0 .0 .0 .0 .0 .0 .0 .0 .0 .0 .0 .1),
-        ne-eqb a 4 (r .0 .0 .0 .0 .0 .0 .0 .0 .0 .0 .0 .0 .0 .0 .1),
-        ne-eqb a 5 (r .0 .0 .0 .0 .0 .0 .0 .0 .0 .0 .0 .0 .0 .1),
-        ne-eqb a 6 (r .0 .0 .0 .0 .0 .0 .0 .0 .0 .0 .0 .0 .1),
-        ne-eqb a 7 (r .0 .0 .0 .0 .0 .0 .0 .0 .0 .0 .0 .1),
-        ne-eqb a 8 (r .0 .0 .0 .0 .0 .0 .0 .0 .0 .0 .1),
-        ne-eqb a 9 (λ e. r .0 .0 .0 .0 .0 .0 .0 .0 .0 .1 (inl e)),
-        ne-eqb a 10 (r .0 .0 .0 .0 .0 .0 .0 .0 .1),
-        ne-eqb a 11 (r .0 .0 .0 .0 .0 .0 .0 .1),
-        ne-eqb a 12 (r .0 .0 .0 .0 .0 .0 .1),
-        ne-eqb a 13 (r .0 .0 .0 .0 .0 .1),
-        ne-eqb a 14 (r .0 .0 .0 .0 .1),
-        ne-eqb a 15 (r .0 .0 .0 .1),
-        ne-eqb a 16 (r .0 .0 .1),
-        ne-eqb a 17 (r .0 .1),
-        ne-eqb a 19 (r .1),
-        ne-eqb a 18 (λ e. r .0 .0 .0 .0 .0 .0 .0 .0 .0 .1 (inr e)),
-      ) h,
-      λ s h. rw (ne-eqb a 13 (r .0 .0 .0 .0 .0 .1), ne-eqb a 14 (r .0 .0 .0 .0 .1)),
-    )
+    let b = c .before .before .before .before in
+    let e = under-one _ (c .if1 .taken) in
+    (λ s h. h ∙ ap coreOf (sym (none-called (b .args .a) s [] [] (inl e) .0)), λ s h. sym (none-called (b .args .a) s _ _ (inl e) .1))
+
+returns-20 : tie.Need-returns-20
+returns-20 c =
+    let b = c .before .before .before .before .before in
+    let r = c .before .before .match .rest in
+    let e = from-24 _ (c .if2 .left) (r .0 .0 .1) (r .0 .1) (r .1) in
+    (λ s h. h ∙ ap coreOf (sym (none-called (b .args .a) s [] [] (inr e) .0)), λ s h. sym (none-called (b .args .a) s _ _ (inr e) .1))
 
 pub served-spec : {M : Type 1} → statement M
 served-spec =
@@ -208,17 +228,15 @@ served-spec =
     (λ c κs. search needs)
     hold-deeper-requires
     time-passes-requires
-    cast-make-queue
-    cast-make-queue-2
-    make-queue-requires
-    make-mutex-requires
-    (λ c κs. search needs)
     send-requires
     receive-requires
     take-requires
     (λ c κs. search needs)
     tick-on-requires
-    recursive-requires
+    set-requires
+    clear-requires
+    awaits-requires
+    make-or-remove-requires
     returns
     returns-2
     returns-3
@@ -228,15 +246,19 @@ served-spec =
     returns-7
     returns-8
     returns-9
+    (λ c. search needs)
     returns-10
+    (λ c. search needs)
     returns-11
     returns-12
-    (λ c. search needs)
     returns-13
-    (λ c. search needs)
     returns-14
+    (λ c. search needs)
     returns-15
+    (λ c. search needs)
     returns-16
+    (λ c. search needs)
     returns-17
     returns-18
-    returns-19)
+    returns-19
+    returns-20)

@@ -15,7 +15,7 @@ returns c =
     let a = c .before .before .before .before .before .before .args in
     λ s h.
     rw (ap (λ (x : Task). isListed (x .place)) (sym (task .ensures s h)) ∙ sym (c .before .before .before .before .is-listed .ensures) ∙ c .before .before .before .if1 .taken)
-    (c .leaves .ensures (withTask s (a .t) (brokenOff (taskAt (s .tasks) (a .t)))) (c .before .with-task .ensures s h ∙ rw (c .before .before .broken-off .ensures, task .ensures s h)))
+    (c .leaves .ensures (withTask s (a .t) (brokenOff (taskAt (s .tasks) (a .t)))) (c .before .placed .ensures s h ∙ rw (c .before .before .broken-off .ensures, task .ensures s h)))
 
 returns-2 : tie.Need-returns-2
 unfolding suspended

@@ -27,6 +27,10 @@ returns-4 : tie.Need-returns-4
 unfolding taken
 returns-4 c = λ s h. rw (sym (c .before .before .before .before .kind .ensures s h) ∙ c .before .before .m .given .1) (c .take-mutex .ensures s h)
 
+returns-5 : tie.Need-returns-5
+unfolding taken
+returns-5 c = λ s h. rw (sym (c .before .before .kind .ensures s h) ∙ c .enum-told4 .given .1) h
+
 pub take-spec : {M : Type 1} → statement M
 take-spec =
     tie.close
@@ -37,7 +41,9 @@ take-spec =
     (λ c. search needs)
     (λ c. search needs)
     take-mutex-requires
+    (λ c. search needs)
     returns
     returns-2
     returns-3
-    returns-4)
+    returns-4
+    returns-5)

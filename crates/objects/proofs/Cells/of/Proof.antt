@@ -1,4 +1,5 @@
 use borrow.Author.Needs.{needs}
+use mathlib.Core.Path.{_∙_}
 use Rattle.objects.proofs.Cells.of.Statement.{statement}
 use Rattle.objects.proofs.Cells.of.Tie as tie
 
@@ -17,6 +18,9 @@ returns-4 c = rw (c .before .before .before .before .k2 .given .1, c .before .en
 returns-5 : tie.Need-returns-5
 returns-5 c = rw (c .before .before .before .before .before .k2 .given .1, c .before .before .h .given .1) (c .mutex2 .ensures)
 
+returns-6 : tie.Need-returns-6
+returns-6 c = rw (c .before .before .before .k3 .given .1) (c .group .ensures ∙ rw (c .before .four-bytes .ensures))
+
 pub of-spec : {M : Type 1} → statement M
 of-spec =
     tie.close
@@ -31,8 +35,12 @@ of-spec =
     (λ c κs. search needs)
     (λ c. search needs)
     (λ c κs. search needs)
+    (λ c. search needs)
+    (λ c κs. search needs)
+    (λ c κs. search needs)
     returns
     returns-2
     returns-3
     returns-4
-    returns-5)
+    returns-5
+    returns-6)

@@ -11,7 +11,7 @@ use Rattle.objects.proofs.Objects.holding.Statement.{statement}
 use Rattle.objects.proofs.Objects.holding.Tie as tie
 
 abbrev Inv-loop : tie.InvT-loop
-Inv-loop state n₀ i₀ n i = Upto (λ m j. m + (if leb 5 (getD state j 0) then 1 else 0)) 0 n i × (i ≤ 16) × (n ≤ i)
+Inv-loop state n₀ i₀ n i = Upto (λ m j. m + (if leb 6 (getD state j 0) then 1 else 0)) 0 n i × (i ≤ 16) × (n ≤ i)
 
 abbrev μ-loop : tie.MeasureT-loop
 μ-loop state n₀ i₀ n i = 16 - i
@@ -20,11 +20,11 @@ loop-holds : tie.Need-loop-holds Inv-loop μ-loop
 loop-holds c = (start, search needs, search needs)
 
 add-n : tie.Need-add-n Inv-loop μ-loop
-add-n c = omega (arith, one-few (leb 5 (getD (c .before .before .before .before .args .self .state) (c .before .before .loop .i) 0)) (c .one-if .ensures))
+add-n c = omega (arith, one-few (leb 6 (getD (c .before .before .before .before .args .self .state) (c .before .before .loop .i) 0)) (c .one-if .ensures))
 
 loop-again : tie.Need-loop-again Inv-loop μ-loop
 loop-again c =
-    let few = one-few (leb 5 (getD (c .before .before .before .before .args .self .state) (c .before .before .loop .i) 0)) (c .one-if .ensures) in
+    let few = one-few (leb 6 (getD (c .before .before .before .before .args .self .state) (c .before .before .loop .i) 0)) (c .one-if .ensures) in
     (next (c .before .before .loop .inv .0) (rw (c .one-if .ensures)), search needs, omega arith)
 
 returns : tie.Need-returns Inv-loop μ-loop

@@ -11,7 +11,7 @@ use Rattle.objects.proofs.Objects.holds.Statement.{statement}
 use Rattle.objects.proofs.Objects.holds.Tie as tie
 
 abbrev Inv-loop : tie.InvT-loop
-Inv-loop t state holder found₀ i₀ found i = Upto (λ b j. b || (leb 5 (getD state j 0) && eqb (getD holder j 0) (t .0))) false found i × (i ≤ 16)
+Inv-loop t state holder found₀ i₀ found i = Upto (λ b j. b || (leb 6 (getD state j 0) && eqb (getD holder j 0) (t .0))) false found i × (i ≤ 16)
 
 abbrev μ-loop : tie.MeasureT-loop
 μ-loop t state holder found₀ i₀ found i = 16 - i

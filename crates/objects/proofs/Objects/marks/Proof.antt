@@ -1,63 +1,25 @@
 use borrow.Author.Needs.{needs}
-use Prim.Native.Nat.{ℕ, _*_, _-_, _≤_, min}
+use Prim.Native.Nat.{_*_, min}
+use mathlib.Core.Path.{_≡_, refl, sym, _∙_}
 use Rattle.lists.proofs.Loops.{start}
 use Rattle.objects.proofs.Columns.{Full}
-use Rattle.objects.proofs.Fines.{Marked, holding, mark-next, marks-end, holders-end}
-use Rattle.slots.proofs.Sweeps.{Filled, fill-begin, fill-turn}
+use Rattle.objects.proofs.Fines.{marks-end, holders-end}
 use Rattle.objects.specs.Fine.{holdingIn}
-use lib.ListN.{set}
-use mathlib.Core.Bool.{true}
-use mathlib.Core.Logic.{⊎-elim}
-use mathlib.Core.Path.{_≡_, refl, sym, ap, _∙_}
-use native.Mathlib.Omega.{arith}
-use lib.Seq.{set-out as set-past}
+use Rattle.slots.proofs.Sweeps.{fill-begin}
 use Rattle.objects.proofs.Objects.marks.Statement.{statement}
 use Rattle.objects.proofs.Objects.marks.Tie as tie
 
-abbrev Inv-loop : tie.InvT-loop
-Inv-loop state whom n held₀ by₀ i₀ held by i = Marked state whom held₀ held i × (i ≤ n) × Filled (holding state whom) 16 by i × (i ≡ 0 → by ≡ by₀)
-
-abbrev μ-loop : tie.MeasureT-loop
-μ-loop state whom n held₀ by₀ i₀ held by i = n - i
-
-loop-holds : tie.Need-loop-holds Inv-loop μ-loop
-loop-holds c = (record { upto = start; wide = refl }, search needs, fill-begin refl, λ e. refl)
-
-loop-again : tie.Need-loop-again Inv-loop μ-loop
-loop-again c =
-    let l = c .before .before .before .loop in
-    let h = c .before .holder .result in
-    let r = ap (λ (m : ℕ). set (l .held) m true) (c .before .holder .ensures) in (
-      mark-next (l .inv .0) (⊎-elim (λ v. v .1 ∙ r) (λ v. v .1 ∙ sym (set-past (l .held) h true (omega (arith, v .0 .left, l .inv .0 .wide))) ∙ r) (c .if1 .came)),
-      search needs,
-      fill-turn (l .inv .2) (search needs) _ (c .before .holder .ensures),
-      λ e. absurd (omega arith),
-    )
-
-returns : tie.Need-returns Inv-loop μ-loop
+returns : tie.Need-returns
 returns c =
-    let os = c .before .before .before .before .before .before .args .self in
+    let bound = c .before in
+    let os = bound .before .before .args .self in
     let f : Full os = search needs in
-    let e : c .before .loop .i ≡ c .before .before .bound .result = omega arith in
-    let q : c .before .loop .i ≡ min 16 (16 * holdingIn os) = e ∙ c .before .before .bound .ensures ∙ rw (c .before .before .before .holding .ensures) in
-    record { marks = marks-end os f (c .before .loop .inv .0) q; by = holders-end os f (c .before .loop .inv .2) (c .before .loop .inv .3) q }
+    let q : 0 ≡ min 16 (16 * holdingIn os) = sym (c .if1 .taken) ∙ bound .bound .ensures ∙ rw (bound .before .holding .ensures) in
+    record { marks = marks-end os f (record { upto = start; wide = refl }) q; by = holders-end os f (fill-begin refl) (λ e. refl) q }
+
+marked-requires : tie.Need-marked-requires
+marked-requires c κs = c .before .bound .ensures ∙ rw (c .before .before .holding .ensures)
 
 pub marks-spec : {M : Type 1} → statement M
 marks-spec =
-    tie.close
-    (tie.spec
-    Inv-loop
-    μ-loop
-    (λ c κs. search needs)
-    (λ c κs. search needs)
-    loop-holds
-    (λ c. search needs)
-    (λ c. search needs)
-    (λ c κs. search needs)
-    (λ c. search needs)
-    (λ c. search needs)
-    (λ c. search needs)
-    (λ c. search needs)
-    (λ c. search needs)
-    loop-again
-    returns)
+    tie.close (tie.spec (λ c κs. search needs) (λ c κs. search needs) returns marked-requires (λ c. search needs))

@@ -10,7 +10,7 @@ use Rattle.objects.proofs.Objects.takes.Statement.{statement}
 use Rattle.objects.proofs.Objects.takes.Tie as tie
 
 abbrev Inv-loop : tie.InvT-loop
-Inv-loop state out₀ i₀ out i = Filled (λ j. leb 5 (getD state j 0)) false out i × (i ≤ 16)
+Inv-loop state out₀ i₀ out i = Filled (λ j. leb 6 (getD state j 0)) false out i × (i ≤ 16)
 
 abbrev μ-loop : tie.MeasureT-loop
 μ-loop state out₀ i₀ out i = 16 - i

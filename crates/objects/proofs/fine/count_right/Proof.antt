@@ -10,7 +10,7 @@ returns : tie.Need-returns
 returns c = rw (c .if1 .taken, le-leb (c .before .args .k) 255 (omega arith), and-true)
 
 returns-2 : tie.Need-returns-2
-returns-2 c = rw (ne-eqb (c .before .before .args .s) 6 (c .before .if1 .left)) (c .either .ensures)
+returns-2 c = rw (ne-eqb (c .before .before .args .s) 7 (c .before .if1 .left)) (c .either .ensures)
 
 pub count-right-spec : {M : Type 1} → statement M
 count-right-spec = tie.close (tie.spec returns (λ c κs. search needs) returns-2)

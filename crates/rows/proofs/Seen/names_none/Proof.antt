@@ -23,6 +23,10 @@ returns-5 : tie.Need-returns-5
 unfolding namesNone
 returns-5 c = rw (c .before .enum-told5 .given .1, c .is-mutex .ensures)
 
+returns-6 : tie.Need-returns-6
+unfolding namesNone
+returns-6 c = rw (c .before .enum-told6 .given .1, c .is-group .ensures)
+
 pub names-none-spec : {M : Type 1} → statement M
 names-none-spec =
     tie.close
@@ -36,8 +40,11 @@ names-none-spec =
     (λ c κs. search needs)
     (λ c. search needs)
     (λ c κs. search needs)
+    (λ c. search needs)
+    (λ c κs. search needs)
     returns
     returns-2
     returns-3
     returns-4
-    returns-5)
+    returns-5
+    returns-6)

@@ -41,8 +41,8 @@ returns-6 c =
     rw (le-ltb _ _ (n .before .before .before .if1 .left), lt-leb _ _ (n .before .if2 .left), ← n .not-so-many .ensures, c .before .before .before .if3 .left)
     (rw (le-ltb _ _ (c .before .before .if4 .left), le-ltb _ _ (c .before .if5 .left), lt-ltb _ _ (c .if6 .taken)))
 
-mul-result : tie.Need-mul-result
-mul-result c =
+mul-if7 : tie.Need-mul-if7
+mul-if7 c =
     let a = c .before .before .before .before .before .before .before .before .before .args in
     let p : a .a .capacity * a .a .size ≤ 64 * 64 = mul-le-mul {n₂ = 64} {m₂ = 64} (omega arith) (omega arith) in
     record { fits = omega arith }
@@ -50,10 +50,30 @@ mul-result c =
 returns-7 : tie.Need-returns-7
 unfolding outOfRange
 returns-7 c =
-    let n = c .before .before .before .before in
-    rw (le-ltb _ _ (n .before .before .before .if1 .left), lt-leb _ _ (n .before .if2 .left), ← n .not-so-many .ensures, c .before .before .before .if3 .left)
-    (rw (le-ltb _ _ (c .before .before .if4 .left), le-ltb _ _ (c .before .if5 .left), le-ltb _ _ (c .if6 .left)))
+    let n = c .before .before .before .before .before in
+    rw (le-ltb _ _ (n .before .before .before .if1 .left), lt-leb _ _ (n .before .if2 .left), ← n .not-so-many .ensures, c .before .before .before .before .if3 .left)
+    (rw (le-ltb _ _ (c .before .before .before .if4 .left), le-ltb _ _ (c .before .before .if5 .left), le-ltb _ _ (c .before .if6 .left), lt-ltb _ _ (c .if7 .taken)))
+
+returns-8 : tie.Need-returns-8
+unfolding outOfRange
+returns-8 c =
+    let n = c .before .before .before .before .before .before in
+    let u = c .before .before in
+    rw (le-ltb _ _ (n .before .before .before .if1 .left), lt-leb _ _ (n .before .if2 .left), ← n .not-so-many .ensures, u .before .before .before .if3 .left)
+    (rw (le-ltb _ _ (u .before .before .if4 .left), le-ltb _ _ (u .before .if5 .left), le-ltb _ _ (u .if6 .left), le-ltb _ _ (c .before .if7 .left)) (c .no-such-bits .ensures))
 
 pub out-of-range-spec : {M : Type 1} → statement M
 out-of-range-spec =
-    tie.close (tie.spec returns returns-2 (λ c κs. search needs) returns-3 returns-4 returns-5 returns-6 mul-result returns-7)
+    tie.close
+    (tie.spec
+    returns
+    returns-2
+    (λ c κs. search needs)
+    returns-3
+    returns-4
+    returns-5
+    returns-6
+    mul-if7
+    returns-7
+    (λ c κs. search needs)
+    returns-8)

@@ -19,4 +19,6 @@ recursive-by-spec =
     (λ c. search needs)
     (λ c. search needs)
     (λ c. search needs)
-    returns-4)
+    (λ c. search needs)
+    returns-4
+    (λ c. search needs))

@@ -4,6 +4,7 @@ use Rattle.lists.proofs.Loops.{length-mapped, Skipped, skip-none, skip, met, me
 use Rattle.numbers.specs.Numbers.{idle, task}
 use Rattle.order.specs.Order.{listed}
 use Rattle.tasks.proofs.Columns.{Full}
+use Rattle.tasks.proofs.Lengths.{full-of}
 use Rattle.tasks.proofs.WalkTurns.{isLevel, line-is, level-at, level-past}
 use Rattle.tasks.specs.Walks.{headOr}
 use lib.ListN.{length, getD}
@@ -44,7 +45,7 @@ loop-again : tie.Need-loop-again Inv-loop μ-loop
 loop-again c =
     let a = c .before .before .before .before .before .before .before .before .before .args in
     let ts = a .self in
-    let f : Full ts = search needs in
+    let f : Full ts = search full-of in
     let l = c .before .before .before .before .loop in
     let s = c .before .slot in
     let p = a .p in

@@ -12,20 +12,20 @@ use Rattle.tasks.proofs.Tasks.levelled.Statement.{statement}
 use Rattle.tasks.proofs.Tasks.levelled.Tie as tie
 
 abbrev Inv-loop : tie.InvT-loop
-Inv-loop r levels state object wake own effective₀ outcome order₀ i₀ effective order i =
-    Upto (levelIn r levels) (woken (columns state object wake own effective₀ outcome) order₀) (woken (columns state object wake own effective outcome) order) i × (i ≤ 16)
+Inv-loop r levels state object wake wants own effective₀ outcome order₀ i₀ effective order i =
+    Upto (levelIn r levels) (woken (columns state object wake wants own effective₀ outcome) order₀) (woken (columns state object wake wants own effective outcome) order) i × (i ≤ 16)
 
 abbrev μ-loop : tie.MeasureT-loop
-μ-loop r levels state object wake own effective₀ outcome order₀ i₀ effective order i = 16 - i
+μ-loop r levels state object wake wants own effective₀ outcome order₀ i₀ effective order i = 16 - i
 
 loop-holds : tie.Need-loop-holds Inv-loop μ-loop
 loop-holds c = (start, search needs)
 
 loop-again : tie.Need-loop-again Inv-loop μ-loop
 loop-again c =
-    let a = c .before .before .before .before .before .before .before .before .before .args in
+    let a = c .before .before .before .before .before .before .before .before .before .before .args in
     let l = c .before .before .loop in
-    let ts = columns (a .self .state) (a .self .object) (a .self .wake) (a .self .own) (l .effective) (a .self .outcome) in (
+    let ts = columns (a .self .state) (a .self .object) (a .self .wake) (a .self .wants) (a .self .own) (l .effective) (a .self .outcome) in (
       next (l .inv .0)
           (⊎-elim (λ v. levelled-alike (v .4) (v .5) ∙ level-moves (a .r) (a .t3) ts (l .order) (l .i) (v .0 .taken) (v .1 .taken) (rw (v .2 .ensures) at (v .3 .ensures)))
           (⊎-elim (λ v. levelled-alike (v .2) (v .3) ∙ level-stays (a .r) (a .t3) ts (l .order) (l .i) (v .0 .taken) (v .1 .left))

@@ -1,5 +1,6 @@
 use borrow.Author.Needs.{needs}
 use Rattle.tasks.proofs.Columns.{Full, rows-many}
+use Rattle.tasks.proofs.Lengths.{full-of}
 use Rattle.tasks.proofs.Worked.{levels-end, ended-end}
 use mathlib.Core.Path.{_∙_}
 use Rattle.tasks.proofs.Tasks.levels.Statement.{statement}
@@ -9,7 +10,7 @@ returns : tie.Need-returns
 returns c =
     let o = c .before .before .before in
     let a = o .args in
-    let f : Full (a .self) = search needs in
+    let f : Full (a .self) = search full-of in
     record {
       many = rows-many (a .self) ∙ f .states;
       said = c .levels .ensures .0 ∙ rw (c .before .ontos .ensures .said) (levels-end (a .self) f (a .by) (a .n) (o .pre));

@@ -6,6 +6,7 @@ use Rattle.order.specs.Order.{listed}
 use Rattle.order.proofs.Halves.{reach-listed}
 use Rattle.order.proofs.Orders.{none-yet, fold-kept}
 use Rattle.tasks.proofs.Columns.{Full}
+use Rattle.tasks.proofs.Lengths.{full-of}
 use Rattle.tasks.proofs.WalkTurns.{isLevel, lineStep, line-is, level-at, line-joins, level-past}
 use lib.ListN.{length, getD}
 use mathlib.Core.List.{[]}
@@ -42,7 +43,7 @@ loop-again : tie.Need-loop-again Inv-loop μ-loop
 loop-again c =
     let a = c .before .before .before .before .before .before .before .before .before .before .before .before .args in
     let ts = a .self in
-    let f : Full ts = search needs in
+    let f : Full ts = search full-of in
     let l = c .before .before .before .before .loop in
     let t = getD (a .o .places) (l .i) idle in
     let s = c .before .slot in

@@ -5,6 +5,7 @@ use Rattle.numbers.specs.Numbers.{idle}
 use Rattle.order.specs.Order.{listed}
 use Rattle.order.proofs.Halves.{reach-listed}
 use Rattle.tasks.proofs.Columns.{Full}
+use Rattle.tasks.proofs.Lengths.{full-of}
 use Rattle.tasks.proofs.WalkTurns.{linesStep, lines-is, lines-at, lines-past}
 use lib.ListN.{length, getD}
 use mathlib.Core.Logic.{⊎-elim}
@@ -28,7 +29,7 @@ loop-again : tie.Need-loop-again Inv-loop μ-loop
 loop-again c =
     let a = c .before .before .before .before .before .before .before .before .before .before .args in
     let ts = a .self in
-    let f : Full ts = search needs in
+    let f : Full ts = search full-of in
     let l = c .before .before .before .before .loop in
     let t = getD (a .o .places) (l .i) idle in
     let s = c .before .slot in

@@ -4,6 +4,7 @@ use Rattle.lists.specs.Choice.{if_then_else_}
 use Rattle.slots.proofs.Sweeps.{Filled, fill-begin, fill-turn}
 use Rattle.tasks.specs.Known.{waitsState}
 use Rattle.tasks.proofs.Columns.{Full}
+use Rattle.tasks.proofs.Lengths.{full-of}
 use Rattle.tasks.proofs.Worked.{ontos-end}
 use lib.ListN.{getD}
 use mathlib.Core.Path.{_≡_, refl}
@@ -27,7 +28,7 @@ loop-again c = (fill-turn (c .before .before .loop .inv .0) (search needs) _ (c 
 returns : tie.Need-returns Inv-loop μ-loop
 returns c =
     let o = c .before .before .before .before in
-    let f : Full (o .args .self) = search needs in
+    let f : Full (o .args .self) = search full-of in
     let e : c .before .loop .i ≡ o .args .n = omega arith in
     record { said = ontos-end (o .args .self) f [] (o .args .n) (o .pre) e (c .before .loop .inv .0) (c .before .loop .inv .2) }
 

@@ -6,6 +6,7 @@ use lib.Dec.{ltb}
 use Rattle.chains.specs.Chains.{within}
 use Rattle.tasks.specs.Loans.{reachesIn}
 use Rattle.tasks.proofs.Columns.{Full}
+use Rattle.tasks.proofs.Lengths.{full-of}
 use Rattle.tasks.proofs.Worked.{next-is}
 use Rattle.tasks.proofs.Tasks.reaches.Statement.{statement}
 use Rattle.tasks.proofs.Tasks.reaches.Tie as tie
@@ -17,7 +18,7 @@ returns : tie.Need-returns
 unfolding reachesIn
 returns c =
     let a = c .before .before .before .before .before .args in
-    let f : Full (a .self) = search needs in
+    let f : Full (a .self) = search full-of in
     c .reaches .ensures
     ∙ rw (c .before .slot .ensures, c .before .before .ontos .ensures .said)
     (ap (λ (next : ℕ → ℕ). ltb (a .u .0) 16 && within next 16 (a .h .0) (a .u .0)) (next-is (a .self) f (a .by)))

@@ -2,6 +2,7 @@ use borrow.Author.Needs.{needs}
 use Prim.Native.Nat.{_-_, _≤_}
 use Rattle.lists.proofs.Loops.{Upto, start, next, ended, found}
 use Rattle.tasks.proofs.Columns.{Full}
+use Rattle.tasks.proofs.Lengths.{full-of}
 use Rattle.tasks.proofs.WalkTurns.{now-is}
 use lib.Dec.{eqb}
 use lib.ListN.{getD}
@@ -27,7 +28,7 @@ returns : tie.Need-returns Inv-loop μ-loop
 returns c =
     let a = c .before .before .before .args in
     let ts = a .self in
-    let f : Full ts = search needs in
+    let f : Full ts = search full-of in
     ended (c .before .loop .inv .0) 16 (omega arith) ∙ now-is ts f (a .now)
 
 pub someone-due-spec : {M : Type 1} → statement M

@@ -4,6 +4,7 @@ use Rattle.lists.proofs.Loops.{Upto, start, next, ended}
 use Rattle.lists.specs.Choice.{if_then_else_}
 use Rattle.slots.specs.Places.{ahead}
 use Rattle.tasks.proofs.Columns.{Full}
+use Rattle.tasks.proofs.Lengths.{full-of}
 use Rattle.tasks.proofs.WalkTurns.{until-is}
 use Rattle.tasks.specs.Dues.{timed}
 use lib.ListN.{getD}
@@ -28,7 +29,7 @@ returns : tie.Need-returns Inv-loop μ-loop
 returns c =
     let a = c .before .before .before .before .args in
     let ts = a .self in
-    let f : Full ts = search needs in
+    let f : Full ts = search full-of in
     ended (c .before .loop .inv .0) 16 (omega arith) ∙ until-is ts f (a .now)
 
 pub until-due-spec : {M : Type 1} → statement M

@@ -1,70 +1,19 @@
 use borrow.Author.Needs.{needs}
-use Prim.Native.Nat.{_-_, _≤_}
-use Rattle.lists.proofs.Loops.{Held, all-begin, all-turn}
-use Rattle.numbers.specs.Numbers.{object}
-use Rattle.tasks.proofs.Fines.{waitNumber, wait-fits, wait-past, wait-not, waits-end}
-use mathlib.Core.Bool.{true}
-use mathlib.Core.Logic.{⊎-elim}
-use mathlib.Core.Path.{_≡_, refl, sym, _∙_}
-use native.Mathlib.Omega.{arith}
+use mathlib.Core.Path.{refl, sym, _∙_}
+use Rattle.lists.proofs.Loops.{all-begin}
+use Rattle.tasks.proofs.Fines.{waits-end}
 use Rattle.tasks.proofs.Tasks.waits_fine.Statement.{statement}
 use Rattle.tasks.proofs.Tasks.waits_fine.Tie as tie
 
-abbrev Inv-loop : tie.InvT-loop
-Inv-loop opens takes holder state object n ok₀ i₀ ok i = Held (waitNumber state object opens takes holder) true ok i × (i ≤ n)
-
-abbrev μ-loop : tie.MeasureT-loop
-μ-loop opens takes holder state object n ok₀ i₀ ok i = n - i
-
-loop-holds : tie.Need-loop-holds Inv-loop μ-loop
-loop-holds c = (all-begin refl, search needs)
-
-loop-again : tie.Need-loop-again Inv-loop μ-loop
-loop-again c =
-    let a = c .before .before .before .before .before .before .before .before .args in
-    let ts = a .self in
-    let opens = a .t2 in
-    let takes = a .t3 in
-    let holder = a .t4 in
-    let l = c .before .before .before .loop in
-    let w = sym (c .before .waits .ensures) in (
-      all-turn (l .inv .0) (⊎-elim
-          (λ v. v .7 ∙ v .6 .ensures ∙ rw (v .5 .ensures, v .4 .ensures, v .3 .ensures)
-          (wait-fits (ts .state) (ts .object) opens takes holder (l .i) (v .1 .result) (v .1 .ensures) (l .ok) (w ∙ v .0 .taken) (v .2 .taken)))
-          (⊎-elim
-          (λ v. v .3 ∙ wait-past (ts .state) (ts .object) opens takes holder (l .i) (v .1 .result) (v .1 .ensures) (l .ok) (w ∙ v .0 .taken) (omega (arith, v .2 .left)))
-          (λ v. v .1 ∙ wait-not (ts .state) (ts .object) opens takes holder (l .i) (l .ok) (w ∙ v .0 .left)))
-          (c .if1 .came)),
-      search needs,
-    )
-
-returns : tie.Need-returns Inv-loop μ-loop
+returns : tie.Need-returns
 returns c =
-    let a = c .before .before .before .before .before .before .args in
-    let e : c .before .loop .i ≡ c .before .before .bound .result = omega arith in
-    waits-end (a .self) (a .t2) (a .t3) (a .t4) (c .before .loop .inv .0) (e ∙ c .before .before .bound .ensures ∙ rw (c .before .before .before .waiting .ensures))
+    let bound = c .before in
+    let a = bound .before .before .args in
+    waits-end (a .self) (a .opens) (a .takes) (a .holder) (all-begin refl) (sym (c .if1 .taken) ∙ bound .bound .ensures ∙ rw (bound .before .waiting .ensures))
+
+turns-fine-requires : tie.Need-turns-fine-requires
+turns-fine-requires c κs = c .before .bound .ensures ∙ rw (c .before .before .waiting .ensures)
 
 pub waits-fine-spec : {M : Type 1} → statement M
 waits-fine-spec =
-    tie.close
-    (tie.spec
-    Inv-loop
-    μ-loop
-    (λ c κs. search needs)
-    (λ c κs. search needs)
-    loop-holds
-    (λ c. search needs)
-    (λ c κs. search needs)
-    (λ c. search needs)
-    (λ c κs. search needs)
-    (λ c. search needs)
-    (λ c. search needs)
-    (λ c κs. search needs)
-    (λ c κs. search needs)
-    (λ c. search needs)
-    (λ c κs. search needs)
-    (λ c κs. search needs)
-    (λ c. search needs)
-    (λ c. search needs)
-    loop-again
-    returns)
+    tie.close (tie.spec (λ c κs. search needs) (λ c κs. search needs) returns turns-fine-requires (λ c. search needs))
