@@ -49,7 +49,7 @@ use Rattle.claims.proofs.Values.{test-says, says-test, full-stands}
 use Rattle.claims.proofs.Exact.{step-exactly, accepted-so, unsound-stays}
 use Rattle.claims.proofs.Lending.{rule-of-value, afresh-of-value, step-none-lent}
 use Rattle.claims.proofs.Recursion.{ordinary-on, makes-on, takes-on, gives-on, ordinary-stays, calls-count, calls-give, session-counts}
-use Rattle.claims.proofs.Events.{makes-on as makes-group-on, sets-on, clears-on, awaits-on, set-comes-to, told-on, in-any-order, no-group-on}
+use Rattle.claims.proofs.Events.{makes-on as makes-group-on, sets-on, clears-on, awaits-on, set-comes-to, told-on, slip-kept-on, in-any-order, no-group-on}
 use Rattle.claims.proofs.Events.{stand-unsatisfied, calls-unsatisfied, lines-unsatisfied, session-unsatisfied}
 use Rattle.claims.proofs.Standstill.{take-exactly, calls-make-none, lines-make-none, session-makes-none, circle-not-sound}
 use Rattle.claims.proofs.Unique.{line-so}
@@ -186,6 +186,7 @@ several-at-once =
       any-order = in-any-order;
       nobody-met = λ k. nobody-met-so (shown k);
       told-at-once = λ k e n b m all clear w H A M q item s z r after g. told-on k e item s r after z n b H m all clear w g A M q;
+      slip-kept = slip-kept-on;
       unsatisfied = stand-unsatisfied;
       calls-unsatisfied = calls-unsatisfied;
       lines-unsatisfied = lines-unsatisfied;

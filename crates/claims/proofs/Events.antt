@@ -31,15 +31,16 @@ use Rattle.promises.specs.History.{reached}
 use Rattle.promises.specs.Program.{answering}
 use Rattle.promises.specs.Turns.{Turn}
 use Rattle.promises.specs.Reached.{programCalls}
-use Rattle.promises.specs.EventGroups.{SlipTold, SetTells, SameTasks, AnyOrder, HasBits, MakesGroup, SetsBits, ClearsBits, Accepts, MayAsk, AwaitsBits}
+use Rattle.promises.specs.EventGroups.{SlipTold, SlipKept, SetTells, SameTasks, AnyOrder, HasBits, MakesGroup, SetsBits, ClearsBits, Accepts, MayAsk, AwaitsBits}
 use Rattle.promises.proofs.Histories.{reached-sound}
 use Rattle.promises.proofs.Reaches.{program-reached}
 use Rattle.promises.proofs.EventSets.{set-wakes-so}
 use Rattle.promises.proofs.EventOrder.{any-order}
 use Rattle.promises.proofs.EventTells.{slip-told-so, set-tells-so}
+use Rattle.promises.proofs.SlipKept.{slip-kept}
 use Rattle.promises.proofs.EventGroups.{makes-group-so, sets-bits-so, clears-bits-so, awaits-so}
 use Rattle.claims.specs.Types.{TaskSlot, ObjSlot, Call, MakeGroup, SetBits, ClearBits, Await, Want, Bits, Kind, Group, State, Kernel, Step}
-use Rattle.claims.specs.Exact.{shownStep}
+use Rattle.claims.specs.Exact.{shownStep, behind}
 use Rattle.claims.specs.Runs.{Called, Port, Turned, freshPort}
 use Rattle.claims.specs.Events.{SetComesTo, Unsatisfied, StandUnsatisfied, NoGroup, OnGroup, a-set, a-clear, a-wait}
 use Rattle.claims.proofs.Values.{says-test}
@@ -87,6 +88,10 @@ module _ (k : Kernel) (e : sound (shown k) ≡ true) (item store : List ℕ) (r 
           go : (y : Bool) → eqb clear 0 ≡ y → after ≡ slipBits b (shown k .running) store
           go true z = ap (λ (x : Stepped). x .store) (awaits-on .kept-at-once A M q (eqb-true clear 0 z))
           go false z = ap (λ (x : Stepped). x .store) (awaits-on .cleared-at-once A M q (omega (arith, eqb-false clear 0 z, A .clear-flag)))
+
+-- of a step of any value
+pub slip-kept-on : (k : Kernel) (c : Call) (item store : List ℕ) (r : Step) (after : List ℕ) → Steps k c item store r after → SlipKept (shown k) (behind k c) store after
+slip-kept-on k c item store r after g = subst (SlipKept (shown k) (behind k c) store) (sym (g .store)) (slip-kept (shown k) c item store)
 
 pub in-any-order : (k : Kernel) → sound (shown k) ≡ true → (o : ObjSlot) (b : ℕ) (q : List TaskSlot) → SameTasks q (those (shown k .tasks) (WaitersOf o) (listed (shown k .order)))
     → AnyOrder (shown k) o b q

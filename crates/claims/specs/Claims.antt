@@ -49,7 +49,7 @@ use Rattle.promises.specs.Reached.{programCalls}
 use Rattle.promises.specs.Circles.{CirclesExactly, ChainEnds}
 use Rattle.promises.specs.Recursive.{MakesRecursive, HasOf, Has, TakesAgain, KeepsTwelve, GivesBack, AsOrdinary}
 use Rattle.promises.specs.WholeRound.{wholeRound}
-use Rattle.promises.specs.EventGroups.{SatisfiedSays, isSatisfied, SlipTold, SameTasks, AnyOrder, NobodyMet, HasBits, MakesGroup, SetsBits, ClearsBits, Accepts, MayAsk, AwaitsBits}
+use Rattle.promises.specs.EventGroups.{SatisfiedSays, isSatisfied, SlipTold, SlipKept, SameTasks, AnyOrder, NobodyMet, HasBits, MakesGroup, SetsBits, ClearsBits, Accepts, MayAsk, AwaitsBits}
 use Rattle.promises.specs.EventCases.{eventCases}
 use Rattle.promises.specs.Wrong.{found, verdict}
 use Rattle.promises.specs.WrongEvents.{eventMistakes}
@@ -63,7 +63,7 @@ use Rattle.histories.specs.Earlier.{EachBegan, Earlier, WokenInOrder}
 use Rattle.histories.specs.Again.{namesTask, namesObject, momentFrom, madeTask, madeObject}
 use Rattle.claims.specs.Types.{TaskSlot, ObjSlot, TaskNo, Call, Take, Give, Advance, MakeRecursive, MakeGroup, SetBits, ClearBits, Await, Answer, Asked, Ordinary, Group, Read, Says, Written, Count, State, Kernel, Sleep, Step, Session, Served}
 use Rattle.claims.specs.Values.{SoundValue, Full, Stands}
-use Rattle.claims.specs.Exact.{shownStep, ValueRefused, ValueAccepted, tableFor, ValueExactly}
+use Rattle.claims.specs.Exact.{shownStep, behind, ValueRefused, ValueAccepted, tableFor, ValueExactly}
 use Rattle.claims.specs.Runs.{Called, Port, servedTo, Turned, freshPort, portOutcome, CameTo}
 use Rattle.claims.specs.Events.{SetComesTo, StandUnsatisfied, NoGroup, OnGroup}
 
@@ -286,6 +286,8 @@ pub record SeveralAtOnce : Type 0 where
   pub told-at-once : (k : Kernel) → sound (shown k) ≡ true → (n : ObjNo) (b m all clear w : ℕ) → HasBits (shown k) n b → Accepts m all clear → MayAsk (shown k) w
       → holdsOf b m (eqb all 1) ≡ true → (item store : List ℕ) → length store ≡ 9216
       → (r : Step) (after : List ℕ) → Steps k (Await n m all clear w) item store r after → SlipTold (shown k .running) b store after
+  -- "A timeout or a broken-off wait leaves the slip as it was": so does every call, of any value and with any store, but for the set that satisfies the task
+  pub slip-kept : (k : Kernel) (c : Call) (item store : List ℕ) (r : Step) (after : List ℕ) → Steps k c item store r after → SlipKept (shown k) (behind k c) store after
   -- "Waiters stand only where unsatisfied, with a mask and flags that the call accepts": in every sound value; so after any calls, refused ones among them, after every line of
   -- every journal, and at any time of a session
   pub unsatisfied : (k : Kernel) → sound (shown k) ≡ true → StandUnsatisfied (shown k)

@@ -56,7 +56,7 @@ use Rattle.promises.proofs.Recursive.{once-at-least, gives-back-so}
 use Rattle.promises.proofs.Reaches.{program-reached}
 use Rattle.promises.specs.Reached.{programCalls}
 use Rattle.promises.specs.Program.{answering}
-use Rattle.histories.specs.Types.{TaskSlot, ObjSlot, Want, Turn, Ready, WaitersOf, Ring, Holder, Nobody, By, Sort, Ordinary, Recursive, Kind, Unused, SpentObject, Queue, Mutex, Group, Object, State}
+use Rattle.histories.specs.Types.{TaskSlot, ObjSlot, Want, OwnTurn, Ready, WaitersOf, Ring, Holder, Nobody, By, Sort, Ordinary, Recursive, Kind, Unused, SpentObject, Queue, Mutex, Group, Object, State}
 use Rattle.histories.specs.Types.{Call, Create, Delete, Suspend, Resume, SetPriority, Delay, Yield, Hold, Release, MakeQueue, MakeMutex, Remove, Send, Receive, Take, Give, Tick, Advance, MakeRecursive}
 use Rattle.histories.specs.Types.{MakeGroup, SetBits, ClearBits, Await}
 use Rattle.histories.specs.Moments.{onto}
@@ -91,7 +91,7 @@ module _ (k : State) where
   unfolding received arrives waitFor toTail
   received-still p q w o = go (eqb (q .count) 0) (first k (WaitersOf p))
     where
-      go : (b : Bool) (l : List TaskSlot) → Still k o (if b then waitFor k p Turn w else refilledBy k p (oneLess q) l)
+      go : (b : Bool) (l : List TaskSlot) → Still k o (if b then waitFor k p OwnTurn w else refilledBy k p (oneLess q) l)
       go true l = inl refl
       go false [] = unheld-still k p (Queue (oneLess q)) refl o
       go false (t ∷ l) = unheld-still k p (Queue (oneMore (oneLess q))) refl o
@@ -205,7 +205,7 @@ module _ (k : State) (S : Sound k) (t : TaskSlot) (o : ObjSlot) where
           let none = and-false (sameTask caller t) in
           by-take k p (FollowsIn (sameTask caller t && false) false) w (λ m. still-follows k none refl (inl refl)) (λ s q. other-follows p _ e none refl k refl)
           (λ s q. other-follows p _ e none refl k refl)
-          (λ s h q d. still-follows (waitFor k p Turn w) none refl (inl refl))
+          (λ s h q d. still-follows (waitFor k p OwnTurn w) none refl (inl refl))
 
   give-follows : (p : ObjSlot) → hands (kindAt (k .objects) p) ≡ By caller → FollowsIn false (sameTask caller t && sameObject p o) (given k p)
   unfolding arrives toTail

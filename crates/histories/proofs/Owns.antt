@@ -31,7 +31,7 @@ use Rattle.rules.proofs.KeepSlot.{like-before}
 use Rattle.rules.proofs.LoanWorks.{worked-own}
 use Rattle.rules.proofs.KeepTicks.{count-woke}
 use Rattle.rules.proofs.TickJumps.{turned-only, turn-only}
-use Rattle.histories.specs.Types.{TaskSlot, ObjSlot, Want, Turn, Place, Ready, Delayed, Waiting, Task, Ring, WaitersOf, State}
+use Rattle.histories.specs.Types.{TaskSlot, ObjSlot, Want, OwnTurn, Place, Ready, Delayed, Waiting, Task, Ring, WaitersOf, State}
 use Rattle.histories.specs.Types.{Call, Create, Delete, Suspend, Resume, SetPriority, Delay, Yield, Hold, Release, MakeQueue, MakeMutex, Remove, Send, Receive, Take, Give, Tick, Advance, MakeRecursive}
 use Rattle.histories.specs.Types.{MakeGroup, SetBits, ClearBits, Await}
 
@@ -94,14 +94,14 @@ module _ (k : State) where
 
   sent-owns : (o : ObjSlot) (q : Ring) (w : ℕ) → SameOwns k (sent k o q w)
   unfolding sent
-  sent-owns o q w = by-outlet k o q (λ x. SameOwns k (sentBy k o q w x)) (λ t e. arrives-owns t Ready 1) (λ t. refl) (wait-owns o Turn w)
+  sent-owns o q w = by-outlet k o q (λ x. SameOwns k (sentBy k o q w x)) (λ t e. arrives-owns t Ready 1) (λ t. refl) (wait-owns o OwnTurn w)
 
   received-owns : (o : ObjSlot) (q : Ring) (w : ℕ) → SameOwns k (received k o q w)
   unfolding received arrives toTail
   received-owns o q w = go (eqb (q .count) 0) (first k (WaitersOf o))
     where
-      go : (b : Bool) (l : List TaskSlot) → SameOwns k (if b then waitFor k o Turn w else refilledBy k o (oneLess q) l)
-      go true l = wait-owns o Turn w
+      go : (b : Bool) (l : List TaskSlot) → SameOwns k (if b then waitFor k o OwnTurn w else refilledBy k o (oneLess q) l)
+      go true l = wait-owns o OwnTurn w
       go false [] = λ t. refl
       go false (t ∷ l) = arrives-owns t Ready 1
 
@@ -112,7 +112,7 @@ module _ (k : State) where
   receive-owns o w = by-kind (kindAt (k .objects) o) (λ x. SameOwns k (receivedFrom k o x w)) (λ t. refl) (λ t. refl) (λ q e. received-owns o q w) (λ s h e t. refl) (λ b e t. refl)
 
   taken-owns : (o : ObjSlot) (w : ℕ) → SameOwns k (taken k o w)
-  taken-owns o w = by-take k o (SameOwns k) w (λ m t. refl) (λ s e t. refl) (λ s e t. refl) (λ s h e d. wait-owns o Turn w)
+  taken-owns o w = by-take k o (SameOwns k) w (λ m t. refl) (λ s e t. refl) (λ s e t. refl) (λ s h e d. wait-owns o OwnTurn w)
 
   given-owns : (o : ObjSlot) → SameOwns k (given k o)
   given-owns o = by-give k o (SameOwns k) (λ m t. refl) (λ s h e m t. refl) (λ s h e m q t. refl) (λ s h e m u l q. arrives-owns u Ready 1)

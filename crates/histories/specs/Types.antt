@@ -8,7 +8,7 @@ pub use Rattle.calls.specs.declared.Call.the-variants.{Create, Delete, Suspend,
 pub use Rattle.calls.specs.declared.Call.the-variants.{MakeQueue, MakeMutex, Remove, Send, Receive, Take, Give, Tick, Advance, MakeRecursive, MakeGroup, SetBits, ClearBits, Await}
 pub use Rattle.slots.specs.declared.Wake.{Wake}
 pub use Rattle.slots.specs.declared.Want.{Want}
-pub use Rattle.slots.specs.declared.Want.the-variants.{Turn}
+pub use Rattle.slots.specs.declared.Want.the-variants.{OwnTurn}
 pub use Rattle.slots.specs.declared.Place.{Place}
 pub use Rattle.slots.specs.declared.Place.the-variants.{Free, Ready, Delayed, Waiting, Suspended, Spent}
 pub use Rattle.slots.specs.declared.Task.{Task}

@@ -18,11 +18,11 @@ use Rattle.fields.specs.Item.{filled}
 use Rattle.fields.specs.Digit.{among}
 use Rattle.fields.proofs.LinePlaces.{within}
 use Rattle.fields.proofs.Stores.{sets-append}
-use Rattle.journal.specs.Types.{Call, Item, Says, NoCall, Read, Place, Numbers, Shape}
+use Rattle.journal.specs.Types.{Call, Item, Says, NoCall, Read, Place, Shape}
 use Rattle.journal.specs.Line.{lineOf, carries, HasLine}
 use Rattle.journal.specs.Promise.{IsLine, NoLine, ReadsAs}
 use Rattle.journal.specs.Writer.{tabbed, sentText, shapeText}
-use Rattle.journal.specs.Reader.{numberAt, nums, sentAt, endOf, readAs, noCall, readEnd, readSent, readOf}
+use Rattle.journal.specs.Reader.{numberAt, Numbers, nums, sentAt, endOf, readAs, noCall, readEnd, readSent, readOf}
 use Rattle.journal.proofs.LineWords.{frame-line, row-carries, line-frame, item-frame}
 use Rattle.journal.proofs.Fit.{small-append, small-take, small-drop, has-line, line-fits}
 use Rattle.journal.proofs.ReadSteps.{ItemFits, tabbed-stops, sent-stops, tabbed-halts, place-front, place-whole, Listed, nums-front, nums-whole, Sent, sent-front, sent-whole, end-front}

@@ -19,9 +19,9 @@ use Rattle.fields.specs.Item.{byteOf, bytesIn, filled}
 use Rattle.fields.proofs.LinePlaces.{past, within}
 use Rattle.fields.proofs.Digits.{number-front, number-whole, Stops}
 use Rattle.fields.proofs.Pairs.{hex-length, item-front, bytes-fit, bytes-whole, tab-stops}
-use Rattle.journal.specs.Types.{Number, Got, Missing, Item, Place, Numbers}
+use Rattle.journal.specs.Types.{Number, Got, Missing, Item, Place}
 use Rattle.journal.specs.Writer.{tabbed, sentText}
-use Rattle.journal.specs.Reader.{tabIn, afterTab, placeIn, numberAt, nums, sentAt, endOf}
+use Rattle.journal.specs.Reader.{tabIn, afterTab, placeIn, numberAt, Numbers, nums, sentAt, endOf}
 
 -- the item that goes with a shape: 0 to 64 bytes, or none
 abbrev pub ItemFits : Bool → List ℕ → Type 0

@@ -13,7 +13,7 @@ use Rattle.calls.specs.Table.{callOf}
 use Rattle.calls.specs.Words.{noWords, shapeOf}
 use Rattle.fields.specs.Number.{readNumber}
 use Rattle.fields.specs.Item.{readItem}
-use Rattle.journal.specs.Types.{Call, Number, Got, Missing, Item, Says, NoCall, Read, Place, Numbers, Shape}
+use Rattle.journal.specs.Types.{Call, Number, Got, Missing, Item, Says, NoCall, Read, Place, Shape}
 
 -- l is left at a place of a line of n bytes: the place after a tab
 abbrev pub tabIn : ℕ → ℕ → List ℕ → ℕ
@@ -30,9 +30,17 @@ placeIn n Missing = record { value = 0; next = n }
 abbrev pub numberAt : List ℕ → ℕ → Place
 numberAt l at = placeIn (length l) (readNumber at (drop at l))
 
+-- the numbers among a call's arguments, as far as they are read, and the place after them
+pub record Numbers : Type 0 where
+  pub values : List ℕ
+  pub next : ℕ
+
+abbrev pub numbersTo : List ℕ → ℕ → Numbers
+numbersTo vs at = record { values = vs; next = at }
+
 -- k numbers, each after a tab, into the values from i on
 unfoldable pub nums : List ℕ → ℕ → ℕ → List ℕ → ℕ → Numbers
-nums l zero i vs at = record { values = vs; next = at }
+nums l zero i vs at = numbersTo vs at
 nums l (suc k) i vs at = nums l k (i + 1) (set vs i (numberAt l (afterTab l at) .value)) (numberAt l (afterTab l at) .next)
 
 abbrev pub sentAt : List ℕ → ℕ → Bool → Item

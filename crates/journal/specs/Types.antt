@@ -13,4 +13,3 @@ pub use Rattle.journal.specs.declared.Written.the-variants.{Count, Refus
 pub use Rattle.calls.specs.declared.Shape.{Shape}
 pub use Rattle.calls.specs.declared.Frame.{Frame}
 pub use Rattle.journal.specs.declared.reader.Place.{Place}
-pub use Rattle.journal.specs.declared.reader.Numbers.{Numbers}

@@ -3,7 +3,7 @@ ghost use mathlib.Core.Path.{_≡_};
 ghost use Prim.Native.Nat.{_+_, _≤_};
 ghost use lib.ListN.{drop};
 ghost use Rattle.journal.specs.Promise.{ReadsAs};
-ghost use Rattle.journal.specs.Reader.{afterTab, numberAt, nums, sentAt, endOf, noCall};
+ghost use Rattle.journal.specs.Reader.{afterTab, numberAt, numbersTo, nums, sentAt, endOf, noCall};
 use crate::Read;
 use crate::Reading;
 use calls::Call;
@@ -17,12 +17,6 @@ use lists::both;
 // A number and the place after it.
 pub(crate) struct Place {
     pub(crate) value: u32,
-    pub(crate) next: usize,
-}
-
-// The numbers among a call's arguments, as far as they are read.
-pub(crate) struct Numbers {
-    pub(crate) values: [u32; 5],
     pub(crate) next: usize,
 }
 
@@ -52,21 +46,20 @@ fn number_at(line: &[u8], at: usize) -> Place
     }
 }
 
-// A tab and a number for each of `count` values, from the place `from` on.
-fn read_numbers(line: &[u8], at: usize, from: usize, count: usize, values: [u32; 5]) -> Numbers
+// A tab and a number for each of `count` values, from the place `from` on. Answers the place after them.
+fn read_numbers(line: &[u8], at: usize, from: usize, count: usize, values: &mut [u32; 5]) -> usize
     requires { ⌜ from + count ≤ 5 ⌝ }
-    ensures { λ r. ⌜ r ≡ nums (now (line .entry)) count from values at ⌝ }
+    ensures { λ r. ⌜ numbersTo (now (values .exit)) r ≡ nums (now (line .entry)) count from (now (values .entry)) at ⌝ }
 {
-    let mut read = values;
     let mut next = at;
     let mut i: usize = 0;
     while i < count {
         let f = number_at(line, after_tab(line, next));
-        read[from + i] = f.value;
+        values[from + i] = f.value;
         next = f.next;
         i += 1;
     }
-    Numbers { values: read, next }
+    next
 }
 
 // A tab and an item, where there is to be one.
@@ -116,17 +109,16 @@ pub fn read_call(line: &[u8]) -> Read
 {
     let number = number_at(line, 0);
     let shape = Shape::of(number.value);
-    let first = read_numbers(line, number.next, 0, shape.before, [0u32; 5]);
-    let sent = read_sent(line, first.next, shape.item);
-    let v = first.values;
-    let last = read_numbers(line, sent.next, shape.before, shape.after, v);
-    if !both(shape.known, at_end(line, last.next)) {
+    let mut words = [0u32; 5];
+    let first = read_numbers(line, number.next, 0, shape.before, &mut words);
+    let sent = read_sent(line, first, shape.item);
+    let last = read_numbers(line, sent.next, shape.before, shape.after, &mut words);
+    if !both(shape.known, at_end(line, last)) {
         return no_call();
     }
-    let w = last.values;
     let bytes = sent.bytes;
     Read {
-        answer: Reading::Says(Call::of(number.value, w)),
+        answer: Reading::Says(Call::of(number.value, words)),
         item: bytes,
         len: sent.len,
     }

@@ -8,7 +8,7 @@ use borrow.Author.Tests.{eqb-true, eqb-false}
 use Rattle.lists.specs.Lists.{allBelow}
 use Rattle.lists.proofs.Bools.{below-all}
 use Rattle.lists.proofs.Loops.{Held}
-use Rattle.slots.specs.declared.Want.the-variants.{Turn}
+use Rattle.slots.specs.declared.Want.the-variants.{OwnTurn}
 use Rattle.slots.specs.declared.Place.{Place}
 use Rattle.slots.specs.declared.Place.the-variants.{Free, Ready, Delayed, Waiting, Suspended, Spent}
 use Rattle.slots.specs.Wants.{wantIn}
@@ -22,7 +22,7 @@ use Rattle.kernel.specs.Waited.{wantMay, awaitsIn, awaitsAt}
 
 module _ (ts : Tasks) (os : Objects) where
   -- whoever waits for its turn is not asked for bits
-  for-turn : (p : Place) → wantIn p ≡ Turn → awaitsIn os p ≡ true
+  for-turn : (p : Place) → wantIn p ≡ OwnTurn → awaitsIn os p ≡ true
   for-turn Free e = refl
   for-turn Ready e = refl
   for-turn (Delayed w) e = refl

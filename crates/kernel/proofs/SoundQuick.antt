@@ -36,7 +36,7 @@ use Rattle.slots.specs.Values.{freeTask, taskAt, inLine}
 use Rattle.slots.specs.Kinds.{hands, kindAt, marksOf}
 use Rattle.numbers.specs.declared.ObjSlot.{ObjSlot}
 use Rattle.slots.specs.declared.Want.{Want}
-use Rattle.slots.specs.declared.Want.the-variants.{Turn, Bits}
+use Rattle.slots.specs.declared.Want.the-variants.{OwnTurn, Bits}
 use Rattle.slots.specs.declared.Kind.{Kind}
 use Rattle.slots.specs.declared.Kind.the-variants.{Unused}
 use Rattle.slots.specs.SoundSlots.{idleFine, standsFine, remembersFine, ordersFine, awaitsTurn, awaitsBits, mayWait, mayWaitOn, waitsFine, prioritiesFine, holderSlot, freeHolds, notDue, kindInRange, outcomeFine, freshIfFree}
@@ -45,8 +45,7 @@ use Rattle.slots.proofs.Holders.{holders-exist}
 use Rattle.tasks.specs.declared.Tasks.{Tasks}
 use Rattle.tasks.specs.Numbering.{placeOf}
 use Rattle.tasks.specs.Columns.{rowAt, rowsOf}
-use Rattle.tasks.specs.Known.{known, wakeKnown, canonical}
-use Rattle.tasks.specs.Masks.{maskFine}
+use Rattle.tasks.specs.Known.{knownAt, wakeAt, maskAt, canonical}
 use Rattle.tasks.specs.Walks.{lineIn, levelAt, topIn}
 use Rattle.tasks.specs.Fine.{aloneFine, rowsFine, wakesFine, idleAlone, waitsTurn, waitsBy, waitsAt, headed, headsIn, runsIn, Fine}
 use Rattle.tasks.proofs.Columns.{row-at, rows-many}
@@ -232,7 +231,7 @@ module _ (os : Objects) (hs : Holdings) (H : HoldingsAre os hs) where
   -- for its turn, and for bits
   want-is : (t : TaskSlot) (x : Want) (o : ObjSlot) → (waitsTurn (hs .open) (hs .taken) (hs .holder) t x (o .0) && wantMay x (kindIn os (o .0))) ≡ mayWait t x (kindAt (kindsOf os) o)
   want-is t (Bits m all clear) o = each-kind-same (awaitsBits m all) o
-  want-is t Turn o = and-true _ ∙ go (ltb (o .0) 16) refl
+  want-is t OwnTurn o = and-true _ ∙ go (ltb (o .0) 16) refl
     where
       go : (b : Bool) → ltb (o .0) 16 ≡ b → (b && mayWaitOn (hs .open) (hs .taken) (hs .holder) t (o .0)) ≡ awaitsTurn t (kindAt (kindsOf os) o)
       go true q =
@@ -274,17 +273,8 @@ module _ (k : Core) (stands : List ℕ) (hs : Holdings) (fine : Bool) (F : Fine 
   abbrev waits : Bool
   waits = turns && allBelow 16 (awaitsAt ts (k .objects))
 
-  abbrev knownAt : ℕ → Bool
-  knownAt n = known (getD (ts .state) n 0) (getD (ts .object) n 0) (getD (ts .wants .flags) n 0)
-
-  abbrev wakeAt : ℕ → Bool
-  wakeAt n = wakeKnown (getD (ts .state) n 0) (getD (ts .wake) n 0)
-
-  abbrev maskAt : ℕ → Bool
-  maskAt n = maskFine (getD (ts .wants .mask) n 0) (getD (ts .wants .flags) n 0)
-
   abbrev dueAt : ℕ → Bool
-  dueAt n = wakeAt n && notDue (k .tick) (rowAt ts n .place)
+  dueAt n = wakeAt ts n && notDue (k .tick) (rowAt ts n .place)
 
   abbrev runs : Bool
   runs = runsIn ts (listed (k .order)) (k .running) (ltb 0 (k .hold))
@@ -336,11 +326,11 @@ module _ (k : Core) (stands : List ℕ) (hs : Holdings) (fine : Bool) (F : Fine 
     unfolding plain canonical
     is-plain =
         and-intro _ _ (below-all 16 _
-        (λ n l. and-intro _ _ (and-left (knownAt n) _ (each n l)) (and-intro _ _ (and-left (wakeAt n) _ (and-left (dueAt n) _ (wake n l))) (and-right (dueAt n) _ (wake n l)))))
+        (λ n l. and-intro _ _ (and-left (knownAt ts n) _ (each n l)) (and-intro _ _ (and-left (wakeAt ts n) _ (and-left (dueAt n) _ (wake n l))) (and-right (dueAt n) _ (wake n l)))))
         (fine-canonical (k .objects) kinds)
 
     alone : (n : ℕ) → n < 16 → AloneTested (getD stands n 0) (getD (hs .held) n false) (slotTask (s .tasks) n)
-    alone n l = alone-tested _ _ _ (rw (row n l) (and-right (knownAt n) _ (each n l)))
+    alone n l = alone-tested _ _ _ (rw (row n l) (and-right (knownAt ts n) _ (each n l)))
 
     once : (n : ℕ) → n < 16 → standsFine (count n (listed (k .order))) (slotTask (s .tasks) n .place) ≡ true
     once n l = rw (← stands-at n l) (alone n l .stands)
@@ -383,7 +373,7 @@ module _ (k : Core) (stands : List ℕ) (hs : Holdings) (fine : Bool) (F : Fine 
             none-else = below-all 16 _ (λ n l. rw (← stands-at n l) (alone n l .orders));
           };
           clock = tested-clock _ _ _ _ record {
-            wakes = below-all 16 _ (λ n l. rw (row n l) (and-right (wakeAt n) _ (and-left (dueAt n) _ (wake n l))));
+            wakes = below-all 16 _ (λ n l. rw (row n l) (and-right (wakeAt ts n) _ (and-left (dueAt n) _ (wake n l))));
             ranges = ranges;
             pends = and-right (tidy (k .order)) pends orders;
           };
@@ -413,8 +403,8 @@ module _ (k : Core) (stands : List ℕ) (hs : Holdings) (fine : Bool) (F : Fine 
         (and-intro waits _ (and-intro turns _ (below-all 16 _ each-wait) (below-all 16 _ each-await)) (and-intro levels _ (Q ∙ and-intro (endedIn ts (hs .by)) _ (straight ∙ E .circles) (below-all 16 _ each-level)) (H .said ∙ below-all 16 _ each-kind))))
         (and-intro runs _ (runs-is ts (F .many) (listed (k .order)) (k .running) (k .hold) ∙ E .runs) (and-intro (tidy (k .order)) pends (L .tidied) (C .pends)))
       where
-        cells : (n : ℕ) → n < 16 → (knownAt n && (wakeAt n && maskAt n)) ≡ true
-        cells n l = all-below 16 (λ i. knownAt i && (wakeAt i && maskAt i)) (and-left (canonical ts) (canonicalKinds (k .objects)) p) n l
+        cells : (n : ℕ) → n < 16 → (knownAt ts n && (wakeAt ts n && maskAt ts n)) ≡ true
+        cells n l = all-below 16 (λ i. knownAt ts i && (wakeAt ts i && maskAt ts i)) (and-left (canonical ts) (canonicalKinds (k .objects)) p) n l
 
         slotted : Bool
         slotted = allBelow 16 (λ n. holderSlot (hands (kindAt (s .objects) (object n))))
@@ -430,7 +420,7 @@ module _ (k : Core) (stands : List ℕ) (hs : Holdings) (fine : Bool) (F : Fine 
 
         each-row : (n : ℕ) → n < 16 → rowsFine ts stands (hs .held) n ≡ true
         each-row n l =
-            and-intro (knownAt n) _ (and-left _ _ (cells n l))
+            and-intro (knownAt ts n) _ (and-left _ _ (cells n l))
             (rw (← row n l)
             (tested-alone (getD stands n 0) (getD (hs .held) n false) (slotTask (s .tasks) n) record {
               stands = rw (stands-at n l) (all-below 16 _ (L .stands) n l);
@@ -447,9 +437,9 @@ module _ (k : Core) (stands : List ℕ) (hs : Holdings) (fine : Bool) (F : Fine 
 
         each-wake : (n : ℕ) → n < 16 → wakesFine ts (k .tick) n ≡ true
         each-wake n l =
-            let numbers = and-right (knownAt n) _ (cells n l) in
-            and-intro (dueAt n) _ (and-intro (wakeAt n) (notDue (k .tick) (rowAt ts n .place)) (and-left (wakeAt n) _ numbers) (rw (← row n l) (all-below 16 _ (C .wakes) n l)))
-            (and-right (wakeAt n) _ numbers)
+            let numbers = and-right (knownAt ts n) _ (cells n l) in
+            and-intro (dueAt n) _ (and-intro (wakeAt ts n) (notDue (k .tick) (rowAt ts n .place)) (and-left (wakeAt ts n) _ numbers) (rw (← row n l) (all-below 16 _ (C .wakes) n l)))
+            (and-right (wakeAt ts n) _ numbers)
 
         may : (n : ℕ) → n < 16 → (waitsAt ts (hs .open) (hs .taken) (hs .holder) n && awaitsAt ts (k .objects) n) ≡ true
         may n l = waits-is (k .objects) hs H (task n) (rowAt ts n .place) ∙ rw (← row n l) (all-below 16 _ (T .waits) n l)

@@ -34,9 +34,9 @@ use Rattle.rules.proofs.KeepNearly.{settled, Nearly}
 use Rattle.rules.proofs.KeepChosen.{some-ready}
 use Rattle.rules.proofs.KeepTicks.{one-tick, unheld-nearly, tick-unheld, ticks-unheld, ticks-reckoned}
 use Rattle.rules.proofs.LineTurns.{itsLine, turns-at-once, its-room, tick-still}
-use Rattle.kernel.specs.Types.{Core}
+use Rattle.kernel.specs.Types.{Core, Headed}
 use Rattle.kernel.specs.Stands.{coreOf, shownCore}
-use Rattle.kernel.specs.Does.{Does, Turning, Reckons}
+use Rattle.kernel.specs.Does.{Does, Turning, headedBy, Reckons}
 use Rattle.kernel.proofs.Stands.{same-tick, same-hold, same-pended}
 use Rattle.kernel.proofs.TableWalks.{top-highest, chosen-by, no-higher-of, no-turn}
 use Rattle.kernel.proofs.Shown.{shown-with}
@@ -62,7 +62,7 @@ turning-next {k} {r} f T d u =
 -- ── the line turned in one go
 pub turned-many : (k : Core) (s : State) → k ≡ coreOf s → Unheld s → (n : ℕ) → 0 < n → (y : Task) → y ≡ taskAt (s .tasks) (s .running)
     → (l : Order) → l ≡ ordered (lineIn (k .tasks) (y .effective) (listed (k .order))) → (o : Order) → o ≡ timesTurned (k .order) (listed l) n → (r : TaskSlot) → r ≡ headAfter (listed l) n
-    → record { tasks = k .tasks; objects = k .objects; order = o; running = r; tick = k .tick; hold = k .hold; pended = k .pended } ≡ coreOf (turnings true n s)
+    → headedBy k (record { order = o; running = r }) ≡ coreOf (turnings true n s)
 unfolding coreOf
 turned-many k s h U n some y e l f o g r q =
     let ks = kept (itsLine s) (listed (s .order)) in
@@ -70,26 +70,30 @@ turned-many k s h U n some y e l f o g r q =
     let its : listed l ≡ ks = ap listed same ∙ fits-listed ks (its-room s U) in
     rw (g, q, its, h) (sym (ap coreOf (turns-at-once s U n some)))
 
+-- its two parts put into the value
+pub headed-parts : (k : Core) (t : Headed) {o : Order} {r : TaskSlot} → o ≡ t .order → r ≡ t .running → headedBy k (record { order = o; running = r }) ≡ headedBy k t
+headed-parts k t e f = λ i. headedBy k (record { order = e i; running = f i })
+
 -- ── ticks on which nobody is due
 abbrev passing : Bool → ℕ → State → State
 passing turns n s = withTick (turnings turns n s) (later (s .tick) n)
 
-module _ {k j r : Core} (n next : ℕ) (e : next ≡ later (k .tick) n) (turns : Bool) (f : Does k (turnings turns n) j) (g : Does j (λ s. withTick s next) r) where
-  counts-on : Does k (passing turns n) r
-  counts-on s h = g (turnings turns n s) (f s h) ∙ ap (λ (m : ℕ). coreOf (withTick (turnings turns n s) m)) (e ∙ ap (λ (m : ℕ). later m n) (same-tick k s h))
+module _ {k r : Core} (n next : ℕ) (e : next ≡ later (k .tick) n) (turns : Bool) where
+  counts-on : Does k (λ s. withTick (turnings turns n s) next) r → Does k (passing turns n) r
+  counts-on f s h = f s h ∙ ap (λ (m : ℕ). coreOf (withTick (turnings turns n s) m)) (e ∙ ap (λ (m : ℕ). later m n) (same-tick k s h))
 
--- with their turns
-pub turned-on : {k j r : Core} (n next : ℕ) → next ≡ later (k .tick) n → (turns : Bool) → turns ≡ true → Does k (turnings true n) j → Does j (λ s. withTick s next) r → Does k (passing turns n) r
-turned-on n next e turns q f g = rw q (counts-on n next e true f g)
+  -- with their turns
+  pub turned-on : turns ≡ true → Does k (λ s. withTick (turnings true n s) next) r → Does k (passing turns n) r
+  turned-on q f = counts-on (rw q f)
 
--- none at all, or without
-module _ {k r : Core} (n next : ℕ) (e : next ≡ later (k .tick) n) (turns : Bool) (g : Does k (λ s. withTick s next) r) where
-  pub none-passes : n ≤ 0 → Does k (passing turns n) r
+  -- none at all
+  pub no-tick-passes : Does k (λ s. withTick s next) r → n ≤ 0 → Does k (passing turns n) r
   unfolding upTo
-  none-passes z = counts-on n next e turns (λ s h. h ∙ ap coreOf (let y : n ≡ 0 = omega arith in ap (λ (m : ℕ). turnings turns m s) (sym y))) g
+  no-tick-passes g z = counts-on (λ s h. g s h ∙ ap coreOf (let y : n ≡ 0 = omega arith in ap (λ (m : ℕ). withTick (turnings turns m s) next) (sym y)))
 
-  pub passes-straight : turns ≡ false → Does k (passing turns n) r
-  passes-straight q = counts-on n next e turns (λ s h. h ∙ ap coreOf (rw q (sym (no-turnings n s)))) g
+  -- or without
+  pub passes-straight : Does k (λ s. withTick s next) r → turns ≡ false → Does k (passing turns n) r
+  passes-straight g q = counts-on (λ s h. g s h ∙ ap (λ (x : State). coreOf (withTick x next)) (sym (no-turnings n s) ∙ ap (λ (b : Bool). turnings b n s) (sym q)))
 
 -- ── a tick on which somebody may be due
 -- who heads the highest line is found by its list
@@ -116,7 +120,7 @@ module _ {k j : Core} (T : Turning k) (f : Does k oneTick j) (y : Task) (q : (s 
     (n : ℕ) (e : n ≡ topIn (j .tasks) (listed (j .order))) where
   -- who outranks the running task runs
   pub overtaken : y .effective < n → (l : Order) → l ≡ ordered (lineIn (j .tasks) n (listed (j .order))) → (r : TaskSlot) → r ≡ headAfter (listed l) 0
-      → Does k (λ s. turnedIf true (oneTick s)) (record { tasks = j .tasks; objects = j .objects; order = j .order; running = r; tick = j .tick; hold = j .hold; pended = j .pended })
+      → Does k (λ s. turnedIf true (oneTick s)) (headedBy j (record { order = j .order; running = r }))
   unfolding coreOf
   overtaken h l m r p s g =
       let i = oneTick s in

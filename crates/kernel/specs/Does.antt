@@ -12,7 +12,7 @@ use Rattle.rules.specs.Loans.{Reckoned}
 use Rattle.rules.specs.State.{State}
 use Rattle.rows.specs.Asking.{makes}
 use Rattle.rules.specs.Sentences.{Sound, Unheld}
-use Rattle.kernel.specs.Types.{Core}
+use Rattle.kernel.specs.Types.{Core, Headed}
 use Rattle.kernel.specs.Stands.{coreOf, shownCore}
 
 -- it reads
@@ -40,6 +40,10 @@ pub record Firm (k : Core) : Type 0 where
 pub record Turning (k : Core) : Type 0 where
   pub stands : k ≡ coreOf (shownCore k)
   pub unheld : Unheld (shownCore k)
+
+-- the value with its line so turned
+abbrev pub headedBy : Core → Headed → Core
+headedBy k t = record { tasks = k .tasks; objects = k .objects; order = t .order; running = t .running; tick = k .tick; hold = k .hold; pended = k .pended }
 
 -- the value stands for a state, and each effective priority of that state is the rule's
 pub record Reckons (k : Core) : Type 0 where

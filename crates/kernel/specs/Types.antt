@@ -8,6 +8,7 @@ pub use Rattle.kernel.specs.declared.Sleep.the-variants.{Ticks, ForEver}
 pub use Rattle.kernel.specs.declared.Step.{Step}
 pub use Rattle.kernel.specs.declared.Outlet.{Outlet}
 pub use Rattle.kernel.specs.declared.Outlet.the-variants.{Waiter, Ring as InRing, Caller}
+pub use Rattle.kernel.specs.declared.Headed.{Headed}
 pub use Rattle.kernel.specs.declared.Roused.{Roused}
 pub use Rattle.kernel.specs.declared.Session.{Session}
 pub use Rattle.kernel.specs.declared.Served.{Served}

@@ -2,7 +2,7 @@
 use Prim.Native.Nat.{ℕ}
 use mathlib.Core.Bool.{Bool, true}
 use Rattle.slots.specs.declared.Want.{Want}
-use Rattle.slots.specs.declared.Want.the-variants.{Turn, Bits}
+use Rattle.slots.specs.declared.Want.the-variants.{OwnTurn, Bits}
 use Rattle.slots.specs.declared.Place.{Place}
 use Rattle.slots.specs.declared.Kind.{Kind}
 use Rattle.slots.specs.Places.{ofBlocked}
@@ -14,7 +14,7 @@ use Rattle.objects.specs.Columns.{kindIn}
 
 -- whoever waits for its turn is asked elsewhere
 abbrev pub wantMay : Want → Kind → Bool
-wantMay Turn x = true
+wantMay OwnTurn x = true
 wantMay (Bits m all clear) x = awaitsBits m all x
 
 abbrev pub awaitsIn : Objects → Place → Bool

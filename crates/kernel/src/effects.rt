@@ -204,7 +204,7 @@ impl Core {
             return self.with_object(o, Kind::Mutex(m.counting(m.count() + 1), h));
         }
         if h.is_taken() {
-            return self.wait_for(o, Want::Turn, w);
+            return self.wait_for(o, Want::OwnTurn, w);
         }
         self.with_object(o, Kind::Mutex(m.counting(1), Holder::By(u)))
     }

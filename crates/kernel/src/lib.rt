@@ -58,6 +58,12 @@ pub(crate) enum Outlet {
     Caller,
 }
 
+// What turns of a line leave: the order, and who heads the line and so runs.
+pub(crate) struct Headed {
+    pub order: Order,
+    pub running: TaskSlot,
+}
+
 // What a set's wakes leave, and what the woken ask to have cleared.
 pub(crate) struct Roused {
     pub core: Core,

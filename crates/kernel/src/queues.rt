@@ -54,7 +54,7 @@ impl Core {
             }
             Outlet::Caller => {
                 parts::to_slip(u, item, n, store);
-                self.wait_for(o, Want::Turn, w)
+                self.wait_for(o, Want::OwnTurn, w)
             }
         }
     }
@@ -88,7 +88,7 @@ impl Core {
         ensures { λ r. ⌜ Does self (λ s. received s o q w) r × Reads self (λ s. storeReceived s o q (now (store .entry))) (now (store .exit)) ⌝ }
     {
         if q.count == 0 {
-            return self.wait_for(o, Want::Turn, w);
+            return self.wait_for(o, Want::OwnTurn, w);
         }
         let u = self.running;
         let f = self.waiter(o);

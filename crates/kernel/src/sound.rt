@@ -29,7 +29,7 @@ impl Core {
                 let o = y.object;
                 let want = y.want;
                 match want {
-                    Want::Turn => true,
+                    Want::OwnTurn => true,
                     Want::Bits(m, all, _) => self.objects.get(o).awaits_bits(m, all),
                 }
             }

@@ -9,11 +9,29 @@ ghost use Rattle.rules.specs.Loans.{workedOut};
 ghost use Rattle.rules.specs.Waits.{later};
 ghost use Rattle.rules.specs.Ticks.{wakes, oneTick, untilDue, untilSome, turned, turnedIf, turnings, ticks, sleeps};
 ghost use Rattle.kernel.specs.Stands.{shown};
-ghost use Rattle.kernel.specs.Does.{Reads, Does, Turning, Reckons};
+ghost use Rattle.kernel.specs.Does.{Reads, Does, Turning, headedBy, Reckons};
 ghost use Rattle.kernel.specs.Promises.{ticksOf};
 use crate::Core;
+use crate::Headed;
 use crate::Kernel;
 use crate::Sleep;
+use numbers::TaskSlot;
+use order::Order;
+
+// A field that is no number is written with what a call answers.
+impl Headed {
+    fn order(self) -> Order
+        ensures { λ r. ⌜ r ≡ self .order ⌝ }
+    {
+        self.order
+    }
+
+    fn running(self) -> TaskSlot
+        ensures { λ r. ⌜ r ≡ self .running ⌝ }
+    {
+        self.running
+    }
+}
 
 impl Core {
     // The due are made ready, first whoever began its delay or wait earlier; then the effective priorities are worked out, if a wait ended.
@@ -77,16 +95,29 @@ impl Core {
         }
     }
 
-    // The line of the running task turned `n` times in one go, with the choose after each: whoever then heads it runs.
-    fn turned_by(mut self, n: u32) -> Core
+    // The line of the running task turned `n` times in one go, with the choose after each: whoever then heads it runs. A whole kernel would be copied to be given back, so
+    // its callers put the two parts into theirs.
+    fn turned_by(self, n: u32) -> Headed
         requires { ⌜ Turning self × (0 < n) ⌝ }
-        ensures { λ r. ⌜ Does self (turnings true n) r ⌝ }
+        ensures { λ r. ⌜ Does self (turnings true n) (headedBy self r) ⌝ }
     {
         let y = self.task(self.running);
         let line = self.tasks.line(self.order, y.effective);
         let times = n as usize;
-        self.order = self.order.turns(line, times);
-        self.running = line.head_after(times);
+        let order = self.order.turns(line, times);
+        let running = line.head_after(times);
+        Headed { order, running }
+    }
+
+    // So turned, with the count at `next`.
+    fn turned_until(mut self, n: u32, next: u32) -> Core
+        requires { ⌜ Turning self × (0 < n) ⌝ }
+        ensures { λ r. ⌜ Does self (λ s. withTick (turnings true n s) next) r ⌝ }
+    {
+        let t = self.turned_by(n);
+        self.order = t.order();
+        self.running = t.running();
+        self.tick = next;
         self
     }
 
@@ -98,7 +129,7 @@ impl Core {
         let next = std::num::wrapping_add_u32(self.tick, n);
         if turns {
             if 0 < n {
-                return self.turned_by(n).with_tick(next);
+                return self.turned_until(n, next);
             }
         }
         self.with_tick(next)
@@ -120,7 +151,10 @@ impl Core {
             k.running = k.tasks.line(k.order, top).head_after(0);
             return k;
         }
-        k.turned_by(1)
+        let t = k.turned_by(1);
+        k.order = t.order();
+        k.running = t.running();
+        k
     }
 
     // The next `n` ticks one by one, with each one's turn of the line and choose or without: a jump to the next tick on which somebody is due, that tick, and so on. Each

@@ -16,7 +16,7 @@ use Rattle.numbers.specs.Numbers.{task, object, sameTask}
 use Rattle.order.specs.declared.Order.{Order}
 use Rattle.order.specs.Order.{listed}
 use Rattle.slots.specs.declared.Want.{Want}
-use Rattle.slots.specs.declared.Want.the-variants.{Turn}
+use Rattle.slots.specs.declared.Want.the-variants.{OwnTurn}
 use Rattle.slots.specs.declared.Place.{Place}
 use Rattle.slots.specs.declared.Place.the-variants.{Free, Ready, Delayed, Waiting}
 use Rattle.slots.specs.declared.Task.{Task}
@@ -279,15 +279,15 @@ sent-too {k} o q n w = twice (λ z. sent z o q n) w (λ m v. rw (← outlet-same
         by-outlet k o q (λ x. Twins (sentBy k o q n x) (sentBy (withOrder k m) o q n x))
         (λ t e. arrives-too t Ready 1 (first-low k (WaitersOf o) t [] (v .slots) e) v)
         (object-too o (Queue (oneMore q)) v)
-        (wait-too o Turn n v)
+        (wait-too o OwnTurn n v)
 
 received-too : {k j : State} (o : ObjSlot) (q : Ring) (n : ℕ) → Twins k j → Twins (received k o q n) (received j o q n)
 unfolding received
 received-too {k} o q n w = twice (λ z. received z o q n) w (λ m v. rw (← first-same k m (v .alike) (WaitersOf o)) (go m v (first k (WaitersOf o)) refl (eqb (q .count) 0)))
   where
     go : (m : Order) → Twins k (withOrder k m) → (f : List TaskSlot) → first k (WaitersOf o) ≡ f → (b : Bool)
-        → Twins (if b then waitFor k o Turn n else refilledBy k o (oneLess q) f) (if b then waitFor (withOrder k m) o Turn n else refilledBy (withOrder k m) o (oneLess q) f)
-    go m v f e true = wait-too o Turn n v
+        → Twins (if b then waitFor k o OwnTurn n else refilledBy k o (oneLess q) f) (if b then waitFor (withOrder k m) o OwnTurn n else refilledBy (withOrder k m) o (oneLess q) f)
+    go m v f e true = wait-too o OwnTurn n v
     go m v [] e false = object-too o (Queue (oneLess q)) v
     go m v (t ∷ r) e false = arrives-too t Ready 1 (first-low k (WaitersOf o) t r (v .slots) e) (object-too o (Queue (oneMore (oneLess q))) v)
 
@@ -310,10 +310,10 @@ unfolding taken
 taken-too {k} o n w = twice (λ z. taken z o n) w (λ m v. go m v (kindAt (k .objects) o))
   where
     held : (m : Order) → Twins k (withOrder k m) → (s : Sort) (h : TaskSlot) (b : Bool)
-        → Twins (if b then withObject k o (Mutex (counting s (countOf s + 1)) (By h)) else waitFor k o Turn n)
-        (if b then withObject (withOrder k m) o (Mutex (counting s (countOf s + 1)) (By h)) else waitFor (withOrder k m) o Turn n)
+        → Twins (if b then withObject k o (Mutex (counting s (countOf s + 1)) (By h)) else waitFor k o OwnTurn n)
+        (if b then withObject (withOrder k m) o (Mutex (counting s (countOf s + 1)) (By h)) else waitFor (withOrder k m) o OwnTurn n)
     held m v s h true = object-too o (Mutex (counting s (countOf s + 1)) (By h)) v
-    held m v s h false = wait-too o Turn n v
+    held m v s h false = wait-too o OwnTurn n v
 
     go : (m : Order) → Twins k (withOrder k m) → (x : Kind) → Twins (takenFrom k o x n) (takenFrom (withOrder k m) o x n)
     go m v Unused = v

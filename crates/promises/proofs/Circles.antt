@@ -16,7 +16,7 @@ use Rattle.calls.specs.Said.{says, refused}
 use Rattle.slots.specs.Wants.{waitOn}
 use Rattle.slots.specs.Values.{placed, taskAt}
 use Rattle.slots.specs.Kinds.{kindAt, isMutex, isBy, hands, byWhom, holderOf, heldBy, recursiveBy}
-use Rattle.rules.specs.Types.{Want, Turn, Wait, Wake, Waiting, Task, Holder, Nobody, By, Kind, Object, Take, AMutex}
+use Rattle.rules.specs.Types.{Want, OwnTurn, Wait, Wake, Waiting, Task, Holder, Nobody, By, Kind, Object, Take, AMutex}
 use Rattle.rules.specs.Tables.{withUses}
 use Rattle.rows.specs.Applies.{notForIdle, hisAlready, Row, firstRow, table}
 use Rattle.rules.specs.Lines.{chosen, toTail}
@@ -155,34 +155,34 @@ module _ (k : State) (S : Sound k) (o : ObjSlot) where
     another h e z = false≢true (sym not-his ∙ ap (isBy (k .running)) e ∙ eq-eqb (h .0) (k .running .0) z)
 
     -- so the caller waits
-    waits-then : (w : ℕ) → taken k o w ≡ waitFor k o Turn w
+    waits-then : (w : ℕ) → taken k o w ≡ waitFor k o OwnTurn w
     unfolding taken
     waits-then w =
         let c = leads-chain leads-back in
         let m = held-mutex (kindAt (k .objects) o) (c .0) (c .1) in
         rw (m .1) (takes-waiting k o (m .0) w (By (c .0)) (ne-eqb (c .0 .0) (k .running .0) (another (c .0) (c .1))) refl)
 
-    closed-then : (w : ℕ) → Circle (waitFor k o Turn w .tasks) (waitFor k o Turn w .objects) (k .running)
+    closed-then : (w : ℕ) → Circle (waitFor k o OwnTurn w .tasks) (waitFor k o OwnTurn w .objects) (k .running)
     unfolding waitFor arrives toTail
     closed-then w =
         let c = leads-chain leads-back in
-        links-closed (k .tasks) (k .objects) full (k .running) low (placed (taskAt (k .tasks) (k .running)) (Waiting (waitOn o Turn) (wakeOf (k .tick) w)) 0)
+        links-closed (k .tasks) (k .objects) full (k .running) low (placed (taskAt (k .tasks) (k .running)) (Waiting (waitOn o OwnTurn) (wakeOf (k .tick) w)) 0)
         (subst (λ h. Reaches (k .tasks) (k .objects) (byWhom h) (k .running)) (sym (c .1)) (c .2))
 
     leads-closed : (w : ℕ) → Circle (last (taken k o w) .tasks) (last (taken k o w) .objects) (k .running)
-    leads-closed w = rw (waits-then w) (circle-last (waitFor k o Turn w) (closed-then w))
+    leads-closed w = rw (waits-then w) (circle-last (waitFor k o OwnTurn w) (closed-then w))
 
     module _ (free : k .hold ≡ 0) (w : ℕ) (some : 0 < w) where
       abbrev OnCircle : List Task → List Object → Type 0
       OnCircle ts os = Circle ts os (k .running)
 
-      waits-so : SoundBy OnCircle (withUses (last (waitFor k o Turn w)) (k .uses))
+      waits-so : SoundBy OnCircle (withUses (last (waitFor k o OwnTurn w)) (k .uses))
       unfolding waitFor arrives toTail
       waits-so =
           let c = leads-chain leads-back in
           let m = held-mutex (kindAt (k .objects) o) (c .0) (c .1) in
-          worked-sound (waitFor k o Turn w) (waits-nearly k S 0 o w some busy (m .0) (c .0) (m .1) (another (c .0) (c .1)))
-          OnCircle (circle-worked (waitFor k o Turn w) (closed-then w)) (S .uses) (λ q. absurd (omega arith))
+          worked-sound (waitFor k o OwnTurn w) (waits-nearly k S 0 o w some busy (m .0) (c .0) (m .1) (another (c .0) (c .1)))
+          OnCircle (circle-worked (waitFor k o OwnTurn w) (closed-then w)) (S .uses) (λ q. absurd (omega arith))
 
       waits-on-circle : SoundBy OnCircle (withUses (last (taken k o w)) (k .uses))
       waits-on-circle = rw (waits-then w) waits-so

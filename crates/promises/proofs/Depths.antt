@@ -33,7 +33,7 @@ use Rattle.rules.proofs.LoanWorks.{worked-same}
 use Rattle.rules.proofs.KeepTicks.{ticks-aside, ticked-aside}
 use Rattle.rules.proofs.KeepTasks.{suspended-same, delayed-same}
 use Rattle.promises.specs.Types.{TaskSlot, ObjSlot, Call, Create, Delete, Suspend, Resume, SetPriority, Delay, Yield, Hold, Release, MakeQueue, MakeMutex, Remove, Send}
-use Rattle.promises.specs.Types.{Receive, Take, Give, Tick, Advance, MakeRecursive, MakeGroup, SetBits, ClearBits, Await, WaitersOf, Want, Turn, Kind, Unused, SpentObject, Queue, Mutex, Group, State}
+use Rattle.promises.specs.Types.{Receive, Take, Give, Tick, Advance, MakeRecursive, MakeGroup, SetBits, ClearBits, Await, WaitersOf, Want, OwnTurn, Kind, Unused, SpentObject, Queue, Mutex, Group, State}
 use Rattle.promises.specs.History.{reached}
 use Rattle.promises.specs.Depth.{deeper, isAccepted, depthAt, depth}
 
@@ -53,7 +53,7 @@ module _ (k : State) where
   received-hold o SpentObject w = refl
   received-hold o (Queue q) w = go (eqb (q .count) 0) (first k (WaitersOf o))
     where
-      go : (b : Bool) (l : List TaskSlot) → (if b then waitFor k o Turn w else refilledBy k o (oneLess q) l) .hold ≡ k .hold
+      go : (b : Bool) (l : List TaskSlot) → (if b then waitFor k o OwnTurn w else refilledBy k o (oneLess q) l) .hold ≡ k .hold
       go true l = refl
       go false [] = refl
       go false (t ∷ l) = refl

@@ -46,7 +46,7 @@ module _ (b : ℕ) where
     where
       go : (y : Bool) → eqb (u .0) (t .0) ≡ y → IsTold t (slipBits b u s)
       go true q = rw (one-number u t (eqb-true (u .0) (t .0) q)) (gets t s low whole)
-      go false q = bytes-aside (fourBytes b) s (slipOf u) (slipOf t) 4 (slips-apart u t (eqb-false (u .0) (t .0) q)) ∙ h
+      go false q = bytes-aside (fourBytes b) s (slipOf u) (slipOf t) 4 (slips-apart u t 4 4 (omega arith) (omega arith) (eqb-false (u .0) (t .0) q)) ∙ h
 
   keeps-all : (l : List TaskSlot) (t : TaskSlot) (s : List ℕ) → t .0 < 16 → length s ≡ 9216 → IsTold t s → IsTold t (allTold s l)
   unfolding foldl

@@ -27,7 +27,7 @@ use Rattle.rules.proofs.KeepSlot.{at-other}
 use Rattle.rules.proofs.KeepBlocks.{arrives-at, Same}
 use Rattle.rules.proofs.KeepChosen.{sound-nearly}
 use Rattle.rules.proofs.KeepEvents.{NoneMet, Waking, wakes-all, all-woken}
-use Rattle.promises.specs.Types.{TaskSlot, ObjSlot, Want, Turn, Bits, Place, Free, Ready, Delayed, Waiting, Suspended, Spent, Task, SatisfiedOn, State}
+use Rattle.promises.specs.Types.{TaskSlot, ObjSlot, Want, OwnTurn, Bits, Place, Free, Ready, Delayed, Waiting, Suspended, Spent, Task, SatisfiedOn, State}
 use Rattle.promises.specs.EventGroups.{hasBit, isSatisfied}
 use Rattle.promises.proofs.BitByBit.{none-in-zero, joined-says}
 
@@ -180,7 +180,7 @@ pub record Wanted (x : Want) (i : ℕ) : Type 0 where
   pub in-mask : hasBit i mask ≡ true
 
 pub asks-wanted : (x : Want) (i : ℕ) → hasBit i (clears x) ≡ true → Wanted x i
-asks-wanted Turn i e = absurd (false≢true (sym (none-in-zero i) ∙ e))
+asks-wanted OwnTurn i e = absurd (false≢true (sym (none-in-zero i) ∙ e))
 asks-wanted (Bits m all true) i e = record { mask = m; all = all; wants = refl; in-mask = e }
 asks-wanted (Bits m all false) i e = absurd (false≢true (sym (none-in-zero i) ∙ e))
 

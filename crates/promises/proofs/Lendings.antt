@@ -48,7 +48,7 @@ use Rattle.rules.proofs.KeepEvery.{step-kept}
 use Rattle.rules.proofs.Keeps.{ready-low}
 use Rattle.promises.specs.Types.{TaskSlot, ObjSlot, Call, Create, Delete, Suspend, Resume, SetPriority, Delay, Yield, Hold, Release, MakeQueue, MakeMutex, Remove, Send, Ready}
 use Rattle.promises.specs.Types.{Receive, Take, Give, Tick, Advance, MakeRecursive, MakeGroup, SetBits, ClearBits, Await}
-use Rattle.promises.specs.Types.{Want, Turn, Place, Delayed, WaitersOf, Kind, Unused, SpentObject, Queue, Mutex, Group, Task, Asked, State}
+use Rattle.promises.specs.Types.{Want, OwnTurn, Place, Delayed, WaitersOf, Kind, Unused, SpentObject, Queue, Mutex, Group, Task, Asked, State}
 use Rattle.promises.specs.History.{reached}
 use Rattle.promises.specs.Lending.{RuleHolds, Afresh, SameLoans, SameLevels, mayChange, NotSlow}
 use Rattle.promises.proofs.AlikeSteps.{not-refused}
@@ -122,7 +122,7 @@ module _ (k : State) (S : Sound k) (t : TaskSlot) where
   unfolding sent
   sent-stays o Unused w = refl
   sent-stays o SpentObject w = refl
-  sent-stays o (Queue q) w = by-outlet k o q (λ x. level (sentBy k o q w x .tasks) t ≡ level (k .tasks) t) (λ u e. arrives-stays k t u Ready 1) refl (waits-stays o Turn w)
+  sent-stays o (Queue q) w = by-outlet k o q (λ x. level (sentBy k o q w x .tasks) t ≡ level (k .tasks) t) (λ u e. arrives-stays k t u Ready 1) refl (waits-stays o OwnTurn w)
   sent-stays o (Mutex s h) w = refl
   sent-stays o (Group b) w = refl
 
@@ -132,8 +132,8 @@ module _ (k : State) (S : Sound k) (t : TaskSlot) where
   received-stays o SpentObject w = refl
   received-stays o (Queue q) w = go (eqb (q .count) 0) (first k (WaitersOf o))
     where
-      go : (b : Bool) (l : List TaskSlot) → level ((if b then waitFor k o Turn w else refilledBy k o (oneLess q) l) .tasks) t ≡ level (k .tasks) t
-      go true l = waits-stays o Turn w
+      go : (b : Bool) (l : List TaskSlot) → level ((if b then waitFor k o OwnTurn w else refilledBy k o (oneLess q) l) .tasks) t ≡ level (k .tasks) t
+      go true l = waits-stays o OwnTurn w
       go false [] = refl
       go false (u ∷ l) = arrives-stays _ t u Ready 1
   received-stays o (Mutex s h) w = refl

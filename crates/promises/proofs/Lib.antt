@@ -39,5 +39,6 @@ pub mod EventSets
 pub mod SlipBytes
 pub mod EventOrder
 pub mod EventTells
+pub mod SlipKept
 pub mod EventGroups
 pub mod EventsCaught

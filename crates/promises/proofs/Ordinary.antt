@@ -44,7 +44,7 @@ use Rattle.rules.proofs.SoundSays.{sound-tested, tested-sound, sound-says}
 use Rattle.rules.proofs.SoundTables.{says-tables}
 use Rattle.rules.proofs.TableWithin.{by-outlet}
 use Rattle.rules.proofs.RowPasses.{Passed, passed}
-use Rattle.promises.specs.Types.{TaskSlot, ObjSlot, Asked, Want, Turn, Ready, AllReady, WaitersOf, SatisfiedOn, Task}
+use Rattle.promises.specs.Types.{TaskSlot, ObjSlot, Asked, Want, OwnTurn, Ready, AllReady, WaitersOf, SatisfiedOn, Task}
 use Rattle.promises.specs.Types.{Holder, Nobody, By, Ordinary, Recursive, Kind, Unused, SpentObject, Queue, Mutex, Group, State}
 use Rattle.promises.specs.Types.{Call, Create, Delete, Suspend, Resume, SetPriority, Delay, Yield, Hold, Release, MakeQueue, MakeMutex, Remove, Send, Receive, Take, Give, Tick, Advance, MakeRecursive}
 use Rattle.promises.specs.Types.{MakeGroup, SetBits, ClearBits, Await}
@@ -272,8 +272,8 @@ received-ordinary k o Unused w = refl
 received-ordinary k o SpentObject w = refl
 received-ordinary k o (Queue q) w = go (eqb (q .count) 0) (first k (WaitersOf o))
   where
-    go : (b : Bool) (l : List TaskSlot) → (if b then waitFor (allOrdinary k) o Turn w else refilledBy (allOrdinary k) o (oneLess q) l)
-        ≡ allOrdinary (if b then waitFor k o Turn w else refilledBy k o (oneLess q) l)
+    go : (b : Bool) (l : List TaskSlot) → (if b then waitFor (allOrdinary k) o OwnTurn w else refilledBy (allOrdinary k) o (oneLess q) l)
+        ≡ allOrdinary (if b then waitFor k o OwnTurn w else refilledBy k o (oneLess q) l)
     go true l = refl
     go false [] = put-ordinary k o (Queue (oneLess q))
     go false (t ∷ l) = ap (λ j. arrives j t Ready 1) (put-ordinary k o (Queue (oneMore (oneLess q))))
@@ -305,8 +305,8 @@ takes-ordinary k o (Queue q) w p = refl
 takes-ordinary k o (Mutex s Nobody) w p = put-ordinary k o (Mutex (counting s 1) (By (k .running)))
 takes-ordinary k o (Mutex Ordinary (By h)) w p = go (sameTask h (k .running))
   where
-    go : (b : Bool) → (if b then withObject (allOrdinary k) o (Mutex Ordinary (By h)) else waitFor (allOrdinary k) o Turn w)
-        ≡ allOrdinary (if b then withObject k o (Mutex Ordinary (By h)) else waitFor k o Turn w)
+    go : (b : Bool) → (if b then withObject (allOrdinary k) o (Mutex Ordinary (By h)) else waitFor (allOrdinary k) o OwnTurn w)
+        ≡ allOrdinary (if b then withObject k o (Mutex Ordinary (By h)) else waitFor k o OwnTurn w)
     go true = put-ordinary k o (Mutex Ordinary (By h))
     go false = refl
 takes-ordinary k o (Mutex (Recursive n) (By h)) w p = rw p

@@ -89,10 +89,10 @@ bytes-put vs l i h =
     rw (sets-eq vs l i h, append-assoc, drop-at (take i l) (vs ++ drop (i + length vs) l) i m) (take-at vs (drop (i + length vs) l) (length vs) refl)
 
 -- ── the slips
-pub slips-apart : (t u : TaskSlot) → (t .0 ≡ u .0 → ⊥) → Apart (slipOf t) 4 (slipOf u) 4
-slips-apart t u d = go (below-or (t .0) (u .0))
+pub slips-apart : (t u : TaskSlot) (n m : ℕ) → n ≤ 64 → m ≤ 64 → (t .0 ≡ u .0 → ⊥) → Apart (slipOf t) n (slipOf u) m
+slips-apart t u n m f g d = go (below-or (t .0) (u .0))
   where
-    go : (t .0 < u .0) ⊎ (u .0 ≤ t .0) → Apart (slipOf t) 4 (slipOf u) 4
+    go : (t .0 < u .0) ⊎ (u .0 ≤ t .0) → Apart (slipOf t) n (slipOf u) m
     go (inl h) = inl (omega arith)
     go (inr h) = inr (omega arith)
 
@@ -102,7 +102,7 @@ slips-swap b s t u = go (eqb (t .0) (u .0)) refl
   where
     go : (y : Bool) → eqb (t .0) (u .0) ≡ y → putAt (slipOf u) (fourBytes b) (putAt (slipOf t) (fourBytes b) s) ≡ putAt (slipOf t) (fourBytes b) (putAt (slipOf u) (fourBytes b) s)
     go true q = rw (one-number t u (eqb-true (t .0) (u .0) q))
-    go false q = puts-aside (fourBytes b) (fourBytes b) s (slipOf t) (slipOf u) (slips-apart t u (eqb-false (t .0) (u .0) q))
+    go false q = puts-aside (fourBytes b) (fourBytes b) s (slipOf t) (slipOf u) (slips-apart t u 4 4 (omega arith) (omega arith) (eqb-false (t .0) (u .0) q))
 
 pub slip-length : (b : ℕ) (s : List ℕ) (t : TaskSlot) → length (slipBits b t s) ≡ length s
 unfolding slipBits putAt

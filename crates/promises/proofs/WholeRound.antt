@@ -13,7 +13,7 @@ use Rattle.calls.specs.Door.{freshUses, taskNo, objSlot}
 use Rattle.calls.specs.Behind.{asked}
 use Rattle.order.specs.Order.{ordered, without}
 use Rattle.order.specs.Tidy.{count}
-use Rattle.promises.specs.Types.{Asked, Call, Create, MakeRecursive, Take, Give, Turn, Ready, Waiting, Never, By, Recursive, Unused, Mutex, State}
+use Rattle.promises.specs.Types.{Asked, Call, Create, MakeRecursive, Take, Give, OwnTurn, Ready, Waiting, Never, By, Recursive, Unused, Mutex, State}
 use Rattle.chains.specs.Columns.{raised}
 use Rattle.chains.specs.Lent.{goesOn, levels}
 use Rattle.rules.specs.Effects.{created, mutexMade, taken, given, effect}
@@ -162,7 +162,7 @@ abbrev nowJoined : State
 nowJoined = withMutex (Mutex (Recursive 255) (By (task 1))) (taskIn Ready 3 3 0 ∷ taskIn Ready 5 5 0 ∷ []) (idle ∷ task 1 ∷ task 2 ∷ []) (task 1)
 
 abbrev nowWaits : State
-nowWaits = withMutex (Mutex (Recursive 255) (By (task 1))) (taskIn Ready 3 3 0 ∷ taskIn (Waiting (waitOn (object 0) Turn) Never) 5 5 0 ∷ []) (idle ∷ task 1 ∷ task 2 ∷ []) (task 2)
+nowWaits = withMutex (Mutex (Recursive 255) (By (task 1))) (taskIn Ready 3 3 0 ∷ taskIn (Waiting (waitOn (object 0) OwnTurn) Never) 5 5 0 ∷ []) (idle ∷ task 1 ∷ task 2 ∷ []) (task 2)
 
 abbrev nowHas : State
 nowHas = withMutex (Mutex (Recursive 1) (By (task 2))) (taskIn Ready 3 5 0 ∷ taskIn Ready 5 5 1 ∷ []) (idle ∷ task 1 ∷ task 2 ∷ []) (task 1)

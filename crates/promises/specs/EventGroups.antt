@@ -19,13 +19,14 @@ use Rattle.items.specs.Bytes.{bytesAt}
 use Rattle.slots.specs.Kinds.{kindAt}
 use Rattle.slots.specs.Values.{placed, taskAt}
 use Rattle.slots.specs.Wants.{allBits, holdsOf, cleared, satisfiedOn, wantIn}
+use Rattle.rows.specs.Asking.{is}
 use Rattle.rules.specs.Tables.{freeObject, withObject}
 use Rattle.rules.specs.Lines.{line, level, chosen}
 use Rattle.rules.specs.Waits.{waitFor}
 use Rattle.rules.specs.Parts.{slipOf}
 use Rattle.rules.specs.Events.{slipBits, wokenBy, allWoken, clearsOf, bitsSet, storeSet}
 use Rattle.rules.specs.Steps.{Stepped, turnedAway}
-use Rattle.promises.specs.Types.{TaskSlot, ObjSlot, Bits, Ready, Group, State}
+use Rattle.promises.specs.Types.{TaskSlot, ObjSlot, Bits, Ready, Group, Asked, State}
 use Rattle.promises.specs.Advance.{doneWith}
 
 -- ── bit by bit
@@ -107,6 +108,21 @@ pub record SetTells (k : State) (o : ObjSlot) (b : ℕ) (s r : List ℕ) : Type 
   -- and every other byte is as it was
   pub as-it-was : (i : ℕ) → ((t : TaskSlot) → isSatisfied k o b t ≡ true → (i < slipOf t) ⊎ (slipOf t + 4 ≤ i)) → getD r i 0 ≡ getD s i 0
   pub whole : length r ≡ length s
+
+-- the call a is a set whose bits satisfy t
+pub record SetMeets (k : State) (a : Asked) (t : TaskSlot) : Type 0 where
+  pub a-set : is 21 a ≡ true
+  pub bits : ℕ
+  pub group : kindAt (k .objects) (a .object) ≡ Group bits
+  pub met : isSatisfied k (a .object) (bitOr bits (a .bits)) t ≡ true
+
+-- each of the 64 bytes of t's slip is as it was
+abbrev pub SameSlip : TaskSlot → List ℕ → List ℕ → Type 0
+SameSlip t s r = bytesAt (slipOf t) 64 r ≡ bytesAt (slipOf t) 64 s
+
+-- "A timeout or a broken-off wait leaves the slip as it was": while t waits for bits no call changes a byte of its slip but the set that satisfies it
+abbrev pub SlipKept : State → Asked → List ℕ → List ℕ → Type 0
+SlipKept k a s r = (t : TaskSlot) (m : ℕ) (all clear : Bool) → wantIn (taskAt (k .tasks) t .place) ≡ Bits m all clear → (SetMeets k a t → ⊥) → SameSlip t s r
 
 -- q has the same tasks as l, each as often
 abbrev pub SameTasks : List TaskSlot → List TaskSlot → Type 0

@@ -6,7 +6,7 @@ pub use Rattle.calls.specs.declared.Call.the-variants.{Create, Delete, Suspend,
 pub use Rattle.calls.specs.declared.Call.the-variants.{MakeQueue, MakeMutex, Remove, Send, Receive, Take, Give, Tick, Advance, MakeRecursive, MakeGroup, SetBits, ClearBits, Await}
 pub use Rattle.calls.specs.declared.Asked.{Asked}
 pub use Rattle.slots.specs.declared.Want.{Want}
-pub use Rattle.slots.specs.declared.Want.the-variants.{Turn, Bits}
+pub use Rattle.slots.specs.declared.Want.the-variants.{OwnTurn, Bits}
 pub use Rattle.slots.specs.declared.Wait.{Wait}
 pub use Rattle.slots.specs.declared.Wake.{Wake}
 pub use Rattle.slots.specs.declared.Wake.the-variants.{Never}

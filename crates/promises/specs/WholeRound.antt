@@ -9,7 +9,7 @@ use Rattle.slots.specs.Wants.{waitOn}
 use Rattle.slots.specs.Values.{freeTask, readyAt}
 use Rattle.slots.specs.Kinds.{unused}
 use Rattle.calls.specs.Door.{freshUses}
-use Rattle.promises.specs.Types.{Call, Create, Take, Give, TaskSlot, Turn, Place, Ready, Waiting, Never, Task, Nobody, By, Recursive, Kind, Unused, Mutex, State}
+use Rattle.promises.specs.Types.{Call, Create, Take, Give, TaskSlot, OwnTurn, Place, Ready, Waiting, Never, Task, Nobody, By, Recursive, Kind, Unused, Mutex, State}
 use Rattle.promises.specs.Cases.{forEver, Case, fromFresh, ok, ok-new, wait, refuses}
 use Rattle.promises.specs.RecursiveCases.{takenTimes}
 
@@ -77,7 +77,7 @@ unfoldable pub joined : ℕ → State
 joined c = withMutex (Mutex (Recursive c) (By (task 1))) (taskIn Ready 3 3 0 ∷ taskIn Ready 5 5 0 ∷ []) (idle ∷ task 1 ∷ task 2 ∷ []) (task 2)
 
 unfoldable pub waitedFor : ℕ → State
-waitedFor c = withMutex (Mutex (Recursive c) (By (task 1))) (taskIn Ready 3 5 0 ∷ taskIn (Waiting (waitOn (object 0) Turn) Never) 5 5 0 ∷ []) (idle ∷ task 2 ∷ task 1 ∷ []) (task 1)
+waitedFor c = withMutex (Mutex (Recursive c) (By (task 1))) (taskIn Ready 3 5 0 ∷ taskIn (Waiting (waitOn (object 0) OwnTurn) Never) 5 5 0 ∷ []) (idle ∷ task 2 ∷ task 1 ∷ []) (task 1)
 
 unfoldable pub handedOn : ℕ → State
 handedOn c = withMutex (Mutex (Recursive c) (By (task 2))) (taskIn Ready 3 3 0 ∷ taskIn Ready 5 5 1 ∷ []) (task 1 ∷ idle ∷ task 2 ∷ []) (task 2)

@@ -26,7 +26,7 @@ use Rattle.rules.specs.Parts.{slipOf}
 use Rattle.rules.specs.Events.{andOn, clearsOf, wantBy}
 use Rattle.rules.specs.Refusals.{seen, refusal}
 use Rattle.rules.specs.Steps.{after, stored}
-use Rattle.promises.specs.Types.{TaskSlot, ObjSlot, Asked, Call, Create, Yield, Tick, MakeGroup, Want, Turn, Bits, Ready, Kind, Unused, SpentObject, Queue, Mutex, Group, SatisfiedOn, WaitersOf, State}
+use Rattle.promises.specs.Types.{TaskSlot, ObjSlot, Asked, Call, Create, Yield, Tick, MakeGroup, Want, OwnTurn, Bits, Ready, Kind, Unused, SpentObject, Queue, Mutex, Group, SatisfiedOn, WaitersOf, State}
 use Rattle.promises.specs.Cases.{view}
 use Rattle.promises.specs.EventGroups.{isSatisfied}
 use Rattle.promises.specs.EventCases.{bitsIn, bitsNow, ofOne, ofTwo, setting, clearing, awaiting, threeWait}
@@ -150,7 +150,7 @@ metBy test k o b = wokenThrough (firstBy test) sameBits 16 k o b
 
 -- any for all, and all for any; all, whatever is asked, and any
 abbrev pub askingAs : (Bool → Bool) → ℕ → Want → Bool
-askingAs f b Turn = false
+askingAs f b OwnTurn = false
 askingAs f b (Bits m all clear) = holdsOf b m (f all)
 
 abbrev pub alwaysAny : ℕ → Want → Bool
@@ -167,7 +167,7 @@ abbrev pub clearsOfAll : State → ObjSlot → ℕ → List TaskSlot → ℕ
 clearsOfAll k o b l = cleared b (clearsOf (k .tasks) (those (k .tasks) (WaitersOf o) (listed (k .order))))
 
 abbrev pub wholeMask : Want → ℕ
-wholeMask Turn = 0
+wholeMask OwnTurn = 0
 wholeMask (Bits m all clear) = m
 
 abbrev pub wholeMasks : State → ObjSlot → ℕ → List TaskSlot → ℕ

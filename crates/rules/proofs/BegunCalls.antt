@@ -17,7 +17,7 @@ use Rattle.slots.specs.Places.{isBlocked, isListed, wakesAt, outcomeDue}
 use Rattle.slots.specs.Wants.{waitOn}
 use Rattle.slots.specs.Values.{freeTask, spentTask, readyAt, placed, brokenOff, taskAt}
 use Rattle.slots.specs.Kinds.{kindAt}
-use Rattle.rules.specs.Types.{TaskSlot, ObjSlot, Place, Ready, Delayed, Waiting, Task, Ring, WaitersOf, Want, Turn, SatisfiedOn}
+use Rattle.rules.specs.Types.{TaskSlot, ObjSlot, Place, Ready, Delayed, Waiting, Task, Ring, WaitersOf, Want, OwnTurn, SatisfiedOn}
 use Rattle.rules.specs.Types.{Call, Create, Delete, Suspend, Resume, SetPriority, Delay, Yield, Hold, Release, MakeQueue, MakeMutex, Remove, Send, Receive, Take, Give, Tick, Advance, MakeRecursive, MakeGroup, SetBits, ClearBits, Await, State}
 use Rattle.rules.specs.Tables.{freeSlot, withTask, withHold, withTick}
 use Rattle.rules.specs.Lines.{hasBegun, begun, level, first, chosen, toTail, leaves}
@@ -231,14 +231,14 @@ module _ (k : State) (S : Sound k) where
   sent-remembers : (o : ObjSlot) (q : Ring) (w : ℕ) → Remember k (sent k o q w)
   unfolding sent
   sent-remembers o q w =
-      by-outlet k o q (λ x. Remember k (sentBy k o q w x)) (λ t e. quietly (arrives-fades k roomy-in t Ready 1 refl (first-low o t [] e))) (quietly (stays roomy-in)) (wait-begins o Turn w)
+      by-outlet k o q (λ x. Remember k (sentBy k o q w x)) (λ t e. quietly (arrives-fades k roomy-in t Ready 1 refl (first-low o t [] e))) (quietly (stays roomy-in)) (wait-begins o OwnTurn w)
 
   received-remembers : (o : ObjSlot) (q : Ring) (w : ℕ) → Remember k (received k o q w)
   unfolding received
   received-remembers o q w = go (eqb (q .count) 0) (first k (WaitersOf o)) refl
     where
-      go : (b : Bool) (l : List TaskSlot) → first k (WaitersOf o) ≡ l → Remember k (if b then waitFor k o Turn w else refilledBy k o (oneLess q) l)
-      go true l e = wait-begins o Turn w
+      go : (b : Bool) (l : List TaskSlot) → first k (WaitersOf o) ≡ l → Remember k (if b then waitFor k o OwnTurn w else refilledBy k o (oneLess q) l)
+      go true l e = wait-begins o OwnTurn w
       go false [] e = quietly (stays roomy-in)
       go false (t ∷ l) e = quietly (arrives-fades _ roomy-in t Ready 1 refl (first-low o t l e))
 
@@ -254,7 +254,7 @@ module _ (k : State) (S : Sound k) where
 
   taken-remembers : (o : ObjSlot) (w : ℕ) → Remember k (taken k o w)
   taken-remembers o w =
-      by-take k o (λ j. Remember k j) w (λ m. quietly (stays roomy-in)) (λ s e. quietly (stays roomy-in)) (λ s e. quietly (stays roomy-in)) (λ s h e d. wait-begins o Turn w)
+      by-take k o (λ j. Remember k j) w (λ m. quietly (stays roomy-in)) (λ s e. quietly (stays roomy-in)) (λ s e. quietly (stays roomy-in)) (λ s h e d. wait-begins o OwnTurn w)
 
   set-fades-all : (o : ObjSlot) (m : ℕ) → Fade k (setOn k o (kindAt (k .objects) o) m)
   set-fades-all o m =

@@ -22,7 +22,7 @@ use Rattle.slots.specs.Places.{isBlocked, isListed, wakesAt}
 use Rattle.slots.specs.Wants.{waitOn}
 use Rattle.slots.specs.Values.{readyAt, placed, brokenOff, taskAt}
 use Rattle.slots.specs.Kinds.{kindAt}
-use Rattle.rules.specs.Types.{TaskSlot, ObjSlot, Place, Ready, Delayed, Waiting, Task, Ring, WaitersOf, Want, Turn}
+use Rattle.rules.specs.Types.{TaskSlot, ObjSlot, Place, Ready, Delayed, Waiting, Task, Ring, WaitersOf, Want, OwnTurn}
 use Rattle.rules.specs.Types.{Call, Create, Delete, Suspend, Resume, SetPriority, Delay, Yield, Hold, Release, MakeQueue, MakeMutex, Remove, Send, Receive, Take, Give, Tick, Advance, MakeRecursive, MakeGroup, SetBits, ClearBits, Await, State}
 use Rattle.rules.specs.Tables.{freeSlot, withTask, withHold}
 use Rattle.rules.specs.Lines.{hasBegun, Ahead, first, toTail, leaves, level}
@@ -99,14 +99,14 @@ module _ (k : State) where
 
   sent-ends : (o : ObjSlot) (q : Ring) (w : ℕ) → OneEnds ts (sent k o q w .tasks)
   unfolding sent
-  sent-ends o q w = by-outlet k o q (λ x. OneEnds ts (sentBy k o q w x .tasks)) (λ t e. arrives-ends t Ready 1) nothing-ends (wait-ends o Turn w)
+  sent-ends o q w = by-outlet k o q (λ x. OneEnds ts (sentBy k o q w x .tasks)) (λ t e. arrives-ends t Ready 1) nothing-ends (wait-ends o OwnTurn w)
 
   received-ends : (o : ObjSlot) (q : Ring) (w : ℕ) → OneEnds ts (received k o q w .tasks)
   unfolding received arrives toTail
   received-ends o q w = go (eqb (q .count) 0) (first k (WaitersOf o))
     where
-      go : (b : Bool) (l : List TaskSlot) → OneEnds ts ((if b then waitFor k o Turn w else refilledBy k o (oneLess q) l) .tasks)
-      go true l = wait-ends o Turn w
+      go : (b : Bool) (l : List TaskSlot) → OneEnds ts ((if b then waitFor k o OwnTurn w else refilledBy k o (oneLess q) l) .tasks)
+      go true l = wait-ends o OwnTurn w
       go false [] = nothing-ends
       go false (t ∷ l) = changes ts t (placed (taskAt ts t) Ready 1)
 
@@ -119,7 +119,7 @@ module _ (k : State) where
 
   taken-ends : (o : ObjSlot) (w : ℕ) → OneEnds ts (taken k o w .tasks)
   taken-ends o w =
-      by-take k o (λ j. OneEnds ts (j .tasks)) w (λ m. nothing-ends) (λ s e. nothing-ends) (λ s e. nothing-ends) (λ s h e d. wait-ends o Turn w)
+      by-take k o (λ j. OneEnds ts (j .tasks)) w (λ m. nothing-ends) (λ s e. nothing-ends) (λ s e. nothing-ends) (λ s h e d. wait-ends o OwnTurn w)
 
   given-ends : (o : ObjSlot) → OneEnds ts (given k o .tasks)
   given-ends o = by-give k o (λ j. OneEnds ts (j .tasks)) (λ m. nothing-ends) (λ s h e m. nothing-ends) (λ s h e m q. nothing-ends) (λ s h e m t l q. arrives-ends t Ready 1)

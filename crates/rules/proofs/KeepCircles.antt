@@ -16,7 +16,7 @@ use Rattle.slots.specs.Places.{isListed}
 use Rattle.slots.specs.Wants.{waitOn, cleared, clears}
 use Rattle.slots.specs.Values.{freeTask, spentTask, readyAt, brokenOff, owned, placed, taskAt}
 use Rattle.slots.specs.Kinds.{countOf, counting, kindAt, heldBy, holderOf}
-use Rattle.rules.specs.Types.{Call, Create, Delete, Suspend, Resume, SetPriority, Delay, Yield, Hold, Release, MakeQueue, MakeMutex, Remove, Send, Receive, Take, Give, Tick, Advance, MakeRecursive, MakeGroup, SetBits, ClearBits, Await, Want, Turn, Group}
+use Rattle.rules.specs.Types.{Call, Create, Delete, Suspend, Resume, SetPriority, Delay, Yield, Hold, Release, MakeQueue, MakeMutex, Remove, Send, Receive, Take, Give, Tick, Advance, MakeRecursive, MakeGroup, SetBits, ClearBits, Await, Want, OwnTurn, Group}
 use Rattle.rules.specs.Types.{TaskSlot, ObjSlot, Place, Free, Ready, Delayed, Waiting, Suspended, Spent, Task, Ring, Nobody, By, Sort, Ordinary, Recursive, Kind, Unused, SpentObject, Queue, Mutex, Object, WaitersOf, State}
 use Rattle.rules.specs.Tables.{withTask, withObject, withHold, freeSlot, freeObject}
 use Rattle.rules.specs.Lines.{first, toTail, leaves}
@@ -143,9 +143,9 @@ module _ (k : State) (S : Sound k) where
 
   -- ── a queue has no holder
   module _ (o : ObjSlot) (q : Ring) (w : ℕ) (kind : kindAt (k .objects) o ≡ Queue q) where
-    wait-uncircled : UncircledIn (waitFor k o Turn w)
+    wait-uncircled : UncircledIn (waitFor k o OwnTurn w)
     unfolding waitFor
-    wait-uncircled = arrives-uncircled k C (k .running) (Waiting (waitOn o Turn) (wakeOf (k .tick) w)) 0 (ap holderOf kind)
+    wait-uncircled = arrives-uncircled k C (k .running) (Waiting (waitOn o OwnTurn) (wakeOf (k .tick) w)) 0 (ap holderOf kind)
 
     sent-uncircled : UncircledIn (sent k o q w)
     unfolding sent
@@ -155,7 +155,7 @@ module _ (k : State) (S : Sound k) where
     unfolding received
     received-uncircled = go (eqb (q .count) 0) (first k (WaitersOf o))
       where
-        go : (b : Bool) (l : List TaskSlot) → UncircledIn (if b then waitFor k o Turn w else refilledBy k o (oneLess q) l)
+        go : (b : Bool) (l : List TaskSlot) → UncircledIn (if b then waitFor k o OwnTurn w else refilledBy k o (oneLess q) l)
         go true l = wait-uncircled
         go false [] = unheld-uncircled C o (Queue (oneLess q)) refl
         go false (t ∷ l) = arrives-uncircled (withObject k o (Queue (oneMore (oneLess q)))) (unheld-uncircled C o (Queue (oneMore (oneLess q))) refl) t Ready 1 refl
@@ -185,7 +185,7 @@ module _ (k : State) (S : Sound k) where
       low = ready-low (k .tasks) (k .running) (C .full) (S .running .runs .ready)
 
       waiting : Task
-      waiting = placed (taskAt (k .tasks) (k .running)) (Waiting (waitOn o Turn) (wakeOf (k .tick) w)) 0
+      waiting = placed (taskAt (k .tasks) (k .running)) (Waiting (waitOn o OwnTurn) (wakeOf (k .tick) w)) 0
 
   -- it stays its holder's; or the first waiter, now ready, becomes its holder, or nobody
   give-uncircled : (o : ObjSlot) → UncircledIn (given k o)

@@ -23,7 +23,7 @@ use Rattle.slots.specs.Wants.{allBits, holdsOf, satisfied, cleared, clears, wai
 use Rattle.slots.specs.Values.{freeTask, placed, taskAt}
 use Rattle.slots.proofs.Masks.{fewer-satisfied, cleared-within, joined-within}
 use Rattle.slots.proofs.Sweeps.{none-counted}
-use Rattle.rules.specs.Types.{TaskSlot, ObjSlot, Want, Turn, Bits, Wait, Wake, Place, Ready, Waiting, Task, Kind, Group, WaitersOf, SatisfiedOn, Asked, State}
+use Rattle.rules.specs.Types.{TaskSlot, ObjSlot, Want, OwnTurn, Bits, Wait, Wake, Place, Ready, Waiting, Task, Kind, Group, WaitersOf, SatisfiedOn, Asked, State}
 use Rattle.rules.specs.Tables.{freeObject, withObject}
 use Rattle.rules.specs.Lines.{those, first, toTail}
 use Rattle.rules.specs.Sentences.{MayWait, receiver, sender, taker, awaiter, a-group, Sound}

@@ -14,7 +14,7 @@ use Rattle.slots.specs.Places.{isFree, waitsOn}
 use Rattle.slots.specs.Wants.{waitOn}
 use Rattle.slots.specs.Values.{taskAt}
 use Rattle.slots.specs.Kinds.{countOf, counting, isUnused, isMutex, hands, heldBy, isHeld, kindAt}
-use Rattle.rules.specs.Types.{TaskSlot, ObjSlot, Wake, Ready, Waiting, Task, Holder, Nobody, By, Sort, Ordinary, Recursive, Kind, Unused, SpentObject, Queue, Mutex, WaitersOf, State, AMutex, Want, Turn, Wait, Group}
+use Rattle.rules.specs.Types.{TaskSlot, ObjSlot, Wake, Ready, Waiting, Task, Holder, Nobody, By, Sort, Ordinary, Recursive, Kind, Unused, SpentObject, Queue, Mutex, WaitersOf, State, AMutex, Want, OwnTurn, Wait, Group}
 use Rattle.rules.specs.Tables.{withObject}
 use Rattle.rules.specs.Lines.{first, toTail}
 use Rattle.rules.specs.Sentences.{Holds, Exists, MayWait, taker, KindFits, vacant, an-ordinary, free-recursive, held-recursive, Sound}
@@ -80,14 +80,14 @@ module _ (k : State) (S : Sound k) (store : ℕ) where
 
   -- the caller, who is not idle, begins to wait on a mutex that another holds
   pub waits-nearly : (o : ObjSlot) (w : ℕ) → 0 < w → (k .running .0 ≡ 0 → ⊥) → (s : Sort) (h : TaskSlot) → kindAt (k .objects) o ≡ Mutex s (By h) → (h .0 ≡ k .running .0 → ⊥)
-      → Nearly (settled (k .tick)) (waitFor k o Turn w)
+      → Nearly (settled (k .tick)) (waitFor k o OwnTurn w)
   unfolding waitFor
-  waits-nearly o w some busy s h e other = arrives-nearly k N (k .running) caller-low (to-wait refl busy may-wait (wake-ahead (k .tick) w (waitOn o Turn) (S .clock .counts .tick-range) some))
+  waits-nearly o w some busy s h e other = arrives-nearly k N (k .running) caller-low (to-wait refl busy may-wait (wake-ahead (k .tick) w (waitOn o OwnTurn) (S .clock .counts .tick-range) some))
     where
-      may-wait : (y : Wait) (v : Wake) → Waiting (waitOn o Turn) (wakeOf (k .tick) w) ≡ Waiting y v → MayWait (k .running) (y .want) (kindAt (k .objects) (y .object))
+      may-wait : (y : Wait) (v : Wake) → Waiting (waitOn o OwnTurn) (wakeOf (k .tick) w) ≡ Waiting y v → MayWait (k .running) (y .want) (kindAt (k .objects) (y .object))
       may-wait p v q =
-          let z : waitOn o Turn ≡ p = cc in
-          subst (λ (y : Wait). MayWait (k .running) (y .want) (kindAt (k .objects) (y .object))) z (subst (λ (x : Kind). MayWait (k .running) Turn x) (sym e) (taker other))
+          let z : waitOn o OwnTurn ≡ p = cc in
+          subst (λ (y : Wait). MayWait (k .running) (y .want) (kindAt (k .objects) (y .object))) z (subst (λ (x : Kind). MayWait (k .running) OwnTurn x) (sym e) (taker other))
 
   -- 15: take
   module _ (o : ObjSlot) (w : ℕ) {l : Bool} (P : Passed k (onObject 15 AMutex o l w) store) where
@@ -132,7 +132,7 @@ module _ (k : State) (S : Sound k) (store : ℕ) where
     taken-again : (s : Sort) → kindAt (k .objects) o ≡ Mutex s (By (k .running)) → Keeps (withObject k o (callersWith k s (countOf s + 1)))
     taken-again s e = callers s (countOf s + 1) (omega arith) (omega (arith, may-again s e)) (λ t x v p. waits-still (subst (λ y. MayWait t x y) e (S .tables .tasks t .waits (waitOn o x) v p)))
 
-    held-waited : (s : Sort) (h : TaskSlot) → kindAt (k .objects) o ≡ Mutex s (By h) → (h .0 ≡ k .running .0 → ⊥) → Keeps (waitFor k o Turn w)
+    held-waited : (s : Sort) (h : TaskSlot) → kindAt (k .objects) o ≡ Mutex s (By h) → (h .0 ≡ k .running .0 → ⊥) → Keeps (waitFor k o OwnTurn w)
     unfolding waitFor arrives toTail
     held-waited s h e d =
         let wait = some e d in

@@ -11,7 +11,7 @@ use Rattle.lists.proofs.Bools.{on, not-off}
 use Rattle.calls.specs.Behind.{onObject}
 use Rattle.slots.specs.Places.{waitsOn}
 use Rattle.slots.specs.Kinds.{isUnused, isQueue, kindAt}
-use Rattle.rules.specs.Types.{TaskSlot, ObjSlot, Wait, Wake, Place, Free, Ready, Delayed, Waiting, Suspended, Spent, Ring, Kind, Queue, WaitersOf, toWaiter, toQueue, toCaller, State, AQueue, Want, Turn}
+use Rattle.rules.specs.Types.{TaskSlot, ObjSlot, Wait, Wake, Place, Free, Ready, Delayed, Waiting, Suspended, Spent, Ring, Kind, Queue, WaitersOf, toWaiter, toQueue, toCaller, State, AQueue, Want, OwnTurn}
 use Rattle.slots.specs.Wants.{waitOn}
 use Rattle.slots.specs.Values.{taskAt}
 use Rattle.rules.specs.Tables.{withObject}
@@ -77,13 +77,13 @@ module _ (k : State) (S : Sound k) (o : ObjSlot) (q : Ring) (kind : kindAt (k .o
       object-nearly k N o (Queue r) low W (a-queue f) (λ t e. absurd (let z : _≡_ {A = ℕ} 0 1 = cc in omega arith))
 
   -- the caller waits
-  caller-waits : (w : ℕ) → 0 < w → (k .running .0 ≡ 0 → ⊥) → (0 < k .hold → ⊥) → MayWait (k .running) Turn (Queue q) → Keeps (waitFor k o Turn w)
+  caller-waits : (w : ℕ) → 0 < w → (k .running .0 ≡ 0 → ⊥) → (0 < k .hold → ⊥) → MayWait (k .running) OwnTurn (Queue q) → Keeps (waitFor k o OwnTurn w)
   unfolding waitFor arrives toTail
   caller-waits w s busy no-hold m =
       record {
         nearly = arrives-nearly k N (k .running) caller-low (to-wait refl busy
-            (λ p v e. let z : waitOn o Turn ≡ p = cc in subst (λ (y : Wait). MayWait (k .running) (y .want) (kindAt (k .objects) (y .object))) z (subst (λ (x : Kind). MayWait (k .running) Turn x) (sym kind) m))
-            (wake-ahead (k .tick) w (waitOn o Turn) (S .clock .counts .tick-range) s));
+            (λ p v e. let z : waitOn o OwnTurn ≡ p = cc in subst (λ (y : Wait). MayWait (k .running) (y .want) (kindAt (k .objects) (y .object))) z (subst (λ (x : Kind). MayWait (k .running) OwnTurn x) (sym kind) m))
+            (wake-ahead (k .tick) w (waitOn o OwnTurn) (S .clock .counts .tick-range) s));
         runs = λ h. absurd (no-hold h);
       }
 
@@ -161,7 +161,7 @@ module _ (k : State) (S : Sound k) (o : ObjSlot) (q : Ring) (kind : kindAt (k .o
             }
         refill h (t ∷ r) e = refilled-keeps t (first-single k (WaitersOf o) t r e) h
 
-        go : (b : Bool) → eqb (q .count) 0 ≡ b → Keeps (if b then waitFor k o Turn w else refilledBy k o (oneLess q) (first k (WaitersOf o)))
+        go : (b : Bool) → eqb (q .count) 0 ≡ b → Keeps (if b then waitFor k o OwnTurn w else refilledBy k o (oneLess q) (first k (WaitersOf o)))
         go true e = let z : q .count ≡ 0 = eqb-true (q .count) 0 e in caller-waits w (wait z) (busy (wait z)) (no-hold (wait z)) (receiver z)
         go false e = refill (omega (arith, eqb-false (q .count) 0 e)) (first k (WaitersOf o)) refl
 

@@ -20,7 +20,7 @@ use Rattle.slots.specs.Places.{isFree, isListed, waitsOn, wakesAt, outcomeDue}
 use Rattle.slots.specs.Wants.{waitOn, satisfiedOn}
 use Rattle.slots.specs.Values.{placed, brokenOff, taskAt}
 use Rattle.slots.specs.Kinds.{isUnused, kindAt}
-use Rattle.rules.specs.Types.{TaskSlot, ObjSlot, Place, Free, Ready, Delayed, Waiting, Suspended, Spent, Task, Ring, Holder, Sort, Kind, Unused, SpentObject, Queue, Mutex, Object, WaitersOf, Want, Turn, Group, SatisfiedOn}
+use Rattle.rules.specs.Types.{TaskSlot, ObjSlot, Place, Free, Ready, Delayed, Waiting, Suspended, Spent, Task, Ring, Holder, Sort, Kind, Unused, SpentObject, Queue, Mutex, Object, WaitersOf, Want, OwnTurn, Group, SatisfiedOn}
 use Rattle.rules.specs.Types.{Call, Create, Delete, Suspend, Resume, SetPriority, Delay, Yield, Hold, Release, MakeQueue, MakeMutex, Remove, Send, Receive, Take, Give, Tick, Advance, MakeRecursive, MakeGroup, SetBits, ClearBits, Await, State}
 use Rattle.rules.specs.Tables.{withTask, withObject, withTick, withHold}
 use Rattle.rules.specs.Lines.{begun, first, toTail, leaves}
@@ -236,14 +236,14 @@ module _ (k : State) (S : Sound k) where
     sent-stays : Stays k (sent k o q w)
     unfolding sent
     sent-stays =
-        by-outlet k o q (λ x. Stays k (sentBy k o q w x)) (λ t e. arrives-stays k t Ready 1 refl (first-there o t [] e)) (queue-stays _) (wait-stays k o Turn w caller-there)
+        by-outlet k o q (λ x. Stays k (sentBy k o q w x)) (λ t e. arrives-stays k t Ready 1 refl (first-there o t [] e)) (queue-stays _) (wait-stays k o OwnTurn w caller-there)
 
     received-stays : Stays k (received k o q w)
     unfolding received
     received-stays = go (eqb (q .count) 0) (first k (WaitersOf o)) refl
       where
-        go : (b : Bool) (l : List TaskSlot) → first k (WaitersOf o) ≡ l → Stays k (if b then waitFor k o Turn w else refilledBy k o (oneLess q) l)
-        go true l e = wait-stays k o Turn w caller-there
+        go : (b : Bool) (l : List TaskSlot) → first k (WaitersOf o) ≡ l → Stays k (if b then waitFor k o OwnTurn w else refilledBy k o (oneLess q) l)
+        go true l e = wait-stays k o OwnTurn w caller-there
         go false [] e = queue-stays _
         go false (t ∷ l) e = onward (queue-stays _) (arrives-stays (withObject k o (Queue _)) t Ready 1 refl (first-there o t l e))
 
@@ -258,7 +258,7 @@ module _ (k : State) (S : Sound k) where
   mutex-stays o j m i e t = onward t (object-stays j o (Mutex m i) (sym (t .objects o ∙ ap standsAs e)))
 
   pub take-stays : (o : ObjSlot) (w : ℕ) → Stays k (taken k o w)
-  take-stays o w = by-take k o (Stays k) w (λ m. stays) (λ s e. mutex-stays o k _ _ e stays) (λ s e. mutex-stays o k _ _ e stays) (λ s h e d. wait-stays k o Turn w caller-there)
+  take-stays o w = by-take k o (Stays k) w (λ m. stays) (λ s e. mutex-stays o k _ _ e stays) (λ s e. mutex-stays o k _ _ e stays) (λ s h e d. wait-stays k o OwnTurn w caller-there)
 
   pub give-stays : (o : ObjSlot) → Stays k (given k o)
   give-stays o =

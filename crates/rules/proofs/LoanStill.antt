@@ -14,7 +14,7 @@ use Rattle.slots.specs.Places.{waitsOn, isWaiting, isSuspended, isFree, wakesAt
 use Rattle.slots.specs.Kinds.{kindAt, isTaken, hands, byWhom, holderOf, isHeld}
 use Rattle.slots.specs.Wants.{waitOn, satisfiedOn}
 use Rattle.slots.specs.Values.{placed, taskAt, readyAt}
-use Rattle.rules.specs.Types.{Call, Create, Delete, Suspend, Resume, SetPriority, Delay, Yield, Hold, Release, MakeQueue, MakeMutex, Remove, Send, Receive, Take, Give, Tick, Advance, MakeRecursive, MakeGroup, SetBits, ClearBits, Await, Want, Wait, Turn, Group, SatisfiedOn}
+use Rattle.rules.specs.Types.{Call, Create, Delete, Suspend, Resume, SetPriority, Delay, Yield, Hold, Release, MakeQueue, MakeMutex, Remove, Send, Receive, Take, Give, Tick, Advance, MakeRecursive, MakeGroup, SetBits, ClearBits, Await, Want, Wait, OwnTurn, Group, SatisfiedOn}
 use Rattle.rules.specs.Types.{TaskSlot, ObjSlot, Place, Free, Ready, Delayed, Waiting, Suspended, Spent, Task, Ring, Kind, Queue, Object, WaitersOf, State, Holder, Nobody, By, Wake, Unused, SpentObject}
 use Rattle.rules.specs.Tables.{withObject, withHold, freeSlot, freeObject}
 use Rattle.rules.specs.Lines.{level, first, toTail}
@@ -162,9 +162,9 @@ module _ (k : State) (S : Sound k) where
     waiter-woken : (t : TaskSlot) (l : List TaskSlot) → first k (WaitersOf o) ≡ t ∷ l → waitsFor (k .tasks) (k .objects) t ≡ task 16
     waiter-woken t l e = for-nobody (k .objects) o (taskAt (k .tasks) t .place) (first-meant k (WaitersOf o) t (first-single k (WaitersOf o) t l e)) no-holder
 
-    caller-waits : Reckoned (waitFor k o Turn w .tasks) (waitFor k o Turn w .objects)
+    caller-waits : Reckoned (waitFor k o OwnTurn w .tasks) (waitFor k o OwnTurn w .objects)
     unfolding waitFor
-    caller-waits = placed-reckoned k R (k .running) (Waiting (waitOn o Turn) (wakeOf (k .tick) w)) 0 (no-holder ∙ sym caller-for-nobody)
+    caller-waits = placed-reckoned k R (k .running) (Waiting (waitOn o OwnTurn) (wakeOf (k .tick) w)) 0 (no-holder ∙ sym caller-for-nobody)
 
     queue-reckoned : (r : Ring) → Reckoned (k .tasks) (kinds (k .objects) o (Queue r))
     queue-reckoned r = object-reckoned k R o (Queue r) (sym no-holder)
@@ -178,7 +178,7 @@ module _ (k : State) (S : Sound k) where
     unfolding received
     received-reckoned = go (eqb (q .count) 0) (first k (WaitersOf o)) refl
       where
-        go : (b : Bool) (l : List TaskSlot) → first k (WaitersOf o) ≡ l → let j = if b then waitFor k o Turn w else refilledBy k o (oneLess q) l in Reckoned (j .tasks) (j .objects)
+        go : (b : Bool) (l : List TaskSlot) → first k (WaitersOf o) ≡ l → let j = if b then waitFor k o OwnTurn w else refilledBy k o (oneLess q) l in Reckoned (j .tasks) (j .objects)
         go true l e = caller-waits
         go false [] e = queue-reckoned (oneLess q)
         go false (t ∷ l) e =

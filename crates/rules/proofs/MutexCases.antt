@@ -9,7 +9,7 @@ use Rattle.lists.specs.Choice.{if_then_else_}
 use Rattle.numbers.specs.Numbers.{sameTask}
 use Rattle.order.proofs.Passing.{one-number}
 use Rattle.slots.specs.Kinds.{countOf, counting, isMutex, isBy, isTaken, kindAt}
-use Rattle.rules.specs.Types.{TaskSlot, ObjSlot, Ready, Holder, Nobody, By, Sort, Kind, Mutex, WaitersOf, State, Turn}
+use Rattle.rules.specs.Types.{TaskSlot, ObjSlot, Ready, Holder, Nobody, By, Sort, Kind, Mutex, WaitersOf, State, OwnTurn}
 use Rattle.rules.specs.Tables.{withObject}
 use Rattle.rules.specs.Lines.{first}
 use Rattle.rules.specs.Waits.{arrives, waitFor}
@@ -25,14 +25,14 @@ module _ (k : State) (o : ObjSlot) (P : State → Type 0) where
   pub by-take : (w : ℕ) → (isMutex (kindAt (k .objects) o) ≡ false → P k)
       → ((s : Sort) → kindAt (k .objects) o ≡ Mutex s Nobody → P (withObject k o (callersWith k s 1)))
       → ((s : Sort) → kindAt (k .objects) o ≡ Mutex s (By (k .running)) → P (withObject k o (callersWith k s (countOf s + 1))))
-      → ((s : Sort) (h : TaskSlot) → kindAt (k .objects) o ≡ Mutex s (By h) → (h .0 ≡ k .running .0 → ⊥) → P (waitFor k o Turn w))
+      → ((s : Sort) (h : TaskSlot) → kindAt (k .objects) o ≡ Mutex s (By h) → (h .0 ≡ k .running .0 → ⊥) → P (waitFor k o OwnTurn w))
       → P (taken k o w)
   unfolding taken
   by-take w none free again another =
       by-kind (kindAt (k .objects) o) (λ x. kindAt (k .objects) o ≡ x → P (takenFrom k o x w)) (λ e. none (ap isMutex e)) (λ e. none (ap isMutex e)) (λ q e f. none (ap isMutex e)) (λ s h e f. by-holder s h e) (λ b e f. none (ap isMutex e)) refl
     where
       go : (s : Sort) (h : TaskSlot) → kindAt (k .objects) o ≡ Mutex s (By h) → (b : Bool) → sameTask h (k .running) ≡ b
-          → P (if b then withObject k o (Mutex (counting s (countOf s + 1)) (By h)) else waitFor k o Turn w)
+          → P (if b then withObject k o (Mutex (counting s (countOf s + 1)) (By h)) else waitFor k o OwnTurn w)
       go s h e true q =
           subst (λ t. kindAt (k .objects) o ≡ Mutex s (By t) → P (withObject k o (Mutex (counting s (countOf s + 1)) (By t)))) (sym (one-number h (k .running) (eqb-true (h .0) (k .running .0) q)))
           (again s) e
@@ -70,7 +70,7 @@ module _ (k : State) (o : ObjSlot) (s : Sort) (w : ℕ) where
   takes-again Nobody e = absurd (false≢true e)
   takes-again (By t) e = rw e
 
-  pub takes-waiting : (h : Holder) → isBy (k .running) h ≡ false → isTaken h ≡ true → takenFrom k o (Mutex s h) w ≡ waitFor k o Turn w
+  pub takes-waiting : (h : Holder) → isBy (k .running) h ≡ false → isTaken h ≡ true → takenFrom k o (Mutex s h) w ≡ waitFor k o OwnTurn w
   takes-waiting Nobody e f = absurd (false≢true f)
   takes-waiting (By t) e f = rw e
 

@@ -14,7 +14,7 @@ use Rattle.slots.specs.Values.{taskAt}
 use Rattle.slots.specs.Kinds.{isUnused, hands, kindAt}
 use Rattle.slots.specs.Wants.{allBits, holdsOf, acceptedMask}
 use Rattle.slots.specs.SoundSlots.{idleFine, awaitsTurn, awaitsBits, mayWait, waitsFine, holderThere, ringFine, kindInRange, outcomeFine, freshIfFree}
-use Rattle.rules.specs.Types.{TaskSlot, ObjSlot, Want, Turn, Bits, Place, Free, Ready, Delayed, Waiting, Suspended, Spent, Task, Ring, Holder, Nobody, By, Ordinary, Recursive, Kind, Unused, SpentObject, Queue, Mutex, Group, Object}
+use Rattle.rules.specs.Types.{TaskSlot, ObjSlot, Want, OwnTurn, Bits, Place, Free, Ready, Delayed, Waiting, Suspended, Spent, Task, Ring, Holder, Nobody, By, Ordinary, Recursive, Kind, Unused, SpentObject, Queue, Mutex, Group, Object}
 use Rattle.rules.specs.Tables.{holds}
 use Rattle.rules.specs.Sound.{slotTask, sixteen, waitersFine, holdersThere, kindsInRange, outcomesFine, freshSlots, tablesFine}
 use Rattle.rules.specs.Sentences.{MayWait, receiver, sender, taker, awaiter, RingFits, KindFits, vacant, a-queue, a-group, an-ordinary, free-recursive, held-recursive, TaskFits, Tables}
@@ -53,12 +53,12 @@ tested-tables ts os T =
     (also _ _ (T .holders) (also _ _ (T .ranges) (also _ _ (T .outcomes) (also _ _ (T .fresh) none)))))))
 
 -- ── tests and propositions on one value
-may-turn : (t : TaskSlot) (x : Kind) → awaitsTurn t x ≡ true → MayWait t Turn x
+may-turn : (t : TaskSlot) (x : Kind) → awaitsTurn t x ≡ true → MayWait t OwnTurn x
 may-turn t Unused e = absurd (false≢true e)
 may-turn t SpentObject e = absurd (false≢true e)
 may-turn t (Queue q) e = go (eqb (q .count) 0) refl e
   where
-    go : (b : Bool) → eqb (q .count) 0 ≡ b → b || eqb (q .count) (q .capacity) ≡ true → MayWait t Turn (Queue q)
+    go : (b : Bool) → eqb (q .count) 0 ≡ b → b || eqb (q .count) (q .capacity) ≡ true → MayWait t OwnTurn (Queue q)
     go true f g = receiver (eqb-true (q .count) 0 f)
     go false f g = sender (eqb-true (q .count) (q .capacity) g)
 may-turn t (Mutex s Nobody) e = absurd (false≢true e)
@@ -75,7 +75,7 @@ may-await t m all clear (Group b) e =
     awaiter (leb-true 1 m (and-left (leb 1 m) _ mask)) (leb-true m allBits (and-right (leb 1 m) _ mask)) (off (holdsOf b m all) (and-right (acceptedMask m) _ e))
 
 may-wait : (t : TaskSlot) (y : Want) (x : Kind) → mayWait t y x ≡ true → MayWait t y x
-may-wait t Turn x e = may-turn t x e
+may-wait t OwnTurn x e = may-turn t x e
 may-wait t (Bits m all clear) x e = may-await t m all clear x e
 
 waits-may : {t : TaskSlot} {y : Want} {x : Kind} → MayWait t y x → mayWait t y x ≡ true

@@ -7,7 +7,7 @@ use Rattle.lists.specs.Choice.{if_then_else_}
 use Rattle.numbers.specs.Numbers.{task, object, sameTask}
 use Rattle.slots.specs.Places.{isListed}
 use Rattle.slots.specs.Values.{freeTask, spentTask, readyAt, brokenOff, taskAt}
-use Rattle.rules.specs.Types.{TaskSlot, ObjSlot, Turn, Ready, Delayed, Nobody, By, Sort, Ordinary, Recursive, Kind, Unused, SpentObject, Queue, Mutex, Group, WaitersOf, Asked, State}
+use Rattle.rules.specs.Types.{TaskSlot, ObjSlot, OwnTurn, Ready, Delayed, Nobody, By, Sort, Ordinary, Recursive, Kind, Unused, SpentObject, Queue, Mutex, Group, WaitersOf, Asked, State}
 use Rattle.slots.specs.Kinds.{countOf, counting, kindAt}
 use Rattle.rules.specs.Tables.{freeSlot, freeObject, withTask, withObject}
 use Rattle.rows.specs.Asking.{is}
@@ -62,7 +62,7 @@ takenFrom k o SpentObject w = k
 takenFrom k o (Queue q) w = k
 takenFrom k o (Group b) w = k
 takenFrom k o (Mutex s Nobody) w = withObject k o (Mutex (counting s 1) (By (k .running)))
-takenFrom k o (Mutex s (By h)) w = if sameTask h (k .running) then withObject k o (Mutex (counting s (countOf s + 1)) (By h)) else waitFor k o Turn w
+takenFrom k o (Mutex s (By h)) w = if sameTask h (k .running) then withObject k o (Mutex (counting s (countOf s + 1)) (By h)) else waitFor k o OwnTurn w
 
 unfoldable pub taken : State → ObjSlot → ℕ → State
 taken k o w = takenFrom k o (kindAt (k .objects) o) w

@@ -4,7 +4,7 @@ use mathlib.Core.List.{List, [], _∷_}
 use lib.Dec.{eqb}
 use Rattle.lists.specs.Choice.{if_then_else_}
 use Rattle.items.specs.Bytes.{bytesAt, putAt}
-use Rattle.rules.specs.Types.{TaskSlot, ObjSlot, Turn, Ready, Ring, Kind, Unused, SpentObject, Queue, Mutex, Group, WaitersOf, Outlet, toWaiter, toQueue, toCaller, State}
+use Rattle.rules.specs.Types.{TaskSlot, ObjSlot, OwnTurn, Ready, Ring, Kind, Unused, SpentObject, Queue, Mutex, Group, WaitersOf, Outlet, toWaiter, toQueue, toCaller, State}
 use Rattle.rules.specs.Tables.{withObject}
 use Rattle.rules.specs.Lines.{first}
 use Rattle.rules.specs.Waits.{arrives, waitFor}
@@ -22,7 +22,7 @@ outlet k o q = outletFor q (first k (WaitersOf o))
 abbrev pub sentBy : State → ObjSlot → Ring → ℕ → Outlet → State
 sentBy k o q w (toWaiter t) = arrives k t Ready 1
 sentBy k o q w toQueue = withObject k o (Queue (oneMore q))
-sentBy k o q w toCaller = waitFor k o Turn w
+sentBy k o q w toCaller = waitFor k o OwnTurn w
 
 abbrev pub placeBy : State → ObjSlot → Ring → Outlet → ℕ
 placeBy k o q (toWaiter t) = slipOf t
@@ -47,7 +47,7 @@ storeRefilledBy o q (t ∷ l) s = putAt (itemAt o q (q .count)) (bytesAt (slipOf
 
 -- 14: "The oldest item goes to the caller's slip"; "Empty: the caller waits."
 unfoldable pub received : State → ObjSlot → Ring → ℕ → State
-received k o q w = if eqb (q .count) 0 then waitFor k o Turn w else refilledBy k o (oneLess q) (first k (WaitersOf o))
+received k o q w = if eqb (q .count) 0 then waitFor k o OwnTurn w else refilledBy k o (oneLess q) (first k (WaitersOf o))
 
 unfoldable pub storeReceived : State → ObjSlot → Ring → List ℕ → List ℕ
 storeReceived k o q s =

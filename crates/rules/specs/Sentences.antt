@@ -12,7 +12,7 @@ use Rattle.order.specs.Order.{listed}
 use Rattle.order.specs.Tidy.{count}
 use Rattle.slots.specs.Places.{isFree, isBlocked, isListed, waitsOn}
 use Rattle.slots.specs.Values.{freeTask, spentTask, inLine, taskAt}
-use Rattle.rules.specs.Types.{TaskSlot, ObjSlot, Want, Turn, Bits, Wait, Wake, At, Place, Free, Ready, Delayed, Waiting, Spent, Order, Uses, Task, Ring, Holder, Nobody, By, Sort, Ordinary, Recursive, Kind, Queue, Mutex, Group, Object, WaitersOf, State}
+use Rattle.rules.specs.Types.{TaskSlot, ObjSlot, Want, OwnTurn, Bits, Wait, Wake, At, Place, Free, Ready, Delayed, Waiting, Spent, Order, Uses, Task, Ring, Holder, Nobody, By, Sort, Ordinary, Recursive, Kind, Queue, Mutex, Group, Object, WaitersOf, State}
 use Rattle.slots.specs.Kinds.{isUnused, hands, kindAt}
 use Rattle.slots.specs.Wants.{allBits, holdsOf}
 use Rattle.rules.specs.Tables.{withUses}
@@ -33,9 +33,9 @@ Exists ts t = isFree (taskAt ts t .place) ≡ false
 -- "receivers wait only on an empty queue, senders only on a full one, takers only on a mutex held by another", each for its turn; of an event group "Waiters stand only where
 -- unsatisfied, with a mask and flags that the call accepts": the mask is not empty and within the 24 bits
 pub data MayWait (t : TaskSlot) : Want → Kind → Type 0 where
-  receiver : {q : Ring} → q .count ≡ 0 → MayWait t Turn (Queue q)
-  sender : {q : Ring} → q .count ≡ q .capacity → MayWait t Turn (Queue q)
-  taker : {s : Sort} {u : TaskSlot} → (u .0 ≡ t .0 → ⊥) → MayWait t Turn (Mutex s (By u))
+  receiver : {q : Ring} → q .count ≡ 0 → MayWait t OwnTurn (Queue q)
+  sender : {q : Ring} → q .count ≡ q .capacity → MayWait t OwnTurn (Queue q)
+  taker : {s : Sort} {u : TaskSlot} → (u .0 ≡ t .0 → ⊥) → MayWait t OwnTurn (Mutex s (By u))
   awaiter : {b m : ℕ} {all clear : Bool} → 1 ≤ m → m ≤ allBits → holdsOf b m all ≡ false → MayWait t (Bits m all clear) (Group b)
 
 -- "A queue has capacity 1 to 64 and item size 0 to 64 bytes, with capacity times size at most 512."

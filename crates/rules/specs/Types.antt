@@ -15,7 +15,7 @@ pub use Rattle.order.specs.declared.Order.{Order}
 pub use Rattle.slots.specs.declared.Wake.{Wake}
 pub use Rattle.slots.specs.declared.Wake.the-variants.{Never, At}
 pub use Rattle.slots.specs.declared.Want.{Want}
-pub use Rattle.slots.specs.declared.Want.the-variants.{Turn, Bits}
+pub use Rattle.slots.specs.declared.Want.the-variants.{OwnTurn, Bits}
 pub use Rattle.slots.specs.declared.Wait.{Wait}
 pub use Rattle.slots.specs.declared.Place.{Place}
 pub use Rattle.slots.specs.declared.Place.the-variants.{Free, Ready, Delayed, Waiting, Suspended, Spent}

@@ -6,7 +6,7 @@ use native.Mathlib.Omega.{arith}
 use lib.Bits.{bitAnd, bitOr, and-step, and-zero-l, and-le-l, and-le-r, or-lt}
 use lib.Dec.{eqb}
 use borrow.Author.Tests.{eq-eqb, eqb-true, eqb-false, ne-eqb}
-use Rattle.slots.specs.Types.{Want, Turn, Bits}
+use Rattle.slots.specs.Types.{Want, OwnTurn, Bits}
 use Rattle.slots.specs.Wants.{allBits, holdsOf, satisfied, cleared}
 
 -- what is left of the bits shares no more with a mask than they did
@@ -36,7 +36,7 @@ fewer-hold b c m false h = go (eqb (bitAnd b m) 0) refl
     go false e = absurd (false≢true (sym (rw e at h)))
 
 pub fewer-satisfied : (b c : ℕ) (x : Want) → satisfied b x ≡ false → satisfied (cleared b c) x ≡ false
-fewer-satisfied b c Turn h = refl
+fewer-satisfied b c OwnTurn h = refl
 fewer-satisfied b c (Bits m all clear) h = fewer-hold b c m all h
 
 -- and they are within the 24, as the two are that are joined

@@ -5,7 +5,7 @@ use mathlib.Core.List.{List}
 use lib.Dec.{eqb, ltb, leb}
 use lib.ListN.{getD}
 use Rattle.numbers.specs.declared.TaskSlot.{TaskSlot}
-use Rattle.slots.specs.Types.{Wake, Never, At, Want, Turn, Bits, Place, Free, Ready, Delayed, Waiting, Suspended, Spent, Task, Ring, Holder, Nobody, By, Sort, Ordinary, Recursive, Kind, Unused, SpentObject, Queue, Mutex, Group, Object}
+use Rattle.slots.specs.Types.{Wake, Never, At, Want, OwnTurn, Bits, Place, Free, Ready, Delayed, Waiting, Suspended, Spent, Task, Ring, Holder, Nobody, By, Sort, Ordinary, Recursive, Kind, Unused, SpentObject, Queue, Mutex, Group, Object}
 use Rattle.slots.specs.Places.{isFree, isReady, isBlocked, isListed, wakesAt}
 use Rattle.slots.specs.Values.{taskAt}
 use Rattle.slots.specs.Wants.{allBits, holdsOf, acceptedMask}
@@ -41,7 +41,7 @@ awaitsBits m all (Mutex s h) = false
 awaitsBits m all (Group b) = acceptedMask m && not (holdsOf b m all)
 
 abbrev pub mayWait : TaskSlot → Want → Kind → Bool
-mayWait t Turn x = awaitsTurn t x
+mayWait t OwnTurn x = awaitsTurn t x
 mayWait t (Bits m all clear) x = awaitsBits m all x
 
 -- for its turn, by what is noted of each object: it is a queue that is empty or full, or a mutex that is taken, and by whom

@@ -6,7 +6,7 @@ use lib.Dec.{eqb, leb}
 use Rattle.lists.specs.Choice.{if_then_else_}
 use Rattle.numbers.specs.declared.ObjSlot.{ObjSlot}
 use Rattle.numbers.specs.Numbers.{sameObject}
-use Rattle.slots.specs.Types.{Want, Turn, Bits, Wait, Place}
+use Rattle.slots.specs.Types.{Want, OwnTurn, Bits, Wait, Place}
 use Rattle.slots.specs.Places.{ofBlocked}
 
 -- "24 bits"
@@ -19,7 +19,7 @@ holdsOf b m all = if all then eqb (bitAnd b m) m else not (eqb (bitAnd b m) 0)
 
 -- what the bits satisfy; whoever waits for its turn waits for no bits
 abbrev pub satisfied : ℕ → Want → Bool
-satisfied b Turn = false
+satisfied b OwnTurn = false
 satisfied b (Bits m all clear) = holdsOf b m all
 
 -- those of the bits that are not in the mask: "kept or cleared when satisfied"
@@ -28,7 +28,7 @@ cleared b m = b - bitAnd b m
 
 -- the bits that it asks to have cleared
 abbrev pub clears : Want → ℕ
-clears Turn = 0
+clears OwnTurn = 0
 clears (Bits m all clear) = if clear then m else 0
 
 -- "with a mask and flags that the call accepts": a flag is 0 or 1, which is false or true here
@@ -45,4 +45,4 @@ satisfiedOn o b p = ofBlocked false (λ w. false) (λ x w. sameObject (x .object
 
 -- what a task in this place wants; its turn, if it does not wait
 abbrev pub wantIn : Place → Want
-wantIn p = ofBlocked Turn (λ w. Turn) (λ x w. x .want) p
+wantIn p = ofBlocked OwnTurn (λ w. OwnTurn) (λ x w. x .want) p

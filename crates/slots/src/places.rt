@@ -78,12 +78,12 @@ impl Place {
         ensures { λ r. ⌜ r ≡ wantIn self ⌝ }
     {
         match self {
-            Place::Free => Want::Turn,
-            Place::Ready => Want::Turn,
-            Place::Delayed(_) => Want::Turn,
+            Place::Free => Want::OwnTurn,
+            Place::Ready => Want::OwnTurn,
+            Place::Delayed(_) => Want::OwnTurn,
             Place::Waiting(x, _) => x.want,
-            Place::Suspended => Want::Turn,
-            Place::Spent => Want::Turn,
+            Place::Suspended => Want::OwnTurn,
+            Place::Spent => Want::OwnTurn,
         }
     }
 }

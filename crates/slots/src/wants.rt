@@ -26,7 +26,7 @@ impl Want {
         ensures { λ r. ⌜ r ≡ satisfied bits self ⌝ }
     {
         match self {
-            Want::Turn => false,
+            Want::OwnTurn => false,
             Want::Bits(m, all, _) => holds_of(bits, m, all),
         }
     }
@@ -36,7 +36,7 @@ impl Want {
         ensures { λ r. ⌜ r ≡ clears self ⌝ }
     {
         match self {
-            Want::Turn => 0,
+            Want::OwnTurn => 0,
             Want::Bits(m, _, clear) => { if clear { m } else { 0 } }
         }
     }

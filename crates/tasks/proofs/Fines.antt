@@ -14,15 +14,15 @@ use Rattle.lists.proofs.Tests.{by-six}
 use Rattle.lists.proofs.Loops.{Held}
 use Rattle.numbers.specs.Numbers.{task}
 use Rattle.slots.specs.declared.Want.{Want}
-use Rattle.slots.specs.declared.Want.the-variants.{Turn, Bits}
+use Rattle.slots.specs.declared.Want.the-variants.{OwnTurn, Bits}
 use Rattle.slots.specs.Who.{AllReady}
 use Rattle.slots.specs.SoundSlots.{notDue, mayWaitOn}
 use Rattle.slots.proofs.Sweeps.{none-counted}
 use Rattle.tasks.specs.declared.Tasks.{Tasks}
-use Rattle.tasks.specs.Masks.{wantOf, wantAt, maskFine}
+use Rattle.tasks.specs.Masks.{wantOf, wantAt}
 use Rattle.tasks.specs.Numbering.{cells, placeOf}
 use Rattle.tasks.specs.Columns.{tasksOf, rowAt, rowsOf}
-use Rattle.tasks.specs.Known.{waitsState, known, wakeKnown, canonical}
+use Rattle.tasks.specs.Known.{waitsState, known, wakeKnown, knownAt, wakeAt, maskAt, canonical}
 use Rattle.tasks.specs.Fine.{rowFine, idleIf, idleAlone, wakeFine, aloneFine, rowsFine, wakesFine, waitsTurn, waitsBy, waitsAt, waitingIn}
 use Rattle.tasks.proofs.Columns.{Full}
 use Rattle.tasks.proofs.WayBack.{tasks-back}
@@ -79,15 +79,12 @@ module _ (ts : Tasks) where
   rows-are : (stands : List ℕ) (holds : List Bool) → allBelow 16 (rowNumber stands holds) ≡ allBelow 16 (rowsFine ts stands holds)
   rows-are stands holds = all-same 16 (rowNumber stands holds) (rowsFine ts stands holds) (λ i l. rows-is stands holds i)
 
-  abbrev maskNumber : ℕ → Bool
-  maskNumber i = maskFine (getD (ts .wants .mask) i 0) (getD (ts .wants .flags) i 0)
-
   abbrev wakeNumber : ℕ → ℕ → Bool
-  wakeNumber tick i = wakeFine (getD (ts .state) i 0) (getD (ts .wake) i 0) tick && maskNumber i
+  wakeNumber tick i = wakeFine (getD (ts .state) i 0) (getD (ts .wake) i 0) tick && maskAt ts i
 
   wakes-is : (tick i : ℕ) → wakeNumber tick i ≡ wakesFine ts tick i
   unfolding rowAt
-  wakes-is tick i = ap (λ (b : Bool). b && maskNumber i) (wake-is (getD (ts .object) i 0) (getD (ts .wake) i 0) tick (wantAt (ts .wants) i) (getD (ts .state) i 0))
+  wakes-is tick i = ap (λ (b : Bool). b && maskAt ts i) (wake-is (getD (ts .object) i 0) (getD (ts .wake) i 0) tick (wantAt (ts .wants) i) (getD (ts .state) i 0))
 
   pub wakes-are : (tick : ℕ) → allBelow 16 (wakeNumber tick) ≡ allBelow 16 (wakesFine ts tick)
   wakes-are tick = all-same 16 (wakeNumber tick) (wakesFine ts tick) (λ i l. wakes-is tick i)
@@ -129,22 +126,13 @@ module _ (ts : Tasks) (full : Full ts) (tick : ℕ) (stands : List ℕ) (holds :
   abbrev wakes : Bool
   wakes = allBelow 16 (wakesFine ts tick)
 
-  abbrev knownAt : ℕ → Bool
-  knownAt i = known (getD (ts .state) i 0) (getD (ts .object) i 0) (getD (ts .wants .flags) i 0)
-
-  abbrev wakeAt : ℕ → Bool
-  wakeAt i = wakeKnown (getD (ts .state) i 0) (getD (ts .wake) i 0)
-
-  abbrev maskAt : ℕ → Bool
-  maskAt i = maskFine (getD (ts .wants .mask) i 0) (getD (ts .wants .flags) i 0)
-
-  plain : rows ≡ true → wakes ≡ true → (i : ℕ) → i < 16 → (knownAt i && (wakeAt i && maskAt i)) ≡ true
+  plain : rows ≡ true → wakes ≡ true → (i : ℕ) → i < 16 → (knownAt ts i && (wakeAt ts i && maskAt ts i)) ≡ true
   plain h k i l =
       let due = notDue tick (rowAt ts i .place) in
       let w = all-below 16 (wakesFine ts tick) k i l in
-      and-intro (knownAt i) (wakeAt i && maskAt i)
-      (and-left (knownAt i) _ (all-below 16 (rowsFine ts stands holds) h i l))
-      (and-intro (wakeAt i) (maskAt i) (and-left (wakeAt i) due (and-left (wakeAt i && due) (maskAt i) w)) (and-right (wakeAt i && due) (maskAt i) w))
+      and-intro (knownAt ts i) (wakeAt ts i && maskAt ts i)
+      (and-left (knownAt ts i) _ (all-below 16 (rowsFine ts stands holds) h i l))
+      (and-intro (wakeAt ts i) (maskAt ts i) (and-left (wakeAt ts i) due (and-left (wakeAt ts i && due) (maskAt ts i) w)) (and-right (wakeAt ts i && due) (maskAt ts i) w))
 
   pub fine-whole : (a && (rows && wakes)) ≡ true → ts ≡ tasksOf (rowsOf ts)
   unfolding canonical
@@ -191,7 +179,7 @@ module _ (ts : Tasks) (opens takes : List Bool) (holder : List ℕ) where
   turn-asked i o m f false = refl
   turn-asked i o m f true = go (eqb f 0)
     where
-      go : (c : Bool) → (if c then asks i o else true) ≡ waitsTurn opens takes holder (task i) (if c then Turn else Bits m (eqb f 2 || eqb f 4) (leb 3 f)) o
+      go : (c : Bool) → (if c then asks i o else true) ≡ waitsTurn opens takes holder (task i) (if c then OwnTurn else Bits m (eqb f 2 || eqb f 4) (leb 3 f)) o
       go true = refl
       go false = refl
 

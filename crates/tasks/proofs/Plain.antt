@@ -4,7 +4,7 @@ use mathlib.Core.Bool.{true}
 use mathlib.Core.List.{List, map}
 use lib.ListN.{getD, List·getD-map}
 use Rattle.lists.proofs.Bools.{below-all}
-use Rattle.slots.specs.declared.Want.the-variants.{Turn}
+use Rattle.slots.specs.declared.Want.the-variants.{OwnTurn}
 use Rattle.slots.specs.declared.Task.{Task}
 use Rattle.slots.specs.Values.{freeTask}
 use Rattle.tasks.specs.Masks.{flagsOf, maskOf, wantsOf}
@@ -17,5 +17,5 @@ unfolding canonical tasksOf wantsOf
 tasks-plain xs =
     below-all 16 _
     (λ i l. rw (List·getD-map stateOf xs i freeTask, List·getD-map objectCell xs i freeTask, List·getD-map wakeCell xs i freeTask)
-    (rw (List·getD-map flagsOf (map wantCell xs) i Turn, List·getD-map maskOf (map wantCell xs) i Turn, List·getD-map wantCell xs i freeTask)
+    (rw (List·getD-map flagsOf (map wantCell xs) i OwnTurn, List·getD-map maskOf (map wantCell xs) i OwnTurn, List·getD-map wantCell xs i freeTask)
     (place-back (getD xs i freeTask .place) .1)))

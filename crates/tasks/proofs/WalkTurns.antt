@@ -20,7 +20,7 @@ use Rattle.order.specs.Order.{appendedTo}
 use Rattle.heights.specs.declared.Lines.{Lines}
 use Rattle.heights.specs.Heights.{noLines, noted, occupied}
 use Rattle.slots.specs.declared.Want.{Want}
-use Rattle.slots.specs.declared.Want.the-variants.{Turn}
+use Rattle.slots.specs.declared.Want.the-variants.{OwnTurn}
 use Rattle.slots.specs.declared.Task.{Task}
 use Rattle.slots.specs.Who.{Who, AllReady, WaitersOf, SatisfiedOn}
 use Rattle.slots.specs.declared.Lead.{Lead}
@@ -118,22 +118,22 @@ module _ (ts : Tasks) (full : Full ts) where
   row : (i : ℕ) → i < length (rowsOf ts) → getD (rowsOf ts) i freeTask ≡ rowAt ts i
   row i h = row-at ts i (rw (← rows-many ts) h)
 
-  pub waited-is : (o : ObjSlot) → upTo (λ b i. b || isMeant (WaitersOf o) (getD (ts .state) i 0) (getD (ts .object) i 0) Turn) 16 false ≡ waitedIn ts o
+  pub waited-is : (o : ObjSlot) → upTo (λ b i. b || isMeant (WaitersOf o) (getD (ts .state) i 0) (getD (ts .object) i 0) OwnTurn) 16 false ≡ waitedIn ts o
   unfolding waitedIn
-  waited-is o = some-row (λ (x : Task). waitsOn o (x .place)) (λ i. isMeant (WaitersOf o) (getD (ts .state) i 0) (getD (ts .object) i 0) Turn) (rowsOf ts) freeTask 16 many
+  waited-is o = some-row (λ (x : Task). waitsOn o (x .place)) (λ i. isMeant (WaitersOf o) (getD (ts .state) i 0) (getD (ts .object) i 0) OwnTurn) (rowsOf ts) freeTask 16 many
       (λ i h. sym (row-meant ts i (WaitersOf o)) ∙ sym (ap (λ (x : Task). waitsOn o (x .place)) (row i h)))
 
   -- where nobody waits, nobody waits on it
-  not-meant : (o : ObjSlot) (s x : ℕ) → waitsState s ≡ false → isMeant (WaitersOf o) s x Turn ≡ false
+  not-meant : (o : ObjSlot) (s x : ℕ) → waitsState s ≡ false → isMeant (WaitersOf o) s x OwnTurn ≡ false
   not-meant o s x e = rw e
 
-  none-meant : (o : ObjSlot) → waitingIn ts ≡ 0 → (n : ℕ) → n ≤ 16 → upTo (λ b i. b || isMeant (WaitersOf o) (getD (ts .state) i 0) (getD (ts .object) i 0) Turn) n false ≡ false
+  none-meant : (o : ObjSlot) → waitingIn ts ≡ 0 → (n : ℕ) → n ≤ 16 → upTo (λ b i. b || isMeant (WaitersOf o) (getD (ts .state) i 0) (getD (ts .object) i 0) OwnTurn) n false ≡ false
   unfolding upTo waitingIn
   none-meant o e zero l = refl
   none-meant o e (suc n) l =
       rw (none-meant o e n (omega arith), not-meant o (getD (ts .state) n 0) (getD (ts .object) n 0) (none-counted (λ k. waitsState (getD (ts .state) k 0)) 16 e n (omega arith)))
 
-  pub waits-on-is : (o : ObjSlot) {found : Bool} {i : ℕ} → Upto (λ b j. b || isMeant (WaitersOf o) (getD (ts .state) j 0) (getD (ts .object) j 0) Turn) false found i
+  pub waits-on-is : (o : ObjSlot) {found : Bool} {i : ℕ} → Upto (λ b j. b || isMeant (WaitersOf o) (getD (ts .state) j 0) (getD (ts .object) j 0) OwnTurn) false found i
       → i ≡ min 16 (16 * waitingIn ts) → found ≡ waitedIn ts o
   waits-on-is o {found} {i} inv e = go (eqb (waitingIn ts) 0) refl
     where
@@ -177,7 +177,7 @@ module _ (now : ℕ) (ts : Tasks) (o : Order) (i : ℕ) (t : TaskSlot) (same : i
   levels = set-getD (ts .effective) i 0
 
   pub due-turn : {n : ℕ} {x : Wants} {p : Order} → getD (ts .wake) i 0 ≡ now → timed (getD (ts .state) i 0) ≡ true → n ≡ (if eqb (getD (ts .state) i 0) 2 then 1 else 2)
-      → x ≡ wantPut (ts .wants) i Turn → p ≡ tailed o t
+      → x ≡ wantPut (ts .wants) i OwnTurn → p ≡ tailed o t
       → woken (columns (set (ts .state) i 1) (set (ts .object) i 0) (set (ts .wake) i 0) x (ts .own) (ts .effective) (set (ts .outcome) i n)) p
       ≡ wakeIn now (woken ts o) t
   unfolding wakeIn put

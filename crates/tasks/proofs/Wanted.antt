@@ -13,7 +13,7 @@ use Rattle.lists.specs.Lists.{upTo}
 use Rattle.lists.proofs.Tests.{by-six}
 use Rattle.slots.proofs.Sweeps.{map-set, none-counted}
 use Rattle.slots.specs.declared.Want.{Want}
-use Rattle.slots.specs.declared.Want.the-variants.{Turn, Bits}
+use Rattle.slots.specs.declared.Want.the-variants.{OwnTurn, Bits}
 use Rattle.slots.specs.declared.Task.{Task}
 use Rattle.slots.specs.Values.{freeTask}
 use Rattle.slots.specs.Wants.{wantIn}
@@ -33,7 +33,7 @@ column f xs d col long z each =
 
 -- the numbers of a want say it, and one that it does not use is 0
 pub want-back : (w : Want) → (wantOf (maskOf w) (flagsOf w) ≡ w) × (((leb (flagsOf w) 4 && true) && maskFine (maskOf w) (flagsOf w)) ≡ true)
-want-back Turn = (refl, refl)
+want-back OwnTurn = (refl, refl)
 want-back (Bits m false false) = (refl, refl)
 want-back (Bits m true false) = (refl, refl)
 want-back (Bits m false true) = (refl, refl)
@@ -49,9 +49,9 @@ numbers-back m (suc (suc (suc (suc zero)))) l h = (refl, refl)
 numbers-back m (suc (suc (suc (suc (suc n))))) l h = absurd (omega (arith, leb-true (suc (suc (suc (suc (suc n))))) 4 l))
 
 -- the columns that stand for a list: a row, and a store
-pub want-of : (ws : List Want) (n : ℕ) → wantAt (wantsOf ws) n ≡ getD ws n Turn
+pub want-of : (ws : List Want) (n : ℕ) → wantAt (wantsOf ws) n ≡ getD ws n OwnTurn
 unfolding wantAt wantsOf
-want-of ws n = rw (List·getD-map maskOf ws n Turn, List·getD-map flagsOf ws n Turn) (want-back (getD ws n Turn) .0)
+want-of ws n = rw (List·getD-map maskOf ws n OwnTurn, List·getD-map flagsOf ws n OwnTurn) (want-back (getD ws n OwnTurn) .0)
 
 pub want-put-of : (ws : List Want) (n : ℕ) (w : Want) → wantPut (wantsOf ws) n w ≡ wantsOf (set ws n w)
 unfolding wantPut wantsOf
@@ -66,7 +66,7 @@ cell-put xs n x = want-put-of (map wantCell xs) n (wantCell x) ∙ ap wantsOf (m
 
 module _ (x : Wants) (masks : length (x .mask) ≡ 16) (flags : length (x .flags) ≡ 16) where
   -- a number past the table names who wants nothing, and what is stored there is lost
-  pub past-want : (n : ℕ) → 16 ≤ n → wantAt x n ≡ Turn
+  pub past-want : (n : ℕ) → 16 ≤ n → wantAt x n ≡ OwnTurn
   unfolding wantAt
   past-want n h = rw (List·getD-eq-default (x .flags) 0 {n = n} (omega arith))
 
@@ -76,20 +76,20 @@ module _ (x : Wants) (masks : length (x .mask) ≡ 16) (flags : length (x .flags
 
   -- columns without a number that is not used stand for the wants that they read as
   pub wants-back : (ws : List Want) → length ws ≡ 16 → ((i : ℕ) → i < 16 → (leb (getD (x .flags) i 0) 4 ≡ true) × (maskFine (getD (x .mask) i 0) (getD (x .flags) i 0) ≡ true))
-      → ((i : ℕ) → i < 16 → getD ws i Turn ≡ wantAt x i) → wantsOf ws ≡ x
+      → ((i : ℕ) → i < 16 → getD ws i OwnTurn ≡ wantAt x i) → wantsOf ws ≡ x
   unfolding wantsOf wantAt
   wants-back ws long plain same = λ j. record {
-    mask = column maskOf ws Turn (x .mask) (long ∙ sym masks) refl (λ i l. at i (omega arith) .0) j;
-    flags = column flagsOf ws Turn (x .flags) (long ∙ sym flags) refl (λ i l. at i (omega arith) .1) j;
+    mask = column maskOf ws OwnTurn (x .mask) (long ∙ sym masks) refl (λ i l. at i (omega arith) .0) j;
+    flags = column flagsOf ws OwnTurn (x .flags) (long ∙ sym flags) refl (λ i l. at i (omega arith) .1) j;
   }
     where
-      at : (i : ℕ) → i < 16 → (maskOf (getD ws i Turn) ≡ getD (x .mask) i 0) × (flagsOf (getD ws i Turn) ≡ getD (x .flags) i 0)
+      at : (i : ℕ) → i < 16 → (maskOf (getD ws i OwnTurn) ≡ getD (x .mask) i 0) × (flagsOf (getD ws i OwnTurn) ≡ getD (x .flags) i 0)
       at i l = rw (same i l) (numbers-back (getD (x .mask) i 0) (getD (x .flags) i 0) (plain i l .0) (plain i l .1))
 
 -- where nobody has flags, each wants its turn
-turn-in : (s o w : ℕ) → wantIn (placeOf (cells s o w Turn)) ≡ Turn
+turn-in : (s o w : ℕ) → wantIn (placeOf (cells s o w OwnTurn)) ≡ OwnTurn
 unfolding placeOf
-turn-in s o w = by-six (λ n. wantIn (placeOf (cells n o w Turn)) ≡ Turn) refl refl refl refl refl refl (λ n h. rw (is-suspended n o w Turn h)) s
+turn-in s o w = by-six (λ n. wantIn (placeOf (cells n o w OwnTurn)) ≡ OwnTurn) refl refl refl refl refl refl (λ n h. rw (is-suspended n o w OwnTurn h)) s
 
 pub one-unless : (b : Bool) → _≡_ {A = ℕ} (if not b then 1 else 0) (if b then 0 else 1)
 one-unless true = refl
@@ -107,6 +107,6 @@ module _ (ts : Tasks) (none : wantingIn ts ≡ 0) where
       on true e = refl
       on false e = sym e
 
-  pub none-bits : (i : ℕ) → i < 16 → wantIn (rowAt ts i .place) ≡ Turn
+  pub none-bits : (i : ℕ) → i < 16 → wantIn (rowAt ts i .place) ≡ OwnTurn
   unfolding rowAt wantAt
   none-bits i l = rw (no-flags i l) (turn-in (getD (ts .state) i 0) (getD (ts .object) i 0) (getD (ts .wake) i 0))

@@ -12,10 +12,10 @@ use Rattle.slots.specs.declared.Task.{Task}
 use Rattle.slots.specs.Values.{freeTask}
 use Rattle.tasks.specs.declared.Tasks.{Tasks}
 use Rattle.tasks.specs.declared.Cells.{Cells}
-use Rattle.tasks.specs.Masks.{wantOf, wantAt, maskFine}
+use Rattle.tasks.specs.Masks.{wantOf, wantAt}
 use Rattle.tasks.specs.Numbering.{cells, cellsOf, placeOf}
 use Rattle.tasks.specs.Columns.{stateOf, objectCell, wakeCell, wantCell, tasksOf, rowAt, rowsOf}
-use Rattle.tasks.specs.Known.{waitsState, known, wakeKnown, canonical}
+use Rattle.tasks.specs.Known.{waitsState, known, wakeKnown, knownAt, wakeAt, maskAt, canonical}
 use Rattle.tasks.proofs.Wanted.{column, wants-back}
 use Rattle.tasks.proofs.Columns.{Full, rows-many, row-at}
 
@@ -49,15 +49,6 @@ module _ (ts : Tasks) (full : Full ts) where
   abbrev cellsAt : ℕ → Cells
   cellsAt i = cells (getD (ts .state) i 0) (getD (ts .object) i 0) (getD (ts .wake) i 0) (wantAt (ts .wants) i)
 
-  abbrev knownAt : ℕ → Bool
-  knownAt i = known (getD (ts .state) i 0) (getD (ts .object) i 0) (getD (ts .wants .flags) i 0)
-
-  abbrev wakeAt : ℕ → Bool
-  wakeAt i = wakeKnown (getD (ts .state) i 0) (getD (ts .wake) i 0)
-
-  abbrev maskAt : ℕ → Bool
-  maskAt i = maskFine (getD (ts .wants .mask) i 0) (getD (ts .wants .flags) i 0)
-
   -- a canonical table is the columns of its list
   pub tasks-back : canonical ts ≡ true → tasksOf (rowsOf ts) ≡ ts
   unfolding tasksOf canonical rowAt wantAt
@@ -72,20 +63,20 @@ module _ (ts : Tasks) (full : Full ts) where
     outcome = of-rows (λ (x : Task). x .outcome) (ts .outcome) (full .outcomes) refl (λ i l. refl) j;
   }
     where
-      fine : (i : ℕ) → i < 16 → (knownAt i && (wakeAt i && maskAt i)) ≡ true
-      fine i l = all-below 16 (λ n. knownAt n && (wakeAt n && maskAt n)) h i l
+      fine : (i : ℕ) → i < 16 → (knownAt ts i && (wakeAt ts i && maskAt ts i)) ≡ true
+      fine i l = all-below 16 (λ n. knownAt ts n && (wakeAt ts n && maskAt ts n)) h i l
 
-      rest : (i : ℕ) → i < 16 → (wakeAt i && maskAt i) ≡ true
-      rest i l = and-right (knownAt i) (wakeAt i && maskAt i) (fine i l)
+      rest : (i : ℕ) → i < 16 → (wakeAt ts i && maskAt ts i) ≡ true
+      rest i l = and-right (knownAt ts i) (wakeAt ts i && maskAt ts i) (fine i l)
 
       few : (s o f : ℕ) → known s o f ≡ true → leb f 4 ≡ true
       few s o f k = and-left (leb f 4) _ (and-right (leb s 6) (leb f 4 && (waitsState s || (eqb o 0 && eqb f 0))) k)
 
-      wants : (i : ℕ) → i < 16 → (leb (getD (ts .wants .flags) i 0) 4 ≡ true) × (maskAt i ≡ true)
+      wants : (i : ℕ) → i < 16 → (leb (getD (ts .wants .flags) i 0) 4 ≡ true) × (maskAt ts i ≡ true)
       wants i l =
-          (few (getD (ts .state) i 0) (getD (ts .object) i 0) (getD (ts .wants .flags) i 0) (and-left (knownAt i) _ (fine i l)), and-right (wakeAt i) (maskAt i) (rest i l))
+          (few (getD (ts .state) i 0) (getD (ts .object) i 0) (getD (ts .wants .flags) i 0) (and-left (knownAt ts i) _ (fine i l)), and-right (wakeAt ts i) (maskAt ts i) (rest i l))
 
       same : (i : ℕ) → i < 16 → cellsOf (placeOf (cellsAt i)) ≡ cellsAt i
       same i l =
           cells-back (getD (ts .state) i 0) (getD (ts .object) i 0) (getD (ts .wake) i 0) (getD (ts .wants .mask) i 0) (getD (ts .wants .flags) i 0)
-          (and-left (knownAt i) _ (fine i l)) (and-left (wakeAt i) (maskAt i) (rest i l))
+          (and-left (knownAt ts i) _ (fine i l)) (and-left (wakeAt ts i) (maskAt ts i) (rest i l))

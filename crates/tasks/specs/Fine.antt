@@ -10,7 +10,7 @@ use Rattle.lists.specs.Lists.{allBelow, upTo}
 use Rattle.numbers.specs.declared.TaskSlot.{TaskSlot}
 use Rattle.numbers.specs.Numbers.{task, sameTask}
 use Rattle.slots.specs.declared.Want.{Want}
-use Rattle.slots.specs.declared.Want.the-variants.{Turn, Bits}
+use Rattle.slots.specs.declared.Want.the-variants.{OwnTurn, Bits}
 use Rattle.slots.specs.declared.Place.{Place}
 use Rattle.slots.specs.declared.Place.the-variants.{Free, Ready, Delayed, Waiting, Suspended, Spent}
 use Rattle.slots.specs.declared.Task.{Task}
@@ -19,8 +19,7 @@ use Rattle.tasks.specs.declared.Tasks.{Tasks}
 use Rattle.tasks.specs.Columns.{tasksOf, rowAt, rowsOf}
 use Rattle.tasks.specs.Walks.{lineIn, readyAt, levelAt, topIn}
 use Rattle.tasks.specs.Dues.{timed}
-use Rattle.tasks.specs.Masks.{maskFine}
-use Rattle.tasks.specs.Known.{waitsState, known, wakeKnown}
+use Rattle.tasks.specs.Known.{waitsState, known, knownAt, wakeAt, maskAt}
 
 abbrev pub blocked : ℕ → Bool
 blocked s = eqb s 2 || waitsState s
@@ -53,8 +52,7 @@ abbrev pub idleIf : Bool → ℕ → ℕ → ℕ → Bool → Bool
 idleIf idle s own level held = not idle || ((eqb s 1 && (eqb own 0 && eqb level 0)) && not held)
 
 abbrev pub rowsFine : Tasks → List ℕ → List Bool → ℕ → Bool
-rowsFine ts stands holds i =
-    known (getD (ts .state) i 0) (getD (ts .object) i 0) (getD (ts .wants .flags) i 0) && aloneFine (getD stands i 0) (getD holds i false) (rowAt ts i)
+rowsFine ts stands holds i = knownAt ts i && aloneFine (getD stands i 0) (getD holds i false) (rowAt ts i)
 
 -- its wake tick
 unfoldable pub wakeFine : ℕ → ℕ → ℕ → Bool
@@ -62,8 +60,7 @@ wakeFine s w tick = if timed s then leb w 4294967295 && not (eqb w tick) else eq
 
 -- and its mask
 abbrev pub wakesFine : Tasks → ℕ → ℕ → Bool
-wakesFine ts tick i =
-    (wakeKnown (getD (ts .state) i 0) (getD (ts .wake) i 0) && notDue tick (rowAt ts i .place)) && maskFine (getD (ts .wants .mask) i 0) (getD (ts .wants .flags) i 0)
+wakesFine ts tick i = (wakeAt ts i && notDue tick (rowAt ts i .place)) && maskAt ts i
 
 -- all that is answered: what is fine stands for the list that it reads as
 pub record Fine (ts : Tasks) (tick : ℕ) (stands : List ℕ) (holds : List Bool) (r : Bool) : Type 0 where
@@ -74,7 +71,7 @@ pub record Fine (ts : Tasks) (tick : ℕ) (stands : List ℕ) (holds : List Bool
 -- "receivers wait only on an empty queue, senders only on a full one, takers only on a mutex held by another", by what is noted of each object; whoever waits for bits is not
 -- asked here
 abbrev pub waitsTurn : List Bool → List Bool → List ℕ → TaskSlot → Want → ℕ → Bool
-waitsTurn opens takes holder t Turn n = ltb n 16 && mayWaitOn opens takes holder t n
+waitsTurn opens takes holder t OwnTurn n = ltb n 16 && mayWaitOn opens takes holder t n
 waitsTurn opens takes holder t (Bits m all clear) n = true
 
 abbrev pub waitsBy : List Bool → List Bool → List ℕ → TaskSlot → Place → Bool

@@ -19,8 +19,16 @@ known s o f = leb s 6 && (leb f 4 && (waitsState s || (eqb o 0 && eqb f 0)))
 abbrev pub wakeKnown : ℕ → ℕ → Bool
 wakeKnown s w = timed s || eqb w 0
 
+-- of a row
+abbrev pub knownAt : Tasks → ℕ → Bool
+knownAt ts i = known (getD (ts .state) i 0) (getD (ts .object) i 0) (getD (ts .wants .flags) i 0)
+
+abbrev pub wakeAt : Tasks → ℕ → Bool
+wakeAt ts i = wakeKnown (getD (ts .state) i 0) (getD (ts .wake) i 0)
+
+abbrev pub maskAt : Tasks → ℕ → Bool
+maskAt ts i = maskFine (getD (ts .wants .mask) i 0) (getD (ts .wants .flags) i 0)
+
 -- of every row
 unfoldable pub canonical : Tasks → Bool
-canonical ts =
-    allBelow 16 (λ i. known (getD (ts .state) i 0) (getD (ts .object) i 0) (getD (ts .wants .flags) i 0)
-    && (wakeKnown (getD (ts .state) i 0) (getD (ts .wake) i 0) && maskFine (getD (ts .wants .mask) i 0) (getD (ts .wants .flags) i 0)))
+canonical ts = allBelow 16 (λ i. knownAt ts i && (wakeAt ts i && maskAt ts i))

@@ -6,7 +6,7 @@ use lib.Dec.{eqb, leb}
 use lib.ListN.{getD, set}
 use Rattle.lists.specs.Choice.{if_then_else_}
 use Rattle.slots.specs.declared.Want.{Want}
-use Rattle.slots.specs.declared.Want.the-variants.{Turn, Bits}
+use Rattle.slots.specs.declared.Want.the-variants.{OwnTurn, Bits}
 use Rattle.tasks.specs.declared.Wants.{Wants}
 
 -- 0 says that it waits for its turn, or does not wait; else bits are wanted, and the two flags with them
@@ -17,15 +17,15 @@ flagged false true = 3
 flagged true true = 4
 
 abbrev pub flagsOf : Want → ℕ
-flagsOf Turn = 0
+flagsOf OwnTurn = 0
 flagsOf (Bits m all clear) = flagged all clear
 
 abbrev pub maskOf : Want → ℕ
-maskOf Turn = 0
+maskOf OwnTurn = 0
 maskOf (Bits m all clear) = m
 
 abbrev pub wantOf : ℕ → ℕ → Want
-wantOf m f = if eqb f 0 then Turn else Bits m (eqb f 2 || eqb f 4) (leb 3 f)
+wantOf m f = if eqb f 0 then OwnTurn else Bits m (eqb f 2 || eqb f 4) (leb 3 f)
 
 -- the columns that stand for a list of wants; with the row n changed; what the row n wants
 unfoldable pub wantsOf : List Want → Wants

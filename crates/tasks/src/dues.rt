@@ -108,7 +108,7 @@ impl Tasks {
                         state[s] = 1;
                         object[s] = 0;
                         wake[s] = 0;
-                        wants = wants.set(s, Want::Turn);
+                        wants = wants.set(s, Want::OwnTurn);
                         order = order.to_tail(t);
                     }
                 }

@@ -1,7 +1,7 @@
 // What each row wants, in numbers.
 ghost use mathlib.Core.Path.{_≡_};
 ghost use lib.ListN.{replicate};
-ghost use Rattle.slots.specs.declared.Want.the-variants.{Turn};
+ghost use Rattle.slots.specs.declared.Want.the-variants.{OwnTurn};
 ghost use Rattle.tasks.specs.Masks.{flagged, flagsOf, maskOf, wantOf, wantsOf, wantPut, wantAt};
 use crate::Wants;
 use slots::Want;
@@ -20,7 +20,7 @@ fn flags(w: Want) -> u8
     ensures { λ r. ⌜ r ≡ flagsOf w ⌝ }
 {
     match w {
-        Want::Turn => 0,
+        Want::OwnTurn => 0,
         Want::Bits(_, all, clear) => flagged(all, clear),
     }
 }
@@ -29,7 +29,7 @@ fn mask(w: Want) -> u32
     ensures { λ r. ⌜ r ≡ maskOf w ⌝ }
 {
     match w {
-        Want::Turn => 0,
+        Want::OwnTurn => 0,
         Want::Bits(m, _, _) => m,
     }
 }
@@ -38,7 +38,7 @@ fn want(mask: u32, flags: u8) -> Want
     ensures { λ r. ⌜ r ≡ wantOf mask flags ⌝ }
 {
     if flags == 0 {
-        Want::Turn
+        Want::OwnTurn
     } else {
         Want::Bits(mask, lists::either(flags == 2, flags == 4), 3 <= flags)
     }
@@ -46,7 +46,7 @@ fn want(mask: u32, flags: u8) -> Want
 
 impl Wants {
     pub(crate) fn none() -> Wants
-        ensures { λ r. ⌜ r ≡ wantsOf (replicate 16 Turn) ⌝ }
+        ensures { λ r. ⌜ r ≡ wantsOf (replicate 16 OwnTurn) ⌝ }
     {
         Wants {
             mask: [0u32; 16],
@@ -62,7 +62,7 @@ impl Wants {
         if i < 16 {
             want(masks[i], all[i])
         } else {
-            Want::Turn
+            Want::OwnTurn
         }
     }
 

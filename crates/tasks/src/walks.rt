@@ -4,7 +4,7 @@ ghost use mathlib.Core.Bool.{_&&_};
 ghost use lib.Dec.{eqb};
 ghost use Rattle.numbers.specs.Numbers.{task};
 ghost use Rattle.order.specs.Order.{listed, ordered};
-ghost use Rattle.slots.specs.declared.Want.the-variants.{Turn};
+ghost use Rattle.slots.specs.declared.Want.the-variants.{OwnTurn};
 ghost use Rattle.slots.specs.Who.{WaitersOf, SatisfiedOn};
 ghost use Rattle.tasks.specs.Columns.{freeIn};
 ghost use Rattle.tasks.specs.Walks.{isMeant, leadIn, lineIn, headOr, linesIn, topIn, waitedIn};
@@ -17,7 +17,7 @@ use slots::Lead;
 use slots::Want;
 
 fn waiting(state: u8, object: u8, o: ObjSlot) -> bool
-    ensures { λ r. ⌜ r ≡ isMeant (WaitersOf o) state object Turn ⌝ }
+    ensures { λ r. ⌜ r ≡ isMeant (WaitersOf o) state object OwnTurn ⌝ }
 {
     lists::both(lists::either(state == 3, state == 4), object == o.0)
 }

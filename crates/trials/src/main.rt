@@ -52,7 +52,7 @@ fn wanting(o: u8, want: Want, w: Wake) -> Place {
 
 // For its turn; for bits of an event group.
 fn waiting(o: u8, w: Wake) -> Place {
-    wanting(o, Want::Turn, w)
+    wanting(o, Want::OwnTurn, w)
 }
 
 fn awaiting(o: u8, mask: u32, all: bool, w: Wake) -> Place {

@@ -8,12 +8,13 @@ use Rattle.journal.proofs.reader.read_call.Tie as tie
 
 read-numbers-requires : tie.Need-read-numbers-requires
 read-numbers-requires c κs =
-    let h : c .of .result .before + c .of .result .after ≤ 5 = rw (c .of .ensures) (shape-small (c .before .number-at .result .value)) in
+    let s = c .before in
+    let h : s .of .result .before + s .of .result .after ≤ 5 = rw (s .of .ensures) (shape-small (s .before .number-at .result .value)) in
     omega arith
 
 read-numbers-requires-2 : tie.Need-read-numbers-requires-2
 read-numbers-requires-2 c κs =
-    let s = c .before .before .before in
+    let s = c .before .before .before .before in
     rw (s .of .ensures) (shape-small (s .before .number-at .result .value))
 
 returns : tie.Need-returns
@@ -23,20 +24,20 @@ returns c =
     let l = e .before in
     let i = l .before .before in
     let f = i .before in
-    let s = f .before in
+    let s = f .before .before in
     refused-read _ _ _ _ _ _ _ _ (s .before .number-at .ensures) (s .of .ensures) (f .read-numbers .ensures) (i .read-sent .ensures)
     (l .read-numbers2 .ensures) (e .at-end .ensures) (b .both .ensures) _ (c .before .if1 .taken) (c .no-call .ensures)
 
 returns-2 : tie.Need-returns-2
 returns-2 c =
-    let b = c .before .before .before .before in
+    let b = c .before .before .before in
     let e = b .before in
     let l = e .before in
     let i = l .before .before in
     let f = i .before in
-    let s = f .before in
+    let s = f .before .before in
     call-read _ _ _ _ _ _ _ _ (s .before .number-at .ensures) (s .of .ensures) (f .read-numbers .ensures) (i .read-sent .ensures)
-    (l .read-numbers2 .ensures) (e .at-end .ensures) (b .both .ensures) _ (c .before .before .before .if1 .left) (c .of2 .ensures)
+    (l .read-numbers2 .ensures) (e .at-end .ensures) (b .both .ensures) _ (c .before .before .if1 .left) (c .of2 .ensures)
 
 pub read-call-spec : {M : Type 1} → statement M
 read-call-spec =

@@ -8,10 +8,10 @@ use Rattle.journal.proofs.reader.read_numbers.Statement.{statement}
 use Rattle.journal.proofs.reader.read_numbers.Tie as tie
 
 abbrev Inv-loop : tie.InvT-loop
-Inv-loop line at from count read₀ next₀ i₀ read next i = (i ≤ count) × (nums line count from read₀ next₀ ≡ nums line (count - i) (from + i) read next)
+Inv-loop line at from count values₀ next₀ i₀ values next i = (i ≤ count) × (nums line count from values₀ next₀ ≡ nums line (count - i) (from + i) values next)
 
 abbrev μ-loop : tie.MeasureT-loop
-μ-loop line at from count read₀ next₀ i₀ read next i = count - i
+μ-loop line at from count values₀ next₀ i₀ values next i = count - i
 
 loop-holds : tie.Need-loop-holds Inv-loop μ-loop
 loop-holds c =

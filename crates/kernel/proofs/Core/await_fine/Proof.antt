@@ -1,7 +1,7 @@
 use borrow.Author.Needs.{needs}
 use mathlib.Core.Path.{_≡_, sym, ap, _∙_}
 use Rattle.slots.specs.declared.Want.{Want}
-use Rattle.slots.specs.declared.Want.the-variants.{Turn, Bits}
+use Rattle.slots.specs.declared.Want.the-variants.{OwnTurn, Bits}
 use Rattle.slots.specs.declared.Wait.{Wait}
 use Rattle.slots.specs.declared.Place.{Place}
 use Rattle.slots.specs.declared.Task.{Task}
@@ -31,7 +31,7 @@ returns-4 : tie.Need-returns-4
 returns-4 c =
     let p = c .before .before .before .before in
     let os = p .before .before .before .args .self .objects in
-    wanted os (p .p .given .0 .0) Turn (c .enum-told4 .given .1) ∙ asked os (p .before .before .get .ensures) (p .p .given .1)
+    wanted os (p .p .given .0 .0) OwnTurn (c .enum-told4 .given .1) ∙ asked os (p .before .before .get .ensures) (p .p .given .1)
 
 returns-5 : tie.Need-returns-5
 returns-5 c =

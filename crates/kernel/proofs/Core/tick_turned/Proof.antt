@@ -1,9 +1,10 @@
 use borrow.Author.Needs.{needs}
+use mathlib.Core.Path.{_∙_}
 use native.Mathlib.Omega.{arith}
 use Rattle.lists.proofs.Bools.{off, on}
 use Rattle.lists.specs.Lists.{upTo}
 use Rattle.rules.specs.Ticks.{oneTick}
-use Rattle.kernel.proofs.TickTurns.{overtaken, not-overtaken}
+use Rattle.kernel.proofs.TickTurns.{headed-parts, overtaken, not-overtaken}
 use Rattle.kernel.proofs.Core.tick_turned.Statement.{statement}
 use Rattle.kernel.proofs.Core.tick_turned.Tie as tie
 
@@ -26,8 +27,10 @@ turned-by-requires c κs =
 returns-3 : tie.Need-returns-3
 unfolding upTo
 returns-3 c = λ s h.
-    let o = c .before .before .before .before .before .before in
-    rw (on (o .before .args .turns) (c .before .before .before .before .before .if1 .left)) (c .turned-by .ensures (oneTick s) (o .one-tick .ensures s h))
+    let r = c .before .before in
+    let o = r .before .before .before .before .before .before in
+    rw (on (o .before .args .turns) (r .before .before .before .before .before .if1 .left))
+    (headed-parts (o .one-tick .result) (r .turned-by .result) (c .before .order .ensures) (c .running .ensures) ∙ r .turned-by .ensures (oneTick s) (o .one-tick .ensures s h))
 
 one-tick-requires : tie.Need-one-tick-requires
 one-tick-requires c κs = c .pre .0
@@ -44,4 +47,6 @@ tick-turned-spec =
     (λ c κs. search needs)
     returns-2
     turned-by-requires
+    (λ c κs. search needs)
+    (λ c κs. search needs)
     returns-3)

@@ -6,7 +6,7 @@ use Rattle.order.specs.Order.{listed}
 use Rattle.tasks.proofs.Columns.{Full}
 use Rattle.tasks.proofs.Lengths.{full-of}
 use Rattle.tasks.proofs.WalkTurns.{leadStep, lead-is, lead-takes, lead-stays, lead-past}
-use Rattle.slots.specs.declared.Want.the-variants.{Turn}
+use Rattle.slots.specs.declared.Want.the-variants.{OwnTurn}
 use Rattle.slots.specs.Who.{WaitersOf}
 use lib.ListN.{length, getD}
 use mathlib.Core.Logic.{⊎-elim}
@@ -17,7 +17,7 @@ use Rattle.tasks.proofs.Tasks.first.Statement.{statement}
 use Rattle.tasks.proofs.Tasks.first.Tie as tie
 
 abbrev Inv-loop : tie.InvT-loop
-Inv-loop x state object effective places n best₀ i₀ best i = Rest (leadStep (WaitersOf x) state object (λ s. Turn) effective) n places n best₀ best i
+Inv-loop x state object effective places n best₀ i₀ best i = Rest (leadStep (WaitersOf x) state object (λ s. OwnTurn) effective) n places n best₀ best i
 
 abbrev μ-loop : tie.MeasureT-loop
 μ-loop x state object effective places n best₀ i₀ best i = n - i
@@ -37,9 +37,9 @@ loop-again c =
     let t = getD (a .o .places) (l .i) idle in
     let s = c .before .slot in
     turn (l .inv) (search needs) idle
-    (⊎-elim (λ v. v .4 ∙ v .3 .ensures ∙ lead-takes (ts .state) (s .result) t (s .ensures) w (ts .object) (λ i. Turn) (ts .effective) (l .best) (sym (v .1 .ensures) ∙ v .2 .taken))
-    (⊎-elim (λ v. v .3 ∙ lead-stays (ts .state) (s .result) t (s .ensures) w (ts .object) (λ i. Turn) (ts .effective) (l .best) (sym (v .1 .ensures) ∙ v .2 .left))
-    (λ v. v .1 ∙ lead-past (ts .state) (s .result) t (s .ensures) w (ts .object) (λ i. Turn) (ts .effective) (l .best) (f .states) (omega (arith, v .0 .left))))
+    (⊎-elim (λ v. v .4 ∙ v .3 .ensures ∙ lead-takes (ts .state) (s .result) t (s .ensures) w (ts .object) (λ i. OwnTurn) (ts .effective) (l .best) (sym (v .1 .ensures) ∙ v .2 .taken))
+    (⊎-elim (λ v. v .3 ∙ lead-stays (ts .state) (s .result) t (s .ensures) w (ts .object) (λ i. OwnTurn) (ts .effective) (l .best) (sym (v .1 .ensures) ∙ v .2 .left))
+    (λ v. v .1 ∙ lead-past (ts .state) (s .result) t (s .ensures) w (ts .object) (λ i. OwnTurn) (ts .effective) (l .best) (f .states) (omega (arith, v .0 .left))))
     (c .if1 .came))
 
 returns : tie.Need-returns Inv-loop μ-loop
