@@ -1,6 +1,6 @@
 -- Bytes put into the lent store: what is read there, what is read elsewhere, and that puts to places apart may change places. And the slips, of which no two share a byte.
 use Prim.Native.Nat.{ℕ, suc, _+_, _-_, _<_, _≤_}
-use mathlib.Core.Path.{_≡_, refl, ap, _∙_}
+use mathlib.Core.Path.{_≡_, refl, sym, ap, _∙_}
 use mathlib.Core.Logic.{_⊎_, inl, inr}
 use mathlib.Core.Bool.{Bool, true, false}
 use mathlib.Core.List.{List, [], _∷_, _++_, append-assoc}
@@ -22,17 +22,18 @@ abbrev pub Apart : ℕ → ℕ → ℕ → ℕ → Type 0
 Apart i n j m = (i + n ≤ j) ⊎ (j + m ≤ i)
 
 -- ── one byte, then several
+-- a byte apart from all of them is none of the first, and apart from the others
+differ : (n : ℕ) {i j : ℕ} → Apart i (suc n) j 1 → i ≡ j → ⊥
+differ n (inl h) e = omega arith
+differ n (inr h) e = omega arith
+
+others-apart : (n : ℕ) {i j : ℕ} → Apart i (suc n) j 1 → Apart (suc i) n j 1
+others-apart n (inl h) = inl (omega arith)
+others-apart n (inr h) = inr (omega arith)
+
 set-aside : (vs l : List ℕ) (i j a : ℕ) → Apart i (length vs) j 1 → set (sets l i vs) j a ≡ sets (set l j a) i vs
 set-aside [] l i j a p = refl
-set-aside (v ∷ vs) l i j a p = set-aside vs (set l i v) (suc i) j a (further p) ∙ rw (set-comm l i j v a (differ p))
-  where
-    further : Apart i (suc (length vs)) j 1 → Apart (suc i) (length vs) j 1
-    further (inl h) = inl (omega arith)
-    further (inr h) = inr (omega arith)
-
-    differ : Apart i (suc (length vs)) j 1 → i ≡ j → ⊥
-    differ (inl h) e = omega arith
-    differ (inr h) e = omega arith
+set-aside (v ∷ vs) l i j a p = set-aside vs (set l i v) (suc i) j a (others-apart (length vs) p) ∙ rw (set-comm l i j v a (differ (length vs) p))
 
 pub puts-aside : (vs ws l : List ℕ) (i j : ℕ) → Apart i (length vs) j (length ws) → putAt j ws (putAt i vs l) ≡ putAt i vs (putAt j ws l)
 unfolding putAt
@@ -51,15 +52,7 @@ puts-aside vs (w ∷ ws) l i j p = rw (set-aside vs l i j w (first-of p)) (puts-
 pub byte-aside : (vs l : List ℕ) (i j : ℕ) → Apart i (length vs) j 1 → getD (putAt i vs l) j 0 ≡ getD l j 0
 unfolding putAt
 byte-aside [] l i j p = refl
-byte-aside (v ∷ vs) l i j p = byte-aside vs (set l i v) (suc i) j (further p) ∙ getD-set-other l i j v 0 (differ p)
-  where
-    further : Apart i (suc (length vs)) j 1 → Apart (suc i) (length vs) j 1
-    further (inl h) = inl (omega arith)
-    further (inr h) = inr (omega arith)
-
-    differ : Apart i (suc (length vs)) j 1 → j ≡ i → ⊥
-    differ (inl h) e = omega arith
-    differ (inr h) e = omega arith
+byte-aside (v ∷ vs) l i j p = byte-aside vs (set l i v) (suc i) j (others-apart (length vs) p) ∙ getD-set-other l i j v 0 (λ e. differ (length vs) p (sym e))
 
 bytes-beside : (l : List ℕ) (j n i a : ℕ) → Apart i 1 j n → bytesAt j n (set l i a) ≡ bytesAt j n l
 unfolding bytesAt
