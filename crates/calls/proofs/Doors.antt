@@ -7,7 +7,7 @@ use native.Mathlib.Omega.{arith}
 use lib.Dec.{eqb, ltb}
 use lib.ListN.{length, get_or-eq_default}
 use borrow.Author.Tests.{eqb-true, lt-ltb}
-use Rattle.lists.specs.Choice.{if◌then◌else◌}
+use Rattle.std.proofs.Common.{if◌then◌else◌}
 use Rattle.calls.specs.Door.{use_in, slot_in, last_in}
 
 pub last_by : (us : List ℕ) (n : ℕ) → length us ≡ 16 → (ltb (slot_in us n) 16 && eqb (n / 16) 65535) ≡ last_in us (slot_in us n)

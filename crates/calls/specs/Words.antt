@@ -1,8 +1,7 @@
 -- A call in words: its number, what it names, and the numbers among its arguments, of which no call has more than five. All of it is read
 -- off the table.
-use Rattle.std.specs.Prelude.{ℕ, ◌-◌, ◌≤◌, Bool, true, false, List, [], ◌∷◌, map, length, get_or, eqb}
+use Rattle.std.specs.Prelude.{ℕ, ◌-◌, ◌≤◌, Bool, true, false, List, [], ◌∷◌, map, length, get_or, eqb, if◌then◌else◌}
 use Rattle.std.proofs.lemmas.List.Edits.{sets}
-use Rattle.lists.specs.Choice.{if◌then◌else◌}
 use Rattle.lists.specs.Lists.{any, index}
 use Rattle.calls.specs.Types.{Call, Uses, Names, Nothing, ATask, AnObject, AQueue, AMutex, AGroup, Shape, Frame, Asked}
 use Rattle.calls.specs.Table.{Argument, a_task, an_object, a_queue, a_mutex, a_group, a_priority, some_ticks, a_capacity, a_size, a_wait, some_bits, an_all, a_clear, an_item, called, word, calls}

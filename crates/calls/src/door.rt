@@ -109,6 +109,7 @@ impl ObjNo {
 
 impl Uses {
     // Nothing was given up yet.
+    #[tactic(auto, unfolding(crate::specs::Door::fresh_uses))]
     pub fn fresh() -> Uses
         ensures { result ≡ fresh_uses }
     {
@@ -143,6 +144,7 @@ impl Uses {
     }
 
     // All but idle's is what the types say already, and costs nothing.
+    #[tactic(auto, unfolding(crate::specs::Door::uses_fine, lists::specs::Lists::every))]
     pub fn fine(self) -> bool
         ensures { result ≡ uses_fine self }
     {

@@ -1,4 +1,6 @@
 // What is asked of the kernel, and what it answers: two kinds of number, the 23 calls, the four answers.
+#![tactic(auto)]
+
 mod behind;
 mod door;
 mod named;
@@ -8,21 +10,21 @@ mod words;
 use numbers::{ObjSlot, TaskSlot};
 
 // A task number and an object number are two types, so that neither can stand for the other.
-#[derive(Drop)]
+#[derive(Clone, Copy)]
 pub struct TaskNo(pub u32);
 
-#[derive(Drop)]
+#[derive(Clone, Copy)]
 pub struct ObjNo(pub u32);
 
 // How often what stood in each slot was given up. A number is slot + 16 × use, so that an old one names nothing.
-#[derive(Drop)]
+#[derive(Clone, Copy)]
 pub struct Uses {
     pub tasks: [u16; 16],
     pub objects: [u16; 16],
 }
 
 // The 23 calls. The bytes of a sent item are lent beside the call.
-#[derive(Drop)]
+#[derive(Clone, Copy)]
 pub enum Call {
     Create(u32),
     Delete(TaskNo),
@@ -49,7 +51,7 @@ pub enum Call {
     Await(ObjNo, u32, u32, u32, u32),
 }
 
-#[derive(Drop)]
+#[derive(Clone, Copy)]
 pub enum Answer {
     Done,
     Made(u32),
@@ -58,7 +60,7 @@ pub enum Answer {
 }
 
 // What a call must name: nothing, a task, an object of any kind, a queue, a mutex, or an event group.
-#[derive(Drop)]
+#[derive(Clone, Copy)]
 pub enum Names {
     Nothing,
     Task,
@@ -69,7 +71,7 @@ pub enum Names {
 }
 
 // A call in words: its number, what it names, and the numbers among its arguments with zeros after them.
-#[derive(Drop)]
+#[derive(Clone, Copy)]
 pub struct Frame {
     pub number: u8,
     pub names: Names,
@@ -78,7 +80,7 @@ pub struct Frame {
 
 // How the arguments of a call stand: so many numbers, then an item if there is one, then so many numbers more.
 // `known` is false where a number is no call's.
-#[derive(Drop)]
+#[derive(Clone, Copy)]
 pub struct Shape {
     pub known: bool,
     pub before: usize,
@@ -89,7 +91,7 @@ pub struct Shape {
 // A call behind the door: its number and arguments, each in its own field, and slots where the caller wrote numbers; `last` says that the slot
 // stands at its last use.
 // An argument that the call does not have stands at a value that is never turned away.
-#[derive(Drop)]
+#[derive(Clone, Copy)]
 pub struct Asked {
     pub number: u8,
     pub names: Names,

@@ -6,6 +6,7 @@ use crate::{Call, ObjNo, TaskNo};
 
 impl Call {
     // The call of a number, which `known` says is one.
+    #[tactic(auto, unfolding(crate::specs::Table::call_of))]
     pub fn of(number: u32, words: [u32; 5]) -> Call
         ensures { result ≡ call_of number words }
     {

@@ -28,6 +28,7 @@ impl Frame {
 
 impl Call {
     // The words of a call, which are u32.
+    #[tactic(auto, unfolding(crate::specs::Behind::asked))]
     pub fn frame(self) -> Frame
         ensures { (result ≡ frame_of self) × Small (numbers_in (fields_of self)) }
     {
@@ -74,6 +75,7 @@ impl Shape {
 
     // "The line reader decides on the call number and groups calls by argument shape with ranges": a list of its own, since a line's words
     // are read before there is a call.
+    #[tactic(auto, unfolding(crate::specs::Words::shape_of, lists::specs::Lists::any, lists::specs::Lists::index))]
     pub fn of(number: u32) -> Shape
         ensures { result ≡ shape_of number }
     {

@@ -7,7 +7,7 @@ use mathlib.Core.List.{List, [], ◌∷◌, map}
 use lib.Dec.{ltb}
 use lib.ListN.{length, get_or, get_or-eq_default}
 use borrow.Author.Tests.{ltb-true, ltb-false}
-use Rattle.lists.specs.Choice.{if◌then◌else◌}
+use Rattle.std.proofs.Common.{if◌then◌else◌}
 use Rattle.chains.specs.Columns.{says}
 
 pub says_at : (l : List ℕ) (f : ℕ → ℕ) → ((i : ℕ) → i < 16 → get_or l i 0 ≡ f i) → ((i : ℕ) → 16 ≤ i → f i ≡ 16) → (i : ℕ) → says l i ≡ f i

@@ -1,6 +1,5 @@
 -- Chains of waits: sixteen tasks, each of which waits for at most one other.
-use Rattle.std.specs.Prelude.{ℕ, zero, suc, Bool, ◌||◌, eqb, leb}
-use Rattle.lists.specs.Choice.{if◌then◌else◌}
+use Rattle.std.specs.Prelude.{ℕ, zero, suc, Bool, ◌||◌, eqb, leb, if◌then◌else◌}
 use Rattle.lists.specs.Lists.{larger, up_to}
 
 -- u lies at most n links from s, where `next` says whom each waits for; a number past the sixteen is nobody

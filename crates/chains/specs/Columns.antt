@@ -1,6 +1,5 @@
 -- The chains in columns of numbers, and the loans along them.
-use Rattle.std.specs.Prelude.{ℕ, zero, suc, Bool, List, ltb, get_or, set}
-use Rattle.lists.specs.Choice.{if◌then◌else◌}
+use Rattle.std.specs.Prelude.{ℕ, zero, suc, Bool, List, ltb, get_or, set, if◌then◌else◌}
 use Rattle.lists.specs.Lists.{larger, up_to, all_below}
 use Rattle.chains.specs.Chains.{ends}
 

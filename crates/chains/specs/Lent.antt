@@ -1,6 +1,5 @@
 -- Loans along the chains: "a circle must still end".
-use Rattle.std.specs.Prelude.{ℕ, zero, suc, List, ltb}
-use Rattle.lists.specs.Choice.{if◌then◌else◌}
+use Rattle.std.specs.Prelude.{ℕ, zero, suc, List, ltb, if◌then◌else◌}
 use Rattle.lists.specs.Lists.{up_to, values}
 use Rattle.chains.specs.Columns.{raised}
 

@@ -1,17 +1,20 @@
 // Chains of waits, and the priorities lent along them: a task's loan goes to the mutex it waits on, that mutex passes it to its holder, and so on.
 // Who waits on which object and who holds it are columns of numbers, 16 for none; they are lent from step to step, and nothing is copied.
+#![tactic(auto)]
+
 ghost use Rattle.std.specs.Prelude.{suc, ◌<◌, min, ◌≡◌, ◌&&◌, ltb};
 ghost use Rattle.chains.specs.Chains.{within, ends};
 ghost use Rattle.chains.specs.Columns.{says, next_by, raised, lent, passed, levels_to, ended_to};
 
 // The loans gone their way: the level of each task, and whether every chain ended. A circle does not end.
-#[derive(Drop)]
+#[derive(Clone, Copy)]
 pub struct AllLent {
     pub levels: [u8; 16],
     pub ended: bool,
 }
 
 // The level of i becomes at least p.
+#[tactic(auto, unfolding(crate::specs::Columns::raised))]
 fn raise(levels: &mut [u8; 16], i: usize, p: u8)
     requires { i < 16 }
     ensures { levels.new ≡ raised i p levels.old }

@@ -7,7 +7,7 @@ use native.Mathlib.Omega.{arith}
 use lib.Dec.{eqb}
 use lib.ListN.{length, take}
 use borrow.Author.Tests.{eqb-true}
-use Rattle.lists.specs.Choice.{if◌then◌else◌}
+use Rattle.std.proofs.Common.{cond}
 use Rattle.calls.specs.declared.Call.{Call}
 use Rattle.journal.specs.declared.Read.{Read}
 use Rattle.journal.specs.declared.Reading.{Reading}
@@ -42,7 +42,7 @@ refused_back c b l w n m r e f g =
 back_or_within : (k : ℕ) (c : Call) (b : List ℕ) (r : Read) → (k ≡ 0 → length b ≤ 64) → BackOr k c b r → r.len ≤ 64
 back_or_within k c b r h = go (eqb k 0) refl
   where
-    go : (z : Bool) → eqb k 0 ≡ z → (if z then Back c b r else Tells r (refused_with k) []) → r.len ≤ 64
+    go : (z : Bool) → eqb k 0 ≡ z → cond z (Back c b r) (Tells r (refused_with k) []) → r.len ≤ 64
     go true e f = omega (arith, f.tells.len, h (eqb-true k 0 e))
     go false e f = omega (arith, f.len)
 
@@ -57,7 +57,7 @@ back_or_refusal : (k : ℕ) (c : Call) (b : List ℕ) (r : Read) → BackOr k c 
 unfolding refused_by
 back_or_refusal k c b r = go (eqb k 0) refl
   where
-    go : (z : Bool) → eqb k 0 ≡ z → (if z then Back c b r else Tells r (refused_with k) []) → refused_by r.answer ≡ k
+    go : (z : Bool) → eqb k 0 ≡ z → cond z (Back c b r) (Tells r (refused_with k) []) → refused_by r.answer ≡ k
     go true e f = ap refused_by f.call ∙ sym (eqb-true k 0 e)
     go false e f = ap refused_by (one_reading r.answer (Refused k) f.answer)
 

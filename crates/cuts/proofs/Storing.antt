@@ -11,7 +11,7 @@ use lib.ListN.{length, get_or, take, drop, set, length-take, length-drop, drop_o
 use lib.Seq.{sets, take-suc, take-add, get_or-drop}
 use borrow.Author.Tests.{eq-eqb, ne_eqb, ltb-true, ltb-false, lt-ltb, le-ltb}
 use Rattle.lists.proofs.Loops.{fold_append}
-use Rattle.lists.specs.Choice.{if◌then◌else◌}
+use Rattle.std.proofs.Common.{if◌then◌else◌}
 use Rattle.lists.specs.Lists.{foldl, index}
 use Rattle.lists.proofs.Loops.{front}
 use Rattle.cuts.specs.declared.Cut.{Cut}

@@ -1,18 +1,20 @@
 // Lines cut out of bytes that come in blocks: what there is of a line whose newline has not come yet.
+#![tactic(auto)]
+
 ghost use Rattle.std.specs.Prelude.{◌≡◌, ◌+◌, ◌-◌, ◌≤◌, length, take, drop};
 ghost use Rattle.std.proofs.lemmas.List.Edits.{sets};
 ghost use Rattle.lists.specs.Lists.{foldl};
 ghost use Rattle.cuts.specs.Keeping.{cut_of, no_byte, is_blank, with_byte, newline_from, gathered, Gathers};
 
 // The first `len` bytes of a line; above 256, it is only known to be too long.
-#[derive(Drop)]
+#[derive(Clone, Copy)]
 pub struct Cut {
     pub bytes: [u8; 256],
     pub len: usize,
 }
 
 // How far a block was taken: the place of a newline, or the block's end; and how much there is of the line then.
-#[derive(Drop)]
+#[derive(Clone, Copy)]
 pub struct Stop {
     pub next: usize,
     pub len: usize,
@@ -20,6 +22,7 @@ pub struct Stop {
 }
 
 impl Cut {
+    #[tactic(auto, unfolding(crate::specs::Keeping::no_byte))]
     pub fn none() -> Cut
         ensures { result ≡ no_byte }
     {

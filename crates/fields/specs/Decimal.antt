@@ -1,6 +1,5 @@
 -- A number's text: "in decimal without needless zeros".
-use Rattle.std.specs.Prelude.{ℕ, zero, suc, ◌+◌, ◌/◌, ◌%◌, List, [], ◌∷◌, ◌++◌, ltb}
-use Rattle.lists.specs.Choice.{if◌then◌else◌}
+use Rattle.std.specs.Prelude.{ℕ, zero, suc, ◌+◌, ◌/◌, ◌%◌, List, [], ◌∷◌, ◌++◌, ltb, if◌then◌else◌}
 
 -- the digits of n, up to k + 1 of them; 48 is the digit 0
 unfoldable pub digits : ℕ → ℕ → List ℕ

@@ -1,6 +1,5 @@
 -- What a byte counts as a digit.
-use Rattle.std.specs.Prelude.{ℕ, ◌+◌, ◌-◌, min, ltb}
-use Rattle.lists.specs.Choice.{if◌then◌else◌}
+use Rattle.std.specs.Prelude.{ℕ, ◌+◌, ◌-◌, min, ltb, if◌then◌else◌}
 
 -- the value of the byte b among those from `first` to `last`, of which the first counts as v; 256 for any other byte
 unfoldable pub among : ℕ → ℕ → ℕ → ℕ → ℕ

@@ -1,6 +1,5 @@
 -- An item's text: "lower-case hex, two digits a byte".
-use Rattle.std.specs.Prelude.{ℕ, ◌+◌, ◌/◌, ◌%◌, ◌<◌, List, [], ◌∷◌, ltb}
-use Rattle.lists.specs.Choice.{if◌then◌else◌}
+use Rattle.std.specs.Prelude.{ℕ, ◌+◌, ◌/◌, ◌%◌, ◌<◌, List, [], ◌∷◌, ltb, if◌then◌else◌}
 use Rattle.fields.specs.Texts.{texts}
 
 -- the digit of a number below 16: 48 is the digit 0, and 97 the letter a

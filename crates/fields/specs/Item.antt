@@ -1,7 +1,6 @@
 -- What is read as an item at a place.
-use Rattle.std.specs.Prelude.{ℕ, zero, suc, ◌+◌, ◌*◌, min, List, [], ◌∷◌, length, drop, replicate, ltb}
+use Rattle.std.specs.Prelude.{ℕ, zero, suc, ◌+◌, ◌*◌, min, List, [], ◌∷◌, length, drop, replicate, ltb, if◌then◌else◌}
 use Rattle.std.proofs.lemmas.List.Edits.{sets}
-use Rattle.lists.specs.Choice.{if◌then◌else◌}
 use Rattle.fields.specs.Digit.{nibble_of}
 use Rattle.fields.specs.declared.Item.{Item}
 

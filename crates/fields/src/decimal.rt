@@ -9,6 +9,7 @@ use crate::bytes::put;
 use crate::digit::digit;
 
 // v with the digit b after it; 2^32 where b is no digit or the number would not fit 32 bits.
+#[tactic(auto, unfolding(crate::specs::Number::grow))]
 fn grown(v: u32, b: u8) -> u64
     ensures { result ≡ grow v b }
 {

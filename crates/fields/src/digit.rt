@@ -3,6 +3,7 @@ ghost use Rattle.std.specs.Prelude.{◌≡◌};
 ghost use Rattle.fields.specs.Digit.{among, digit_of, nibble_of};
 
 // The value of a byte among those from `first` to `last`, of which the first counts as `v`; 256 for any other byte.
+#[tactic(auto, unfolding(crate::specs::Digit::among))]
 fn among(b: u8, first: u8, last: u8, v: u8) -> u32
     ensures { result ≡ among first last v b }
 {
@@ -23,6 +24,7 @@ pub(crate) fn digit(b: u8) -> u32
 }
 
 // The value of a lower-case digit, and 256 for any other byte.
+#[tactic(auto, unfolding(crate::specs::Digit::nibble_of))]
 pub(crate) fn nibble(b: u8) -> u32
     ensures { result ≡ nibble_of b }
 {

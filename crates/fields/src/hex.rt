@@ -9,6 +9,7 @@ use crate::bytes::put;
 use crate::digit::nibble;
 
 // The byte that two digits stand for, and 256 where they are not both digits.
+#[tactic(auto, unfolding(crate::specs::Item::pair_of))]
 fn pair(x: u8, y: u8) -> u32
     ensures { result ≡ pair_of x y }
 {
@@ -56,6 +57,7 @@ pub fn read_item(line: &[u8], at: usize) -> Item
 }
 
 // The digit of a number below 16.
+#[tactic(auto, unfolding(crate::specs::Hex::hex_digit))]
 fn hex_of(n: u8) -> u8
     requires { n < 16 }
     ensures { result ≡ hex_digit n }

@@ -10,7 +10,7 @@ use lib.Count.{count_leading_zeros, leading_of_zero, leading_top}
 use lib.Dec.{ltb}
 use lib.Pow.{pow_mono, pow_pos, shl_exact}
 use borrow.Author.Tests.{ltb-true, ltb-false}
-use Rattle.lists.specs.Choice.{if◌then◌else◌}
+use Rattle.std.proofs.Common.{if◌then◌else◌}
 use Rattle.lists.specs.Lists.{larger, foldl, kept}
 use Rattle.lists.proofs.Tests.{larger-max}
 use Rattle.heights.specs.declared.Lines.{Lines}

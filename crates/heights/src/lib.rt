@@ -1,9 +1,11 @@
 // The lines that tasks stand in, as the bits of a word; the highest of them is found with the processor's count of leading zeros.
+#![tactic(auto)]
+
 ghost use Rattle.std.specs.Prelude.{◌<◌, ◌≡◌};
 ghost use Rattle.heights.specs.Heights.{lit, top, no_lines, noted, height};
 
 // A bit for each of the 32 lines. `over` is the highest priority past them, 0 where there is none: no sound kernel has one, but the highest is found in every table.
-#[derive(Drop)]
+#[derive(Clone, Copy)]
 pub struct Lines {
     pub word: u32,
     pub over: u8,
@@ -17,6 +19,7 @@ fn lit(w: u32, p: u8) -> u32
 }
 
 // The line of the highest bit; 0 where no bit is set.
+#[tactic(auto, unfolding(crate::specs::Heights::top))]
 fn top(w: u32) -> u8
     ensures { result ≡ top w }
 {

@@ -9,7 +9,7 @@ use lib.Dec.{eqb}
 use lib.Bits.{bit_or}
 use lib.ListN.{length, replicate}
 use borrow.Author.Tests.{eqb-true, eqb-false, eq-eqb, ne_eqb}
-use Rattle.lists.specs.Choice.{if◌then◌else◌}
+use Rattle.std.proofs.Common.{if◌then◌else◌}
 use Rattle.lists.specs.Lists.{foldl, any, kept}
 use Rattle.lists.proofs.Bools.{on}
 use Rattle.numbers.specs.Numbers.{object, same_task, same_object}
@@ -335,7 +335,7 @@ counts_on : (k : State) (past : List (Moment CallMade)) (s : List ℕ) (ms : Lis
 unfolding foldl trace
 counts_on k past s [] C = C
 counts_on k past s (m ∷ ms) C =
-    counts_on _ _ _ ms (record { fine = step_kept k m.call m.item m.store C.fine; counts = counts_now k past s m C })
+    counts_on (step_made k s m).kernel _ _ ms (record { fine = step_kept k m.call m.item m.store C.fine; counts = counts_now k past s m C })
 
 -- of every recursive mutex that is held
 pub counts_takes : (ms : List CallMade) → CountsTakes ms (reached ms)

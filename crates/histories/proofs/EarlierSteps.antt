@@ -7,7 +7,7 @@ use native.Mathlib.Omega.{arith}
 use lib.Dec.{eqb}
 use lib.ListN.{length, get_or, replicate}
 use borrow.Author.Tests.{eq-eqb, ne_eqb}
-use Rattle.lists.specs.Choice.{if◌then◌else◌}
+use Rattle.std.proofs.Common.{if◌then◌else◌}
 use Rattle.lists.specs.Lists.{foldl, any, kept}
 use Rattle.lists.proofs.Bools.{and_off, or_right}
 use Rattle.calls.specs.Behind.{asked}
@@ -181,7 +181,7 @@ starts = record { fine = fresh-sound; some = λ t e. absurd (nobody t e); ahead 
 by_moments : (k : State) (past : List (Moment CallMade)) (s : List ℕ) (ms : List CallMade) → ByMoments k past → ByMoments (state_after k (trace step_made k s ms)) (onto past (trace step_made k s ms))
 unfolding foldl trace
 by_moments k past s [] A = A
-by_moments k past s (m ∷ ms) A = by_moments _ _ _ ms (one_more k past s m A)
+by_moments k past s (m ∷ ms) A = by_moments (step_made k s m).kernel _ _ ms (one_more k past s m A)
 
 module _ (ms : List CallMade) where
   all_told : ByMoments (reached ms) (moments ms)

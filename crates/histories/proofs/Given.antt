@@ -7,7 +7,7 @@ use native.Mathlib.Omega.{arith}
 use lib.Dec.{eqb}
 use lib.ListN.{length, get_or, set, replicate}
 use borrow.Author.Tests.{eqb-true, eqb-false}
-use Rattle.lists.specs.Choice.{if◌then◌else◌}
+use Rattle.std.proofs.Common.{if◌then◌else◌}
 use Rattle.lists.specs.Lists.{foldl}
 use Rattle.lists.proofs.Bools.{off}
 use Rattle.numbers.specs.Numbers.{task}
@@ -299,7 +299,7 @@ module _ (k : State) (past : List (Moment CallMade)) (s : List ℕ) (m : CallMad
 told : (k : State) (past : List (Moment CallMade)) (s : List ℕ) (ms : List CallMade) → Told k past → Told (state_after k (trace step_made k s ms)) (onto past (trace step_made k s ms))
 unfolding foldl trace
 told k past s [] T = T
-told k past s (m ∷ ms) T = told _ _ _ ms (one_more k past s m T)
+told k past s (m ∷ ms) T = told (step_made k s m).kernel _ _ ms (one_more k past s m T)
 
 -- of the task that a number names
 pub by_the_rule : (ms : List CallMade) (n : ℕ) → LentByRule ms (reached ms) n

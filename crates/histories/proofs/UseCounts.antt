@@ -6,7 +6,7 @@ use mathlib.Core.List.{List, [], ◌∷◌}
 use native.Mathlib.Omega.{arith}
 use lib.ListN.{length, get_or, replicate}
 use borrow.Author.Tests.{eqb-true}
-use Rattle.lists.specs.Choice.{if◌then◌else◌}
+use Rattle.std.proofs.Common.{if◌then◌else◌}
 use Rattle.lists.specs.Lists.{foldl, kept}
 use Rattle.lists.proofs.Bools.{off}
 use Rattle.calls.specs.Door.{use_in, fresh_uses}
@@ -110,7 +110,7 @@ counts : (k : State) (past : List (Moment CallMade)) (s : List ℕ) (ms : List C
     → Counts (state_after k (trace step_made k s ms)) (onto past (trace step_made k s ms))
 unfolding foldl trace
 counts k past s [] C = C
-counts k past s (m ∷ ms) C = counts _ _ _ ms (record { fine = step_kept k m.call m.item m.store C.fine; used = use_now })
+counts k past s (m ∷ ms) C = counts (step_made k s m).kernel _ _ ms (record { fine = step_kept k m.call m.item m.store C.fine; used = use_now })
   where
     use_now : (b : Bool) (i : ℕ) → use_at b (step_made k s m).kernel i ≡ times (gives b i) (moment_of step_made k s m ∷ past)
     use_now b i =

@@ -1,6 +1,5 @@
 -- "A task may take its own mutex again": how often the holder of a recursive mutex has it, read from the calls that were made.
-use Rattle.std.specs.Prelude.{ℕ, ◌+◌, ◌-◌, ◌≤◌, ◌≡◌, Bool, true, not, ◌&&◌, List, [], ◌∷◌}
-use Rattle.lists.specs.Choice.{if◌then◌else◌}
+use Rattle.std.specs.Prelude.{ℕ, ◌+◌, ◌-◌, ◌≤◌, ◌≡◌, Bool, true, not, ◌&&◌, List, [], ◌∷◌, if◌then◌else◌}
 use Rattle.lists.specs.Lists.{any}
 use Rattle.numbers.specs.Numbers.{same_task, same_object}
 use Rattle.calls.specs.declared.ObjNo.{ObjNo}

@@ -1,6 +1,5 @@
 -- "whoever began its delay or wait earlier": the moment at which the present one began, and what that moment decides.
-use Rattle.std.specs.Prelude.{ℕ, suc, ◌<◌, ◌≡◌, Bool, true, false, not, ◌&&◌, List, [], ◌∷◌, ◌++◌, eqb, length}
-use Rattle.lists.specs.Choice.{if◌then◌else◌}
+use Rattle.std.specs.Prelude.{ℕ, suc, ◌<◌, ◌≡◌, Bool, true, false, not, ◌&&◌, List, [], ◌∷◌, ◌++◌, eqb, length, if◌then◌else◌}
 use Rattle.lists.specs.Lists.{any}
 use Rattle.calls.specs.Table.{called}
 use Rattle.order.specs.Order.{listed}

@@ -1,6 +1,5 @@
 -- Demand 3's last sentence, which reads the rule of loans: what a task's own priority and its effective one are after any calls. The task is told by its full number.
-use Rattle.std.specs.Prelude.{ℕ, ◌≡◌, Bool, true, ◌&&◌, ◌||◌, List, [], ◌∷◌, eqb}
-use Rattle.lists.specs.Choice.{if◌then◌else◌}
+use Rattle.std.specs.Prelude.{ℕ, ◌≡◌, Bool, true, ◌&&◌, ◌||◌, List, [], ◌∷◌, eqb, if◌then◌else◌}
 use Rattle.calls.specs.Table.{word}
 use Rattle.calls.specs.Words.{frame_of}
 use Rattle.calls.specs.Behind.{asked}

@@ -1,6 +1,5 @@
 -- Histories of loans: calls, and after each of them the own and the effective priorities of some tasks.
-use Rattle.std.specs.Prelude.{ℕ, ◌≡◌, List, [], ◌∷◌, ◌++◌, map, get_or, replicate}
-use Rattle.lists.specs.Choice.{if◌then◌else◌}
+use Rattle.std.specs.Prelude.{ℕ, ◌≡◌, List, [], ◌∷◌, ◌++◌, map, get_or, replicate, if◌then◌else◌}
 use Rattle.calls.specs.Named.{task_of, object_of}
 use Rattle.slots.specs.Values.{task_at}
 use Rattle.rules.specs.Tables.{fresh}

@@ -1,6 +1,5 @@
 -- "where a slot's use starts at 0 and goes up by one at each delete or remove": the use of a slot, in the request's words, and how often it was given up.
-use Rattle.std.specs.Prelude.{ℕ, ◌+◌, ◌*◌, ◌≤◌, ◌≡◌, Bool, true, false, not, ◌&&◌, List, length}
-use Rattle.lists.specs.Choice.{if◌then◌else◌}
+use Rattle.std.specs.Prelude.{ℕ, ◌+◌, ◌*◌, ◌≤◌, ◌≡◌, Bool, true, false, not, ◌&&◌, List, length, if◌then◌else◌}
 use Rattle.lists.specs.Lists.{kept}
 use Rattle.numbers.specs.Numbers.{same_task, same_object}
 use Rattle.calls.specs.Door.{use_in, task_no, obj_no}

@@ -1,4 +1,6 @@
 // An item's bytes put into a part of the lent store, and fetched from one. What is out of reach is left as it is.
+#![tactic(auto)]
+
 ghost use Rattle.std.specs.Prelude.{◌≡◌, min, take, replicate};
 ghost use Rattle.std.proofs.lemmas.List.Edits.{sets};
 ghost use Rattle.items.specs.Bytes.{bytes_at, put_at};

@@ -8,7 +8,7 @@ use lib.ListN.{length, get_or, take, drop, set}
 use lib.Seq.{sets}
 use mir.Syntax.{w8}
 use mir.Val.{Fits}
-use Rattle.lists.specs.Choice.{if◌then◌else◌}
+use Rattle.std.proofs.Common.{if◌then◌else◌}
 use Rattle.lists.specs.Lists.{any}
 use Rattle.calls.specs.Words.{Field, a_number, bytes, fields_of, is_bytes, numbers_in, Small, no_words, frame_of}
 use Rattle.fields.specs.Hex.{Bytes}

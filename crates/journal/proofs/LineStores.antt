@@ -8,7 +8,7 @@ use lib.Dec.{ltb}
 use lib.ListN.{length, get_or, take, drop, length-append, length-take, length-drop}
 use lib.Seq.{sets-eq, get_or-take, get_or-drop}
 use borrow.Author.Tests.{ltb-false, eq-eqb, ne_eqb}
-use Rattle.lists.specs.Choice.{if◌then◌else◌}
+use Rattle.std.proofs.Common.{if◌then◌else◌}
 use Rattle.calls.specs.Said.{Word, done, made, waiting, refused, Saying, said}
 use Rattle.calls.specs.Words.{shape_of, frame_of}
 use Rattle.calls.proofs.CallAgain.{frame_five}

@@ -1,6 +1,5 @@
 -- The journal line of a call, from the table of calls.
-use Rattle.std.specs.Prelude.{ℕ, ◌≤◌, ◌≡◌, Bool, false, List, [], ◌∷◌, ◌++◌, length}
-use Rattle.lists.specs.Choice.{if◌then◌else◌}
+use Rattle.std.specs.Prelude.{ℕ, ◌≤◌, ◌≡◌, Bool, false, List, [], ◌∷◌, ◌++◌, length, if◌then◌else◌}
 use Rattle.lists.specs.Lists.{any}
 use Rattle.calls.specs.Table.{called}
 use Rattle.calls.specs.Words.{Field, a_number, bytes, fields_of, is_bytes}

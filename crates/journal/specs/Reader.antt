@@ -2,8 +2,7 @@
 -- speak of it, but the definitions of the session and of the program go through `read_of`. It need not be believed: `reads_as` (proofs/Promised)
 -- and `read_is` (proofs/Theorems) say that it is the one reading that the reader's promise allows, and `call_line` and `no_call_line`
 -- (promises/proofs/LineSteps) that a line's step is what document 01 says.
-use Rattle.std.specs.Prelude.{ℕ, zero, suc, ◌+◌, Bool, true, false, ◌&&◌, List, [], ◌∷◌, length, drop, set, replicate, eqb}
-use Rattle.lists.specs.Choice.{if◌then◌else◌}
+use Rattle.std.specs.Prelude.{ℕ, zero, suc, ◌+◌, Bool, true, false, ◌&&◌, List, [], ◌∷◌, length, drop, set, replicate, eqb, if◌then◌else◌}
 use Rattle.lists.specs.Lists.{is_none}
 use Rattle.calls.specs.Table.{call_of}
 use Rattle.calls.specs.Words.{no_words, shape_of}

@@ -9,7 +9,7 @@ use fields::{Item, Number, read_item, read_number};
 use lists::both;
 
 // A number and the place after it.
-#[derive(Drop)]
+#[derive(Clone, Copy)]
 pub(crate) struct Place {
     pub(crate) value: u32,
     pub(crate) next: usize,
@@ -42,6 +42,7 @@ fn number_at(line: &[u8], at: usize) -> Place
 }
 
 // A tab and a number for each of `count` values, from the place `from` on. Answers the place after them.
+#[tactic(auto, unfolding(crate::specs::Reader::nums))]
 fn read_numbers(line: &[u8], at: usize, from: usize, count: usize, values: &mut [u32; 5]) -> usize
     requires { from + count ≤ 5 }
     ensures { numbers_to values.new result ≡ nums line.now count from values.old at }
@@ -88,6 +89,7 @@ fn at_end(line: &[u8], at: usize) -> bool
 }
 
 // Refusal 3, with no bytes.
+#[tactic(auto, unfolding(crate::specs::Reader::no_call))]
 fn no_call() -> Read
     ensures { result ≡ no_call }
 {

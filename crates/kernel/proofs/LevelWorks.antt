@@ -1,6 +1,5 @@
 -- The levels of the columns are the rule's, and working them out is working out those of the state; and values of which each effective priority is the rule's.
-use Rattle.std.proofs.Common.{◌≡◌, ℕ, zero, suc, ◌<◌, Bool, true, false, not, ◌&&◌, eqb, ltb, List, map, length, get_or, set, sym, refl, ap, ◌∙◌, subst, ltb-false, lt-ltb, eqb-true}
-use Rattle.lists.specs.Choice.{if◌then◌else◌}
+use Rattle.std.proofs.Common.{◌≡◌, ℕ, zero, suc, ◌<◌, Bool, true, false, not, ◌&&◌, eqb, ltb, List, map, length, get_or, set, sym, refl, ap, ◌∙◌, subst, ltb-false, lt-ltb, eqb-true, if◌then◌else◌}
 use Rattle.lists.specs.Lists.{up_to, values, all_below}
 use Rattle.lists.proofs.Loops.{values_same}
 use Rattle.numbers.specs.declared.TaskSlot.{TaskSlot}

@@ -1,7 +1,6 @@
 -- The calls that write an object and nothing else: the makes and the remove, which the step has in one place.
-use Rattle.std.proofs.Common.{◌≡◌, ℕ, ◌+◌, ◌<◌, ◌≤◌, Bool, true, false, eqb, ◌⊎◌, List, refl, inl, inr, arith, ne_eqb, eqb-true}
+use Rattle.std.proofs.Common.{◌≡◌, ℕ, ◌+◌, ◌<◌, ◌≤◌, Bool, true, false, eqb, ◌⊎◌, List, refl, inl, inr, arith, ne_eqb, eqb-true, if◌then◌else◌}
 use borrow.Author.Tests.{eqb-false}
-use Rattle.lists.specs.Choice.{if◌then◌else◌}
 use Rattle.numbers.specs.Numbers.{object}
 use Rattle.calls.specs.declared.Asked.{Asked}
 use Rattle.rows.specs.Asking.{is, makes_object}

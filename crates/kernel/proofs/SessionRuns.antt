@@ -1,9 +1,8 @@
 -- The session's code: a line's step, and the loop over the lines of a block.
-use Rattle.std.proofs.Common.{◌≡◌, ℕ, ◌+◌, ◌-◌, ◌<◌, ◌≤◌, Bool, true, false, not, ◌&&◌, ◌||◌, eqb, ltb, List, [], ◌∷◌, ◌++◌, length, take, drop, set, sym, refl, ap, ◌∙◌, subst, arith, length-append, length-set, ltb-false, ltb-true, le-ltb, lt-ltb}
+use Rattle.std.proofs.Common.{◌≡◌, ℕ, ◌+◌, ◌-◌, ◌<◌, ◌≤◌, Bool, true, false, not, ◌&&◌, ◌||◌, eqb, ltb, List, [], ◌∷◌, ◌++◌, length, take, drop, set, sym, refl, ap, ◌∙◌, subst, arith, length-append, length-set, ltb-false, ltb-true, le-ltb, lt-ltb, if◌then◌else◌}
 use mathlib.Core.Bool.{false≢true}
 use lib.Seq.{sets-eq, take-length}
 use Rattle.lists.proofs.Bools.{or_off}
-use Rattle.lists.specs.Choice.{if◌then◌else◌}
 use Rattle.calls.specs.declared.Call.{Call}
 use Rattle.calls.specs.declared.Answer.TheVariants.{Refused as NotDone}
 use Rattle.calls.specs.Behind.{asked}

@@ -1,6 +1,5 @@
 -- The state that a kernel value shows.
-use Rattle.std.proofs.Common.{◌≡◌, ℕ, Bool, true, false, ◌&&◌, List, sym, refl, ap, ◌∙◌, arith}
-use Rattle.lists.specs.Choice.{if◌then◌else◌}
+use Rattle.std.proofs.Common.{◌≡◌, ℕ, Bool, true, false, ◌&&◌, List, sym, refl, ap, ◌∙◌, arith, if◌then◌else◌}
 use Rattle.lists.proofs.Bools.{and_left, and_right, and_intro, same_test}
 use Rattle.calls.specs.Door.{fresh_uses, uses_fine}
 use Rattle.tasks.specs.Columns.{tasks_of}

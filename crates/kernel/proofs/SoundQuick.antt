@@ -1,8 +1,7 @@
 -- The test of the code, one pass over each table's columns, is the plain one of the state that is shown_core.
-use Rattle.std.proofs.Common.{◌≡◌, ℕ, ◌<◌, ◌≤◌, Bool, true, false, not, ◌&&◌, ◌||◌, eqb, ltb, leb, List, [], ◌∷◌, length, get_or, sym, refl, ap, ◌∙◌, arith, ltb-false, ltb-true}
+use Rattle.std.proofs.Common.{◌≡◌, ℕ, ◌<◌, ◌≤◌, Bool, true, false, not, ◌&&◌, ◌||◌, eqb, ltb, leb, List, [], ◌∷◌, length, get_or, sym, refl, ap, ◌∙◌, arith, ltb-false, ltb-true, if◌then◌else◌}
 use mathlib.Core.Bool.{false≢true, and_assoc, and-true}
 use lib.ListN.{get_or-eq_default}
-use Rattle.lists.specs.Choice.{if◌then◌else◌}
 use Rattle.lists.specs.Lists.{kept, all_below}
 use Rattle.lists.proofs.Bools.{and_left, and_right, and_intro, same_test, all_below_lem, below_all}
 use Rattle.chains.specs.Chains.{ends}

@@ -1,7 +1,6 @@
 -- What the walks of the tables find is what the rules say of the state.
-use Rattle.std.proofs.Common.{◌≡◌, ℕ, ◌<◌, ◌≤◌, Bool, true, false, leb, List, [], ◌∷◌, set, sym, refl, ap, ◌∙◌, eq-eqb, ne_eqb, le-leb}
+use Rattle.std.proofs.Common.{◌≡◌, ℕ, ◌<◌, ◌≤◌, Bool, true, false, leb, List, [], ◌∷◌, set, sym, refl, ap, ◌∙◌, eq-eqb, ne_eqb, le-leb, if◌then◌else◌}
 use borrow.Author.Tests.{lt-leb}
-use Rattle.lists.specs.Choice.{if◌then◌else◌}
 use Rattle.lists.specs.Lists.{foldl, kept, head}
 use Rattle.numbers.specs.declared.TaskSlot.{TaskSlot}
 use Rattle.order.specs.Order.{listed}

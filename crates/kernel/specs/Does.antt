@@ -1,6 +1,5 @@
 -- What a function of the kernel value does, said of the state that the value stands for.
-use Rattle.std.specs.Prelude.{◌≡◌, ℕ, ◌<◌, length}
-use Rattle.lists.specs.Choice.{if◌then◌else◌}
+use Rattle.std.specs.Prelude.{◌≡◌, ℕ, ◌<◌, length, if◌then◌else◌}
 use Rattle.numbers.specs.declared.TaskSlot.{TaskSlot}
 use Rattle.calls.specs.declared.Asked.{Asked}
 use Rattle.calls.specs.Said.{Saying, says, done, made, waiting}

@@ -1,6 +1,5 @@
 -- Which kernel value stands for a state, and which state a kernel value stands for.
-use Rattle.std.specs.Prelude.{Bool, ◌&&◌, []}
-use Rattle.lists.specs.Choice.{if◌then◌else◌}
+use Rattle.std.specs.Prelude.{Bool, ◌&&◌, [], if◌then◌else◌}
 use Rattle.tasks.specs.Columns.{tasks_of, rows_of as task_rows}
 use Rattle.tasks.specs.Known.{canonical as plain_tasks}
 use Rattle.objects.specs.Columns.{objects_of, rows_of as object_rows, canonical as plain_objects}

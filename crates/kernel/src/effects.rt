@@ -1,8 +1,7 @@
 // The 23 calls, accepted: each does its row of the call table.
-ghost use Rattle.std.specs.Prelude.{◌≡◌, ◌≤◌, true, false, ◌&&◌, length, ◌==◌, nat_lt};
+ghost use Rattle.std.specs.Prelude.{◌≡◌, ◌≤◌, true, false, ◌&&◌, length, ◌==◌, nat_lt, if◌then◌else◌};
 ghost use Rattle.slots.specs.Kinds.{kind_at};
 ghost use Rattle.rules.specs.Tables.{free_slot, free_object, with_object};
-ghost use Rattle.lists.specs.Choice.{if◌then◌else◌};
 ghost use Rattle.rows.specs.Asking.{is, makes};
 ghost use Rattle.rules.specs.Refusals.{new_slot};
 ghost use Rattle.rows.specs.Applies.{size_differs, takes_full};
@@ -54,6 +53,7 @@ fn gone_object(last: bool) -> Kind
 }
 
 // What a make puts into its slot.
+#[tactic(auto, unfolding(crate::specs::Made::new_object))]
 fn new_object(a: Asked) -> Kind
     requires { (a.capacity ≤ 64) × (a.size ≤ 64) }
     ensures { result ≡ new_object a }
@@ -91,6 +91,7 @@ impl Core {
         self
     }
 
+    #[tactic(auto, unfolding(rules::specs::Effects::suspended))]
     fn suspend(self, t: TaskSlot) -> Core
         ensures { Does self (λ s. suspended s t) result }
     {
@@ -104,6 +105,7 @@ impl Core {
         }
     }
 
+    #[tactic(auto, unfolding(rules::specs::Effects::resumed))]
     fn resume(self, t: TaskSlot) -> Core
         ensures { Does self (λ s. resumed s t) result }
     {
@@ -146,6 +148,7 @@ impl Core {
     }
 
     // A make takes the slot `n`, a remove gives its object's up: one place for both, since each writes an object and nothing else.
+    #[tactic(auto, unfolding(rules::specs::Effects::removed))]
     fn make_or_remove(self, a: Asked, n: u8) -> Core
         requires { (is 12 a ≡ false → Reads self (λ s. free_object s.objects) n) × (a.capacity ≤ 64) × (a.size ≤ 64) }
         ensures { Does self (λ s. if is 12 a then removed s a.object a.last else with_object s (object (free_object s.objects)) (new_object a)) result }
@@ -198,6 +201,7 @@ impl Core {
         self.with_object(o, Kind::Mutex(m.counting(1), Holder::By(u)))
     }
 
+    #[tactic(auto, unfolding(rules::specs::Effects::taken))]
     fn take(self, o: ObjSlot, w: u32) -> Core
         requires { Firm self × (takes_full self.running (kind_at (shown_core self).objects o) ≡ false) }
         ensures { Does self (λ s. taken s o w) result }
@@ -212,6 +216,7 @@ impl Core {
     }
 
     // One off the count, which only a recursive one has; given for the last time, the mutex is free, and then the first waiter's.
+    #[tactic(auto, unfolding(rules::specs::Lines::first, rules::specs::Waits::arrives, rules::specs::Lines::to_tail))]
     fn give_back(self, o: ObjSlot, m: Sort, h: Holder) -> Core
         ensures { Does self (λ s. given_back s o (Mutex m h)) result }
     {
@@ -228,6 +233,7 @@ impl Core {
         }
     }
 
+    #[tactic(auto, unfolding(rules::specs::Effects::given))]
     fn give(self, o: ObjSlot) -> Core
         ensures { Does self (λ s. given s o) result }
     {
@@ -252,6 +258,7 @@ impl Core {
     }
 
     // The call is one that no row of the table turns away; `n` is the slot that a create or make takes.
+    #[tactic(auto, unfolding(rules::specs::Effects::effect, rules::specs::Steps::stored, rules::specs::Effects::yielded))]
     pub(crate) fn served(self, a: Asked, n: u8, item: &[u8], store: &mut [u8]) -> Core
         requires { Firm self × (later_row (shown_core self) a (length item.now) (length store.old) ≡ 0) × (makes a ≡ true → Reads self (λ s. new_slot s a) n) }
         ensures { Does self (λ s. effect s a) result × Reads self (λ s. stored s a item.now store.old) store.new }

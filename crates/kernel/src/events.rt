@@ -68,6 +68,7 @@ impl Core {
     }
 
     // The bits of the call are joined in already.
+    #[tactic(auto, unfolding(rules::specs::Events::bits_set))]
     fn set_bits(self, o: ObjSlot, bits: u32, store: &mut [u8]) -> Core
         requires { Firm self × (length store.old ≡ 9216) }
         ensures { Does self (λ s. bits_set s o bits) result × Reads self (λ s. store_set s o bits store.old) store.new }
@@ -103,6 +104,7 @@ impl Core {
     }
 
     // Satisfied at once, the caller does not wait: its slip has the bits as they were judged, and then its clear comes.
+    #[tactic(auto, unfolding(rules::specs::Events::awaited, rules::specs::Events::store_awaited, rules::specs::Events::slip_bits))]
     fn await_bits(self, o: ObjSlot, b: u32, x: Want, w: u32, store: &mut [u8]) -> Core
         requires { (self.running.0 < 16) × (length store.old ≡ 9216) }
         ensures { Does self (λ s. awaited s o b x w) result × Reads self (λ s. store_awaited s b x store.old) store.new }
@@ -130,6 +132,7 @@ impl Core {
     }
 
     // The three calls on a group. It is called from three places, so that it stands by itself in the compiled step.
+    #[tactic(auto, unfolding(rules::specs::Effects::effect, rules::specs::Steps::stored))]
     fn event(self, a: Asked, store: &mut [u8]) -> Core
         requires { Firm self × (length store.old ≡ 9216) × (21 ≤ a.number) × (a.number ≤ 23) }
         ensures { Does self (λ s. effect s a) result × Reads self (λ s. stored s a [] store.old) store.new }

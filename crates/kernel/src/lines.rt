@@ -26,6 +26,7 @@ impl Core {
         self
     }
 
+    #[tactic(auto, unfolding(rules::specs::Lines::to_tail, crate::specs::Stands::core_of))]
     pub(crate) fn to_tail(mut self, t: TaskSlot) -> Core
         ensures { Does self (λ s. to_tail s t) result }
     {
@@ -33,6 +34,7 @@ impl Core {
         self
     }
 
+    #[tactic(auto, unfolding(rules::specs::Lines::leaves, crate::specs::Stands::core_of))]
     pub(crate) fn leaves(mut self, t: TaskSlot) -> Core
         ensures { Does self (λ s. leaves s t) result }
     {

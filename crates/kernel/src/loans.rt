@@ -9,6 +9,7 @@ use calls::Asked;
 use numbers::TaskSlot;
 
 // The call may change an own priority, a holder or a wait on a mutex.
+#[tactic(auto, unfolding(rules::specs::Steps::may_lend))]
 pub(crate) fn may_lend(a: Asked) -> bool
     ensures { result ≡ may_lend a }
 {
@@ -19,6 +20,7 @@ pub(crate) fn may_lend(a: Asked) -> bool
 }
 
 impl Core {
+    #[tactic(auto, unfolding(rules::specs::Loans::new_priority))]
     pub(crate) fn new_priority(self, t: TaskSlot, p: u8) -> Core
         ensures { Does self (λ s. new_priority s t p) result }
     {

@@ -14,6 +14,7 @@ use numbers::ObjSlot;
 use slots::{Found, Kind, Place, Ring, Want};
 
 impl Core {
+    #[tactic(auto, unfolding(rules::specs::Queues::outlet))]
     fn outlet(self, o: ObjSlot, q: Ring) -> Outlet
         ensures { Reads self (λ s. outlet s o q) (outlet_of result) }
     {
@@ -28,6 +29,7 @@ impl Core {
         }
     }
 
+    #[tactic(auto, unfolding(rules::specs::Queues::sent, rules::specs::Queues::store_sent))]
     pub(crate) fn send_to(self, o: ObjSlot, q: Ring, w: u32, item: &[u8], store: &mut [u8]) -> Core
         requires { (o.0 < 16) × RingFits q × Firm self × (length item.now ≡ q.size) × (length store.old ≡ 9216) }
         ensures { Does self (λ s. sent s o q w) result × Reads self (λ s. store_sent s o q item.now store.old) store.new }
@@ -74,6 +76,7 @@ impl Core {
         self.first_waiter(o)
     }
 
+    #[tactic(auto, unfolding(rules::specs::Queues::received, rules::specs::Queues::store_received))]
     pub(crate) fn receive_from(self, o: ObjSlot, q: Ring, w: u32, store: &mut [u8]) -> Core
         requires { (o.0 < 16) × RingFits q × Firm self × (length store.old ≡ 9216) }
         ensures { Does self (λ s. received s o q w) result × Reads self (λ s. store_received s o q store.old) store.new }

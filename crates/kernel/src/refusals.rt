@@ -1,5 +1,5 @@
 // What the rows of the refusal table look at. The new slot, whether something is in use and whether a circle closes are searched once, for their calls alone.
-ghost use Rattle.lists.specs.Choice.{if◌then◌else◌};
+ghost use Rattle.std.specs.Prelude.{if◌then◌else◌};
 ghost use Rattle.rows.specs.Asking.{makes};
 ghost use Rattle.rules.specs.Refusals.{new_slot, held_or_waited, in_use, seen};
 ghost use Rattle.slots.specs.Kinds.{holder_of};
@@ -35,6 +35,7 @@ impl Core {
     }
 
     // A task to be deleted holds a mutex; an object to be removed is held or has waiters.
+    #[tactic(auto, unfolding(rules::specs::Refusals::in_use))]
     fn used(self, a: Asked) -> bool
         requires { Firm self }
         ensures { Reads self (λ s. in_use s a) result }
@@ -69,6 +70,7 @@ impl Core {
     }
 
     // A take that would close a circle. Of a mutex that nobody holds, or that the caller takes again, there is no chain to follow.
+    #[tactic(auto, unfolding(rules::specs::Circles::closes_circle))]
     fn closes_circle(self, a: Asked) -> bool
         requires { Firm self }
         ensures { Reads self (λ s. closes_circle s a) result }

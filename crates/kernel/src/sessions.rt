@@ -1,7 +1,6 @@
 // A line read and stepped; and a session: bytes come in blocks, cut anywhere, and each line that ends among them is answered.
 // Soundness is tested once a block; a step keeps it.
-ghost use Rattle.std.specs.Prelude.{◌≡◌, ◌≤◌, true, nat_lt};
-ghost use Rattle.lists.specs.Choice.{if◌then◌else◌};
+ghost use Rattle.std.specs.Prelude.{◌≡◌, ◌≤◌, true, nat_lt, if◌then◌else◌};
 ghost use Rattle.rules.specs.Sound.{sound};
 ghost use Rattle.rules.specs.Sessions.{no_line_of, step_read};
 ghost use Rattle.kernel.specs.Stands.{kernel_of, shown};
@@ -67,6 +66,7 @@ impl Kernel {
 
 impl Session {
     // "The program starts from the fresh kernel".
+    #[tactic(auto, unfolding(crate::specs::Promises::new_session))]
     pub fn fresh() -> Session
         ensures { result ≡ new_session }
     {

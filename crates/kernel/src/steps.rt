@@ -26,6 +26,7 @@ fn new_number(uses: Uses, a: Asked, n: u8) -> u32
 }
 
 // A delete or remove gives its slot up; no other call changes the uses.
+#[tactic(auto, unfolding(rules::specs::Steps::uses_after))]
 fn uses_after(uses: Uses, a: Asked) -> Uses
     ensures { result ≡ uses_after uses a }
 {

@@ -16,6 +16,7 @@ use tasks::Tasks;
 
 impl Core {
     // Idle alone, tick 0, hold 0, no objects.
+    #[tactic(auto, unfolding(crate::specs::Stands::core_of, rules::specs::Tables::fresh, order::specs::Order::ordered))]
     pub(crate) fn fresh() -> Core
         ensures { result ≡ core_of fresh }
     {
@@ -64,6 +65,7 @@ impl Core {
         self
     }
 
+    #[tactic(auto, unfolding(crate::specs::Stands::core_of))]
     pub(crate) fn with_tick(mut self, n: u32) -> Core
         ensures { Does self (λ s. with_tick s n) result }
     {
@@ -71,6 +73,7 @@ impl Core {
         self
     }
 
+    #[tactic(auto, unfolding(crate::specs::Stands::core_of))]
     pub(crate) fn with_hold(mut self, h: u8, p: u16) -> Core
         ensures { Does self (λ s. with_hold s h p) result }
     {
@@ -88,6 +91,7 @@ impl Core {
 
 impl Kernel {
     // Idle alone, tick 0, hold 0, no objects, nothing given up yet.
+    #[tactic(auto, unfolding(rules::specs::Tables::fresh))]
     pub fn fresh() -> Kernel
         ensures { result ≡ kernel_of fresh }
     {

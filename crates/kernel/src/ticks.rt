@@ -106,6 +106,7 @@ impl Core {
     }
 
     // So turned, with the count at `next`.
+    #[tactic(auto, unfolding(crate::specs::Stands::core_of))]
     fn turned_until(mut self, n: u32, next: u32) -> Core
         requires { Turning self × (0 < n) }
         ensures { Does self (λ s. with_tick (turnings true n s) next) result }
@@ -133,6 +134,7 @@ impl Core {
 
     // A tick on which somebody may be due. Who then outranks the running task runs; where nobody does, the line turns. (`turned` and `chosen` are the tick's and the
     // step's: called from here too, they would no longer be compiled into these.)
+    #[tactic(auto, unfolding(lists::specs::Lists::up_to))]
     fn tick_turned(self, turns: bool) -> Core
         requires { Reckons self × (turns ≡ true → Turning self) }
         ensures { Does self (λ s. turned_if turns (one_tick s)) result }
@@ -187,6 +189,7 @@ impl Core {
 
 impl Kernel {
     // For the board: how many ticks from now the next one is on which somebody is due. Nobody ever is in a kernel that is not sound, which refuses every call.
+    #[tactic(auto, unfolding(rules::specs::Ticks::sleeps))]
     pub fn sleeps(self) -> Sleep
         ensures { ticks_of result ≡ sleeps (shown self) }
     {

@@ -1,11 +1,13 @@
 // A task's slot and an object's slot: two types of one byte each, so that neither can stand for the other. The only place where a number is taken apart.
+#![tactic(auto)]
+
 ghost use Rattle.std.specs.Prelude.{◌≡◌};
 ghost use Rattle.numbers.specs.Numbers.{task, object, same_task, same_object, is_idle};
 
-#[derive(Drop)]
+#[derive(Clone, Copy)]
 pub struct TaskSlot(pub u8);
 
-#[derive(Drop)]
+#[derive(Clone, Copy)]
 pub struct ObjSlot(pub u8);
 
 impl TaskSlot {

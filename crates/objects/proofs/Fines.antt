@@ -8,7 +8,7 @@ use lib.Dec.{eqb, ltb, leb}
 use lib.ListN.{length, get_or, set, replicate, get_or-replicate, length-set, length-map, get_or-map}
 use lib.Seq.{ext_get_or}
 use borrow.Author.Tests.{eqb-true, eqb-false, ne_eqb, lt-ltb, ltb-true, le-leb, lt-leb}
-use Rattle.lists.specs.Choice.{if◌then◌else◌}
+use Rattle.std.proofs.Common.{if◌then◌else◌}
 use Rattle.lists.specs.Lists.{all_below, up_to}
 use Rattle.lists.specs.FourBytes.{of_bytes}
 use Rattle.lists.proofs.Tests.{by_seven}

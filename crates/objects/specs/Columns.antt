@@ -1,6 +1,5 @@
 -- The table of objects as a list, in the words of the rules; and as the columns that stand for it.
-use Rattle.std.specs.Prelude.{ℕ, Bool, not, ◌&&◌, ◌||◌, ◌≡◌, List, map, eqb, ltb, leb, length, get_or, set}
-use Rattle.lists.specs.Choice.{if◌then◌else◌}
+use Rattle.std.specs.Prelude.{ℕ, Bool, not, ◌&&◌, ◌||◌, ◌≡◌, List, map, eqb, ltb, leb, length, get_or, set, if◌then◌else◌}
 use Rattle.lists.specs.Lists.{any, index, all_below, values}
 use Rattle.lists.specs.FourBytes.{low_byte, second_byte, third_byte, last_byte, of_bytes}
 use Rattle.numbers.specs.Numbers.{task}

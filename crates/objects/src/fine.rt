@@ -1,6 +1,5 @@
 // What soundness asks of the objects and must know of them, in numbers: no Kind is made, so that the compiler does many rows at once.
-ghost use Rattle.std.specs.Prelude.{◌*◌, min, ◌≡◌, leb};
-ghost use Rattle.lists.specs.Choice.{if◌then◌else◌};
+ghost use Rattle.std.specs.Prelude.{◌*◌, min, ◌≡◌, leb, if◌then◌else◌};
 ghost use Rattle.lists.specs.Lists.{all_below};
 ghost use Rattle.slots.specs.SoundSlots.{ring_fine};
 ghost use Rattle.objects.specs.Columns.{HoldersAre, ring, six};
@@ -27,6 +26,7 @@ fn count_right(s: u8, k: u8) -> bool
     lists::either(s == 1, k == 0)
 }
 
+#[tactic(auto, unfolding(crate::specs::Fine::row_fine))]
 fn row_fine(s: u8, c: u8, z: u8, f: u8, k: u8, h: u8) -> bool
     ensures { result ≡ row_fine (six s c z f k h) }
 {
@@ -73,6 +73,7 @@ impl Objects {
     }
 
     // How many are held.
+    #[tactic(auto, unfolding(crate::specs::Fine::holding_in))]
     fn holding(self) -> u8
         ensures { result ≡ holding_in self }
     {

@@ -7,7 +7,7 @@ use native.Mathlib.Omega.{arith}
 use lib.Dec.{eqb, ltb, leb}
 use lib.ListN.{length, get_or, set}
 use borrow.Author.Tests.{eqb-true, leb-true, leb-false}
-use Rattle.lists.specs.Choice.{if◌then◌else◌}
+use Rattle.std.proofs.Common.{if◌then◌else◌}
 use Rattle.lists.specs.Lists.{foldl, up_to}
 use Rattle.lists.proofs.Tests.{kept_within}
 use Rattle.numbers.specs.declared.TaskSlot.{TaskSlot}
@@ -210,7 +210,7 @@ woken_too {k} t w = twice (λ z. woken_if_due z t) w (λ o v. go o v (wakes_at k
 wakes_too : {k j : State} (l : List TaskSlot) → Twins k j → Twins (foldl woken_if_due k l) (foldl woken_if_due j l)
 unfolding foldl
 wakes_too [] w = w
-wakes_too (t ∷ l) w = wakes_too l (woken_too t w)
+wakes_too {k = k} {j = j} (t ∷ l) w = wakes_too {k = woken_if_due k t} {j = woken_if_due j t} l (woken_too t w)
 
 counted_too : {k j : State} → Twins k j → Twins (counted_on k) (counted_on j)
 unfolding counted_on wakes

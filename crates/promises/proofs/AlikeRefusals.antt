@@ -7,7 +7,7 @@ use native.Mathlib.Omega.{arith}
 use lib.Dec.{eqb, ltb}
 use lib.ListN.{length, get_or}
 use borrow.Author.Tests.{eqb-false, ltb-true}
-use Rattle.lists.specs.Choice.{if◌then◌else◌}
+use Rattle.std.proofs.Common.{if◌then◌else◌}
 use Rattle.lists.specs.Lists.{every, index}
 use Rattle.lists.proofs.Bools.{and_left, and_right, on}
 use Rattle.numbers.specs.declared.TaskSlot.{TaskSlot}

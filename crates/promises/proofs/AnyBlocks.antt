@@ -113,7 +113,7 @@ all_turns : {p q : Pause} {input : List ℕ} → Through p input q → (ts : Lis
 unfolding foldl came_in
 all_turns {p} {q} {input} h [] = subst (λ (l : List ℕ). Through p l q) (sym (append-nil input)) h
 all_turns {p} {q} {input} h (t ∷ ts) =
-    subst (λ (l : List ℕ). Through p l (after_turns (after_turn q t) ts)) (append_assoc input t.came (came_in ts)) (all_turns (one_turn h t) ts)
+    subst (λ (l : List ℕ). Through p l (after_turns (after_turn q t) ts)) (append_assoc input t.came (came_in ts)) (all_turns {q = after_turn q t} {input = input ++ t.came} (one_turn h t) ts)
 
 -- whatever the turns: nothing is lost, and what was taken was taken as if it had come in one
 pub turns_through : (p : Pause) (ts : List Turn) → Through p (p.waits ++ came_in ts) (after_turns p ts)

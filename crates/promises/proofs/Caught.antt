@@ -9,7 +9,7 @@ use mathlib.Core.Logic.{⊎_elim}
 use lib.Count.{count_leading_zeros, count_trailing_zeros}
 use borrow.Author.Tests.{eqb-true}
 use Rattle.heights.specs.Heights.{lit, top, height, occupied}
-use Rattle.lists.specs.Choice.{if◌then◌else◌}
+use Rattle.std.proofs.Common.{if◌then◌else◌}
 use Rattle.lists.specs.Lists.{every, all_below, foldl, up_to, values, index, any, kept}
 use Rattle.calls.specs.Door.{fresh_uses, uses_fine}
 use Rattle.calls.specs.Behind.{asked}

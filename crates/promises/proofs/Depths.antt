@@ -8,7 +8,7 @@ use lib.Dec.{eqb}
 use lib.ListN.{length}
 use lib.Bits.{bit_or}
 use borrow.Author.Tests.{eqb-true}
-use Rattle.lists.specs.Choice.{if◌then◌else◌}
+use Rattle.std.proofs.Common.{if◌then◌else◌}
 use Rattle.lists.specs.Lists.{foldl}
 use Rattle.calls.specs.Door.{task_slot, obj_slot}
 use Rattle.calls.specs.Behind.{asked}

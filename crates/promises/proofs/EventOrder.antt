@@ -28,7 +28,7 @@ use Rattle.promises.specs.EventGroups.{has_bit, is_satisfied, SameTasks, AnyOrde
 use Rattle.promises.proofs.BitByBit.{joined_says, same_bits_lem}
 use Rattle.promises.proofs.EventWakes.{wake_other, count_woken}
 use Rattle.promises.proofs.SlipBytes.{slips_swap}
-use Rattle.lists.specs.Choice.{if◌then◌else◌}
+use Rattle.std.proofs.Common.{if◌then◌else◌}
 use Rattle.rules.proofs.LoanStill.{met_waits}
 
 arrives_many : (k : State) (t : TaskSlot) → length (arrives k t Ready 1).tasks ≡ length k.tasks

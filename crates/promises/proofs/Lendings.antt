@@ -8,7 +8,7 @@ use lib.Dec.{eqb, ltb}
 use lib.ListN.{length, get_or}
 use lib.Bits.{bit_or}
 use borrow.Author.Tests.{eqb-true, ltb-true, ltb-false}
-use Rattle.lists.specs.Choice.{if◌then◌else◌}
+use Rattle.std.proofs.Common.{if◌then◌else◌}
 use Rattle.lists.proofs.Bools.{or_off}
 use Rattle.numbers.specs.Numbers.{task}
 use Rattle.order.proofs.Passing.{one_number}

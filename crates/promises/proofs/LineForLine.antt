@@ -8,7 +8,7 @@ use lib.Dec.{eqb, ltb}
 use lib.ListN.{length, take, set, replicate, length-append, length-set}
 use lib.Seq.{append_snoc, take-suc-set}
 use borrow.Author.Tests.{ltb-true, ltb-false, lt-ltb, le-ltb, eqb-false, eq-eqb, ne_eqb}
-use Rattle.lists.specs.Choice.{if◌then◌else◌}
+use Rattle.std.proofs.Common.{if◌then◌else◌}
 use Rattle.lists.specs.Lists.{foldl, index}
 use Rattle.journal.specs.Reader.{read_of, no_call}
 use Rattle.journal.proofs.Newlines.{Clear, Ended, one_clear, clear_append, ended_append}

@@ -8,7 +8,7 @@ use lib.Dec.{eqb, ltb}
 use lib.ListN.{length, get_or, set, length-map, get_or-map}
 use lib.Bits.{bit_or}
 use borrow.Author.Tests.{eqb-true}
-use Rattle.lists.specs.Choice.{if◌then◌else◌}
+use Rattle.std.proofs.Common.{if◌then◌else◌}
 use Rattle.lists.specs.Lists.{any, index, foldl, up_to, all_below}
 use Rattle.lists.proofs.Bools.{on}
 use Rattle.numbers.specs.Numbers.{task, object, same_task}

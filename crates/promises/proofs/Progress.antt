@@ -7,7 +7,7 @@ use native.Mathlib.Omega.{arith}
 use lib.Dec.{eqb, ltb}
 use lib.ListN.{length, length-append, length-drop}
 use borrow.Author.Tests.{le-ltb, ltb-true, ltb-false}
-use Rattle.lists.specs.Choice.{if◌then◌else◌}
+use Rattle.std.proofs.Common.{if◌then◌else◌}
 use Rattle.lists.specs.Lists.{foldl}
 use Rattle.calls.specs.Door.{task_no}
 use Rattle.journal.proofs.LineStores.{reply_within}

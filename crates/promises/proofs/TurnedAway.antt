@@ -8,7 +8,7 @@ use native.Mathlib.Omega.{arith}
 use lib.Dec.{eqb}
 use lib.ListN.{length}
 use borrow.Author.Tests.{eqb-true, eqb-false, eq-eqb, ne_eqb}
-use Rattle.lists.specs.Choice.{if◌then◌else◌}
+use Rattle.std.proofs.Common.{if◌then◌else◌}
 use Rattle.calls.specs.Behind.{asked}
 use Rattle.calls.specs.Said.{done, made, waiting, refused, Saying, says}
 use Rattle.slots.specs.Places.{is_blocked}
@@ -109,6 +109,7 @@ module _ (k : State) (c : Call) (item s : List ℕ) where
   first_some n f z = none_first (is_none _ (rows_numbered k (asked k.uses c) (length item) (length s)) (first_is f ∙ z)) f
     where
       none_first : {rs : List Row} → None rs → First n rs → ⊥
+      none_first end f = elim f [ ]
       none_first (not_this_row a g) (this_row e b) = false≢true (sym a ∙ b)
       none_first (not_this_row a g) (below b f) = none_first g f
 

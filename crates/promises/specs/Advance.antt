@@ -1,6 +1,5 @@
 -- "call 18, advance: n ticks, 1 to 65,535, and the result must equal n single ticks one by one, turns of the line and wakes included"; and how long the board may sleep.
-use Rattle.std.specs.Prelude.{ℕ, ◌+◌, ◌<◌, ◌≤◌, ◌≡◌, Bool, true, false, not, List, [], ◌∷◌, length}
-use Rattle.lists.specs.Choice.{if◌then◌else◌}
+use Rattle.std.specs.Prelude.{ℕ, ◌+◌, ◌<◌, ◌≤◌, ◌≡◌, Bool, true, false, not, List, [], ◌∷◌, length, if◌then◌else◌}
 use Rattle.lists.specs.Lists.{up_to, any}
 use Rattle.order.specs.Order.{listed}
 use Rattle.calls.specs.Behind.{asked}

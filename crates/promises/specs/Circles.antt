@@ -1,6 +1,5 @@
 -- "Do not let two tasks wait on each other": a take is refused 17 exactly if accepting it would have made a circle, and every chain of waits ends.
-use Rattle.std.specs.Prelude.{ℕ, ◌<◌, ◌≡◌, true, List, [], ◌∷◌, eqb}
-use Rattle.lists.specs.Choice.{if◌then◌else◌}
+use Rattle.std.specs.Prelude.{ℕ, ◌<◌, ◌≡◌, true, List, [], ◌∷◌, eqb, if◌then◌else◌}
 use Rattle.calls.specs.declared.ObjNo.{ObjNo}
 use Rattle.calls.specs.Door.{obj_slot}
 use Rattle.calls.specs.Behind.{asked}

@@ -1,6 +1,5 @@
 -- "Hold depth 0 to 255", told by the calls alone: how many holds were accepted, less the accepted releases.
-use Rattle.std.specs.Prelude.{ℕ, ◌+◌, ◌-◌, Bool, List, [], eqb, length}
-use Rattle.lists.specs.Choice.{if◌then◌else◌}
+use Rattle.std.specs.Prelude.{ℕ, ◌+◌, ◌-◌, Bool, List, [], eqb, length, if◌then◌else◌}
 use Rattle.lists.specs.Lists.{foldl}
 use Rattle.calls.specs.Behind.{asked}
 use Rattle.rows.specs.Asking.{is}

@@ -1,7 +1,6 @@
 -- "a program that reads call lines from standard input and writes one answer line for each": what an input is answered, line by line.
-use Rattle.std.specs.Prelude.{ℕ, suc, eqb, replicate}
+use Rattle.std.specs.Prelude.{ℕ, suc, eqb, replicate, if◌then◌else◌}
 use mathlib.Core.List.{List, [], ◌∷◌, map, flatten}
-use Rattle.lists.specs.Choice.{if◌then◌else◌}
 use Rattle.calls.specs.Door.{task_no}
 use Rattle.calls.specs.Said.{says, refused}
 use Rattle.journal.specs.Reply.{reply}

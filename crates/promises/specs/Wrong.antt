@@ -1,8 +1,7 @@
 -- The idle programs, the easy mistakes of document 01, those of numbers, of the highest line, of the order of wakes and of an advance: each is the step with one
 -- mistake made, with a few calls that tell the two apart.
-use Rattle.std.specs.Prelude.{ℕ, zero, suc, ◌+◌, ◌-◌, ◌%◌, Bool, true, false, not, ◌&&◌, ◌||◌, List, [], ◌∷◌, ◌++◌, map, eqb, ltb, leb, length, get_or, set, replicate}
+use Rattle.std.specs.Prelude.{ℕ, zero, suc, ◌+◌, ◌-◌, ◌%◌, Bool, true, false, not, ◌&&◌, ◌||◌, List, [], ◌∷◌, ◌++◌, map, eqb, ltb, leb, length, get_or, set, replicate, if◌then◌else◌}
 use Rattle.std.specs.Int.Count.{count_leading_zeros, count_trailing_zeros}
-use Rattle.lists.specs.Choice.{if◌then◌else◌}
 use Rattle.lists.specs.Lists.{foldl, up_to, values, kept, head}
 use Rattle.numbers.specs.Numbers.{task, object, same_task}
 use Rattle.calls.specs.declared.Uses.{Uses}

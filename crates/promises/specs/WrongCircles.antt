@@ -1,6 +1,5 @@
 -- Mistakes in refusal 17: each is the step with one mistake made, with a few calls that tell the two apart.
-use Rattle.std.specs.Prelude.{ℕ, Bool, not, ◌&&◌, List, [], ◌∷◌, ◌++◌, eqb, ltb}
-use Rattle.lists.specs.Choice.{if◌then◌else◌}
+use Rattle.std.specs.Prelude.{ℕ, Bool, not, ◌&&◌, List, [], ◌∷◌, ◌++◌, eqb, ltb, if◌then◌else◌}
 use Rattle.calls.specs.Named.{object_of}
 use Rattle.calls.specs.Behind.{asked}
 use Rattle.calls.specs.Said.{waiting, refused}

@@ -1,7 +1,6 @@
 -- Mistakes with event groups: each is the step with one mistake made, with a few calls that tell the two apart.
-use Rattle.std.specs.Prelude.{ℕ, zero, suc, ◌+◌, ◌-◌, ◌*◌, Bool, true, false, not, ◌&&◌, ◌||◌, List, [], ◌∷◌, ◌++◌, eqb, ltb, leb, drop, take}
+use Rattle.std.specs.Prelude.{ℕ, zero, suc, ◌+◌, ◌-◌, ◌*◌, Bool, true, false, not, ◌&&◌, ◌||◌, List, [], ◌∷◌, ◌++◌, eqb, ltb, leb, drop, take, if◌then◌else◌}
 use Rattle.std.specs.Int.Bits.{bit_or}
-use Rattle.lists.specs.Choice.{if◌then◌else◌}
 use Rattle.lists.specs.Lists.{foldl, kept, head, values}
 use Rattle.lists.specs.FourBytes.{four_bytes, low_byte, second_byte, third_byte, last_byte}
 use Rattle.numbers.specs.Numbers.{task, object, same_object}

@@ -1,6 +1,5 @@
 -- Mistakes in the effective priorities: each is the step with one mistake made, with a few calls that tell the two apart.
-use Rattle.std.specs.Prelude.{ℕ, true, List, [], ◌∷◌, ◌++◌, eqb, get_or}
-use Rattle.lists.specs.Choice.{if◌then◌else◌}
+use Rattle.std.specs.Prelude.{ℕ, true, List, [], ◌∷◌, ◌++◌, eqb, get_or, if◌then◌else◌}
 use Rattle.lists.specs.Lists.{foldl, up_to, values, larger}
 use Rattle.numbers.specs.Numbers.{task}
 use Rattle.calls.specs.Named.{task_of, object_of}

@@ -1,6 +1,5 @@
 -- Mistakes with recursive mutexes: each is the step with one mistake made, or two where one alone does not show, with a few calls that tell the two apart.
-use Rattle.std.specs.Prelude.{ℕ, ◌+◌, ◌-◌, Bool, false, not, ◌&&◌, List, [], ◌∷◌, ◌++◌, eqb, ltb, take, drop}
-use Rattle.lists.specs.Choice.{if◌then◌else◌}
+use Rattle.std.specs.Prelude.{ℕ, ◌+◌, ◌-◌, Bool, false, not, ◌&&◌, List, [], ◌∷◌, ◌++◌, eqb, ltb, take, drop, if◌then◌else◌}
 use Rattle.calls.specs.Named.{object_of}
 use Rattle.calls.specs.Said.{done, waiting, refused}
 use Rattle.slots.specs.Kinds.{count_of, count_in, counting, sort_of, kind_at, held_by, recursive_by, is_held, holder_of}

@@ -1,6 +1,5 @@
 -- "What is turned away": the table, a row for each number, in its order. "Of the numbers that apply, the one that stands first in this table is given, and none otherwise."
-use Rattle.std.specs.Prelude.{ℕ, ◌*◌, Bool, false, not, ◌&&◌, ◌||◌, List, [], ◌∷◌, eqb, ltb, leb}
-use Rattle.lists.specs.Choice.{if◌then◌else◌}
+use Rattle.std.specs.Prelude.{ℕ, ◌*◌, Bool, false, not, ◌&&◌, ◌||◌, List, [], ◌∷◌, eqb, ltb, leb, if◌then◌else◌}
 use Rattle.numbers.specs.declared.TaskSlot.{TaskSlot}
 use Rattle.numbers.specs.Numbers.{same_task, is_idle}
 use Rattle.slots.specs.Places.{is_free, is_suspended}

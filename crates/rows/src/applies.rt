@@ -1,9 +1,8 @@
 // The table: a method for each row, and the first row that applies. A row that speaks of one call looks at the call's number first.
-ghost use Rattle.std.specs.Prelude.{◌≡◌};
+ghost use Rattle.std.specs.Prelude.{◌≡◌, if◌then◌else◌};
 ghost use Rattle.rows.specs.Applies.{not_so_many, no_such_bits, out_of_range, names_none, size_differs, wrong_size, not_for_idle, not_with_hold, not_his};
 ghost use Rattle.rows.specs.Applies.{his_already, count_full, not_suspended, is_full, is_empty, is_unmet, stops_at, must_wait, no_depth, no_tick};
 ghost use Rattle.rows.specs.Applies.{first_row, table};
-ghost use Rattle.lists.specs.Choice.{if◌then◌else◌};
 
 use crate::{Seen, asking};
 use calls::{Asked, Names};
@@ -31,6 +30,7 @@ fn no_such_bits(a: Asked) -> bool
     lists::either(16777215 < a.bits, flags)
 }
 
+#[tactic(auto, unfolding(crate::specs::Applies::out_of_range))]
 fn out_of_range(a: Asked) -> bool
     ensures { result ≡ out_of_range a }
 {
@@ -140,6 +140,7 @@ fn row_or(n: u32, applies: bool, rest: u32) -> u32
 }
 
 impl Seen {
+    #[tactic(auto, unfolding(crate::specs::Applies::names_none))]
     fn names_none(self, a: Asked) -> bool
         ensures { result ≡ names_none self a }
     {
@@ -156,6 +157,7 @@ impl Seen {
         }
     }
 
+    #[tactic(auto, unfolding(crate::specs::Applies::wrong_size))]
     fn wrong_size(self, a: Asked, n: usize) -> bool
         ensures { result ≡ wrong_size self a n }
     {
@@ -166,6 +168,7 @@ impl Seen {
         false
     }
 
+    #[tactic(auto, unfolding(crate::specs::Applies::not_for_idle))]
     fn not_for_idle(self, a: Asked) -> bool
         ensures { result ≡ not_for_idle self a }
     {
@@ -181,6 +184,7 @@ impl Seen {
         lists::both(asking::blocks(a), u.is_idle())
     }
 
+    #[tactic(auto, unfolding(crate::specs::Applies::not_with_hold))]
     fn not_with_hold(self, a: Asked) -> bool
         ensures { result ≡ not_with_hold self a }
     {
@@ -195,6 +199,7 @@ impl Seen {
         lists::either(a.number == 6, blocked)
     }
 
+    #[tactic(auto, unfolding(crate::specs::Applies::not_his))]
     fn not_his(self, a: Asked) -> bool
         ensures { result ≡ not_his self a }
     {
@@ -206,6 +211,7 @@ impl Seen {
         false
     }
 
+    #[tactic(auto, unfolding(crate::specs::Applies::his_already))]
     fn his_already(self, a: Asked) -> bool
         ensures { result ≡ his_already self a }
     {
@@ -220,6 +226,7 @@ impl Seen {
         false
     }
 
+    #[tactic(auto, unfolding(crate::specs::Applies::count_full))]
     fn count_full(self, a: Asked) -> bool
         ensures { result ≡ count_full self a }
     {
@@ -230,6 +237,7 @@ impl Seen {
         false
     }
 
+    #[tactic(auto, unfolding(crate::specs::Applies::not_suspended))]
     fn not_suspended(self, a: Asked) -> bool
         ensures { result ≡ not_suspended self a }
     {
@@ -241,6 +249,7 @@ impl Seen {
         false
     }
 
+    #[tactic(auto, unfolding(crate::specs::Applies::must_wait))]
     fn must_wait(self, a: Asked) -> bool
         ensures { result ≡ must_wait self a }
     {
@@ -251,6 +260,7 @@ impl Seen {
         stops_at(a, self.running, x)
     }
 
+    #[tactic(auto, unfolding(crate::specs::Applies::no_depth))]
     fn no_depth(self, a: Asked) -> bool
         ensures { result ≡ no_depth self a }
     {
@@ -264,6 +274,7 @@ impl Seen {
         false
     }
 
+    #[tactic(auto, unfolding(crate::specs::Applies::no_tick))]
     fn no_tick(self, a: Asked) -> bool
         ensures { result ≡ no_tick self a }
     {
@@ -275,6 +286,7 @@ impl Seen {
 
     // The number of the first row that applies, of rows 2 to 18; 0 where none does. They are asked from the last to the first. No row is passed over: which one applies cannot be
     // foretold, and most calls pass them all.
+    #[tactic(auto, unfolding(crate::specs::Applies::table, crate::specs::Applies::none_free))]
     pub fn row(self, a: Asked, item: usize, store: usize) -> u32
         ensures { result ≡ first_row (table self a item store) }
     {

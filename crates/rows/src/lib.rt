@@ -1,4 +1,6 @@
 // What is turned away: the table, a row for each number, over what a row looks at.
+#![tactic(auto)]
+
 mod applies;
 mod asking;
 
@@ -8,7 +10,7 @@ use slots::{Kind, Place};
 
 // What the rows look at: the task and the object that the call names; the slot that a create or make takes, 0 for any other call; whether what is to be deleted
 // or removed is in use, and whether a take closes a circle; the caller, the hold and the pended ticks.
-#[derive(Drop)]
+#[derive(Clone, Copy)]
 pub struct Seen {
     pub place: Place,
     pub kind: Kind,

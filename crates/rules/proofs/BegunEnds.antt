@@ -12,7 +12,7 @@ use lib.Dec.{eqb, ltb}
 use lib.ListN.{set}
 use lib.Bits.{bit_or}
 use borrow.Author.Tests.{eqb-true, eqb-false}
-use Rattle.lists.specs.Choice.{if◌then◌else◌}
+use Rattle.std.proofs.Common.{if◌then◌else◌}
 use Rattle.numbers.specs.Numbers.{task}
 use Rattle.calls.specs.Table.{called}
 use Rattle.calls.specs.Door.{task_slot, obj_slot}

@@ -8,7 +8,7 @@ use lib.Bits.{bit_or}
 use lib.Dec.{eqb, ltb}
 use lib.ListN.{length, set}
 use borrow.Author.Tests.{eqb-true, eqb-false, eq-eqb, ne_eqb, ltb-true, ltb-false}
-use Rattle.lists.specs.Choice.{if◌then◌else◌}
+use Rattle.std.proofs.Common.{if◌then◌else◌}
 use Rattle.lists.specs.Lists.{up_to, is_none, kept}
 use Rattle.lists.proofs.Bools.{on, not_off, or_off, or_right, untrue}
 use Rattle.numbers.specs.Numbers.{task, object}

@@ -7,7 +7,7 @@ use native.Mathlib.Omega.{arith}
 use lib.Dec.{eqb, ltb, leb}
 use lib.ListN.{length}
 use borrow.Author.Tests.{eqb-false, eq-eqb, ltb-true, ltb-false, leb-false}
-use Rattle.lists.specs.Choice.{if◌then◌else◌}
+use Rattle.std.proofs.Common.{if◌then◌else◌}
 use Rattle.lists.specs.Lists.{is_none}
 use Rattle.lists.proofs.Bools.{on, or_off}
 use Rattle.numbers.specs.Numbers.{object, idle}

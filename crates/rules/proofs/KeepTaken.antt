@@ -9,7 +9,7 @@ use lib.ListN.{length, set}
 use lib.Seq.{set_out}
 use lib.Bits.{bit_or}
 use borrow.Author.Tests.{eqb-true, eqb-false, ltb-true, ltb-false}
-use Rattle.lists.specs.Choice.{if◌then◌else◌}
+use Rattle.std.proofs.Common.{if◌then◌else◌}
 use Rattle.lists.specs.Lists.{foldl, up_to}
 use Rattle.numbers.specs.Numbers.{same_task, same_object}
 use Rattle.calls.specs.Door.{task_slot, obj_slot}

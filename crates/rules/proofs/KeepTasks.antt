@@ -6,7 +6,7 @@ use native.Mathlib.Omega.{arith}
 use lib.ListN.{length}
 use lib.Dec.{eqb, leb}
 use borrow.Author.Tests.{ne_eqb, leb-false, eqb-true, eqb-false, eq-eqb, lt-ltb, le-leb}
-use Rattle.lists.specs.Choice.{if◌then◌else◌}
+use Rattle.std.proofs.Common.{if◌then◌else◌}
 use Rattle.lists.proofs.Bools.{and_intro, on, not_off, or_off}
 use Rattle.numbers.specs.Numbers.{task, idle, is_idle}
 use Rattle.calls.specs.Behind.{nothing, on_task}

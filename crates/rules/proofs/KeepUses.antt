@@ -9,7 +9,7 @@ use lib.ListN.{length, length-set}
 use lib.Seq.{get_or-set_same, get_or-set_other, set_out}
 use borrow.Author.Tests.{eqb-true, eqb-false, ltb-true, ltb-false}
 use lib.Dec.{ltb}
-use Rattle.lists.specs.Choice.{if◌then◌else◌}
+use Rattle.std.proofs.Common.{if◌then◌else◌}
 use Rattle.calls.specs.Door.{use_in, next_use, given_up}
 use Rattle.rules.specs.Types.{Uses, Asked, State}
 use Rattle.rows.specs.Asking.{is}

@@ -9,7 +9,7 @@ use lib.Dec.{ltb}
 use lib.ListN.{length, get_or, set, take, drop}
 use lib.Seq.{drop-cons}
 use borrow.Author.Tests.{eqb-true, ne_eqb, ltb-true, ltb-false, leb-true}
-use Rattle.lists.specs.Choice.{if◌then◌else◌}
+use Rattle.std.proofs.Common.{if◌then◌else◌}
 use Rattle.lists.specs.Lists.{foldl, up_to, kept, head}
 use Rattle.lists.proofs.Bools.{and_left, and_right, and_off}
 use Rattle.lists.proofs.Tests.{kept-head}

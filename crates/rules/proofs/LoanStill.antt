@@ -8,7 +8,7 @@ use lib.Dec.{eqb, ltb}
 use lib.ListN.{get_or, set, length, length-set}
 use lib.Bits.{bit_or}
 use borrow.Author.Tests.{eqb-true, eqb-false}
-use Rattle.lists.specs.Choice.{if◌then◌else◌}
+use Rattle.std.proofs.Common.{if◌then◌else◌}
 use Rattle.numbers.specs.Numbers.{task, object, same_object}
 use Rattle.slots.specs.Places.{waits_on, is_waiting, is_suspended, is_free, wakes_at, outcome_due}
 use Rattle.slots.specs.Kinds.{kind_at, is_taken, hands, by_whom, holder_of, is_held}

@@ -5,7 +5,7 @@ use mathlib.Core.Bool.{Bool, true, false, false≢true}
 use mathlib.Core.List.{List, [], ◌∷◌}
 use lib.Dec.{ltb}
 use borrow.Author.Tests.{eqb-true, eqb-false, ltb-true, ltb-false}
-use Rattle.lists.specs.Choice.{if◌then◌else◌}
+use Rattle.std.proofs.Common.{if◌then◌else◌}
 use Rattle.numbers.specs.Numbers.{same_task}
 use Rattle.order.proofs.Passing.{one_number}
 use Rattle.slots.specs.Kinds.{count_of, counting, is_mutex, is_by, is_taken, kind_at}

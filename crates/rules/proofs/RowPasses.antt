@@ -7,7 +7,7 @@ use native.Mathlib.Omega.{arith}
 use lib.Dec.{eqb, ltb, leb}
 use lib.ListN.{take, drop}
 use borrow.Author.Tests.{eqb-true, eqb-false, ltb-false, lt-ltb, not-false}
-use Rattle.lists.specs.Choice.{if◌then◌else◌}
+use Rattle.std.proofs.Common.{if◌then◌else◌}
 use Rattle.lists.specs.Lists.{every}
 use Rattle.lists.proofs.Bools.{and_left, and_right, or_off, off, at}
 use Rattle.rules.specs.Types.{TaskSlot, Ring, Holder, Sort, Ordinary, Recursive, Kind, Queue, Mutex, Asked, State}

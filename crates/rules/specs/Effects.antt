@@ -1,6 +1,5 @@
 -- "No. | Call | Effect": what each accepted call does to the kernel, before the effective priorities are worked out and before choose.
-use Rattle.std.specs.Prelude.{ℕ, ◌+◌, ◌-◌, Bool, List, [], ◌∷◌, eqb, ltb}
-use Rattle.lists.specs.Choice.{if◌then◌else◌}
+use Rattle.std.specs.Prelude.{ℕ, ◌+◌, ◌-◌, Bool, List, [], ◌∷◌, eqb, ltb, if◌then◌else◌}
 use Rattle.numbers.specs.Numbers.{task, object, same_task}
 use Rattle.slots.specs.Places.{is_listed}
 use Rattle.slots.specs.Values.{free_task, spent_task, ready_at, broken_off, task_at}

@@ -1,7 +1,6 @@
 -- Event groups: "24 bits, at first 0"; set, clear and wait, what they do to the kernel, and what to the lent store.
-use Rattle.std.specs.Prelude.{ℕ, zero, suc, List, [], ◌∷◌, eqb}
+use Rattle.std.specs.Prelude.{ℕ, zero, suc, List, [], ◌∷◌, eqb, if◌then◌else◌}
 use Rattle.std.specs.Int.Bits.{bit_or}
-use Rattle.lists.specs.Choice.{if◌then◌else◌}
 use Rattle.lists.specs.Lists.{foldl}
 use Rattle.lists.specs.FourBytes.{four_bytes}
 use Rattle.numbers.specs.Numbers.{object}

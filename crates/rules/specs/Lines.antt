@@ -1,6 +1,5 @@
 -- Lines and lists of waiters: the one order, passed through a test. Who stands first, and who runs.
-use Rattle.std.specs.Prelude.{ℕ, ◌≡◌, Bool, ◌||◌, List, [], ◌∷◌, ◌++◌, eqb}
-use Rattle.lists.specs.Choice.{if◌then◌else◌}
+use Rattle.std.specs.Prelude.{ℕ, ◌≡◌, Bool, ◌||◌, List, [], ◌∷◌, ◌++◌, eqb, if◌then◌else◌}
 use Rattle.lists.specs.Lists.{larger, kept, head}
 use Rattle.numbers.specs.Numbers.{same_task}
 use Rattle.order.specs.Order.{listed, ordered, without}

@@ -1,6 +1,5 @@
 -- How a priority comes about: given to the task, and lent along the chain of those who wait.
-use Rattle.std.specs.Prelude.{ℕ, ◌<◌, ◌≡◌, Bool, List, eqb, get_or}
-use Rattle.lists.specs.Choice.{if◌then◌else◌}
+use Rattle.std.specs.Prelude.{ℕ, ◌<◌, ◌≡◌, Bool, List, eqb, get_or, if◌then◌else◌}
 use Rattle.lists.specs.Lists.{up_to}
 use Rattle.numbers.specs.Numbers.{task, same_task}
 use Rattle.chains.specs.Lent.{levels}

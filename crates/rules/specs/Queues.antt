@@ -1,6 +1,5 @@
 -- Send and receive: what they do to the kernel, and what to the lent store.
-use Rattle.std.specs.Prelude.{ℕ, List, [], ◌∷◌, eqb}
-use Rattle.lists.specs.Choice.{if◌then◌else◌}
+use Rattle.std.specs.Prelude.{ℕ, List, [], ◌∷◌, eqb, if◌then◌else◌}
 use Rattle.items.specs.Bytes.{bytes_at, put_at}
 use Rattle.rules.specs.Types.{TaskSlot, ObjSlot, OwnTurn, Ready, Ring, Kind, Unused, SpentObject, Queue, Mutex, Group, waiters_of, Outlet, to_waiter, to_queue, to_caller, State}
 use Rattle.rules.specs.Tables.{with_object}

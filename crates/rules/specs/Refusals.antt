@@ -1,6 +1,5 @@
 -- "What is turned away": what the rows of the table look at in a state, and the number of the first that applies.
-use Rattle.std.specs.Prelude.{ℕ, Bool, not, ◌&&◌, ◌||◌}
-use Rattle.lists.specs.Choice.{if◌then◌else◌}
+use Rattle.std.specs.Prelude.{ℕ, Bool, not, ◌&&◌, ◌||◌, if◌then◌else◌}
 use Rattle.lists.specs.Lists.{is_none}
 use Rattle.order.specs.Order.{listed}
 use Rattle.slots.specs.Kinds.{is_held, kind_at}

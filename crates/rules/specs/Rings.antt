@@ -1,6 +1,5 @@
 -- A queue's numbers, when an item comes or goes.
-use Rattle.std.specs.Prelude.{◌+◌, ◌-◌, ◌%◌, ltb}
-use Rattle.lists.specs.Choice.{if◌then◌else◌}
+use Rattle.std.specs.Prelude.{◌+◌, ◌-◌, ◌%◌, ltb, if◌then◌else◌}
 use Rattle.rules.specs.Types.{Ring, Outlet, to_queue, to_caller}
 
 -- an item "is appended"; the oldest is taken and "first moves on one place"

@@ -1,6 +1,5 @@
 -- "A kernel value is sound when", as propositions, in the seven parts of Sound.antt: for each task, each object, each line and each list what the sentence says.
-use Rattle.std.specs.Prelude.{ℕ, ◌*◌, ◌<◌, ◌≤◌, ◌≡◌, Bool, true, false, List, [], ◌∷◌, length, get_or}
-use Rattle.lists.specs.Choice.{if◌then◌else◌}
+use Rattle.std.specs.Prelude.{ℕ, ◌*◌, ◌<◌, ◌≤◌, ◌≡◌, Bool, true, false, List, [], ◌∷◌, length, get_or, if◌then◌else◌}
 use Rattle.lists.specs.Lists.{head}
 use Rattle.numbers.specs.Numbers.{idle}
 use Rattle.calls.specs.Door.{use_in, fresh_uses}

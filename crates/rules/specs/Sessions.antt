@@ -1,6 +1,5 @@
 -- A session: bytes come in blocks, cut anywhere; each line that ends among them is answered with one line.
-use Rattle.std.specs.Prelude.{ℕ, ◌+◌, Bool, ◌&&◌, List, [], ◌∷◌, ◌++◌, eqb, ltb, length, take}
-use Rattle.lists.specs.Choice.{if◌then◌else◌}
+use Rattle.std.specs.Prelude.{ℕ, ◌+◌, Bool, ◌&&◌, List, [], ◌∷◌, ◌++◌, eqb, ltb, length, take, if◌then◌else◌}
 use Rattle.calls.specs.Door.{task_no}
 use Rattle.cuts.specs.Keeping.{with_byte, ended, is_blank}
 use Rattle.journal.specs.declared.Read.{Read}

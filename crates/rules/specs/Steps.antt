@@ -1,6 +1,5 @@
 -- A step: a state, a call, the item lent with it and the lent store give the next state, the answer and the store afterwards.
-use Rattle.std.specs.Prelude.{ℕ, Bool, ◌||◌, List, eqb, length}
-use Rattle.lists.specs.Choice.{if◌then◌else◌}
+use Rattle.std.specs.Prelude.{ℕ, Bool, ◌||◌, List, eqb, length, if◌then◌else◌}
 use Rattle.numbers.specs.Numbers.{task, object}
 use Rattle.calls.specs.Door.{task_no, obj_no, without_task, without_object}
 use Rattle.calls.specs.Behind.{asked}

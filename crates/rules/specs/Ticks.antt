@@ -1,6 +1,5 @@
 -- The tick: count and wakes, the turn of the line; the release that runs pended ticks, and the advance by several.
-use Rattle.std.specs.Prelude.{ℕ, ◌+◌, ◌-◌, min, ◌≡◌, Bool, true, false, List, [], ◌∷◌, ◌++◌, eqb, ltb}
-use Rattle.lists.specs.Choice.{if◌then◌else◌}
+use Rattle.std.specs.Prelude.{ℕ, ◌+◌, ◌-◌, min, ◌≡◌, Bool, true, false, List, [], ◌∷◌, ◌++◌, eqb, ltb, if◌then◌else◌}
 use Rattle.lists.specs.Lists.{foldl, up_to}
 use Rattle.order.specs.Order.{listed}
 use Rattle.slots.specs.Places.{wakes_at, outcome_due, away}

@@ -1,6 +1,5 @@
 -- Waits: how a task is made ready, and how the caller begins to wait.
-use Rattle.std.specs.Prelude.{ℕ, ◌+◌, ◌%◌, ◌^◌, leb}
-use Rattle.lists.specs.Choice.{if◌then◌else◌}
+use Rattle.std.specs.Prelude.{ℕ, ◌+◌, ◌%◌, ◌^◌, leb, if◌then◌else◌}
 use Rattle.slots.specs.Values.{placed, task_at}
 use Rattle.slots.specs.Wants.{wait_on}
 use Rattle.rules.specs.Types.{TaskSlot, ObjSlot, Want, Wake, Never, At, Place, Waiting, State}

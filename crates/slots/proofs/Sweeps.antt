@@ -1,7 +1,6 @@
 -- Loops over columns: sixteen numbers taken in turn, and the list of rows that they stand for.
-use Rattle.std.proofs.Common.{◌≡◌, ℕ, zero, suc, ◌+◌, ◌<◌, ◌≤◌, Bool, true, false, ◌||◌, eqb, List, [], ◌∷◌, map, length, get_or, drop, set, sym, refl, ap, ◌∙◌, arith, length-set, drop_of_length-le, drop-cons, get_or-set_other, get_or-set_same, ext_get_or, eqb-true}
+use Rattle.std.proofs.Common.{◌≡◌, ℕ, zero, suc, ◌+◌, ◌<◌, ◌≤◌, Bool, true, false, ◌||◌, eqb, List, [], ◌∷◌, map, length, get_or, drop, set, sym, refl, ap, ◌∙◌, arith, length-set, drop_of_length-le, drop-cons, get_or-set_other, get_or-set_same, ext_get_or, eqb-true, if◌then◌else◌}
 use borrow.Author.Tests.{eqb-false}
-use Rattle.lists.specs.Choice.{if◌then◌else◌}
 use Rattle.lists.specs.Lists.{foldl, index, any, up_to, values}
 use Rattle.lists.proofs.Loops.{values_many, value_at}
 

@@ -7,7 +7,7 @@ use native.Mathlib.Omega.{arith}
 use lib.Dec.{eqb, ltb}
 use lib.ListN.{length, get_or, set, length-map, get_or-map, get_or-eq_default}
 use borrow.Author.Tests.{ltb-true, ltb-false}
-use Rattle.lists.specs.Choice.{if◌then◌else◌}
+use Rattle.std.proofs.Common.{if◌then◌else◌}
 use Rattle.lists.specs.Lists.{foldl, any, kept, index, up_to, values, all_below}
 use Rattle.lists.proofs.Bools.{all_below_lem}
 use Rattle.numbers.specs.declared.TaskSlot.{TaskSlot}

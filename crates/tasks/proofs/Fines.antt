@@ -7,7 +7,7 @@ use native.Mathlib.Omega.{arith}
 use lib.Dec.{eqb, ltb, leb}
 use lib.ListN.{get_or}
 use borrow.Author.Tests.{ne_eqb, eqb-true, eqb-false, lt-ltb, le-ltb}
-use Rattle.lists.specs.Choice.{if◌then◌else◌}
+use Rattle.std.proofs.Common.{if◌then◌else◌}
 use Rattle.lists.specs.Lists.{all_below, up_to}
 use Rattle.lists.proofs.Bools.{and_left, and_right, and_intro, and_on, and_off, all_below_lem, below_all, all_same}
 use Rattle.lists.proofs.Tests.{by_six}

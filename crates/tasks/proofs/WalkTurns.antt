@@ -8,7 +8,7 @@ use lib.Dec.{eqb}
 use lib.ListN.{length, get_or, set, get_or-eq_default}
 use lib.Seq.{set-get_or}
 use borrow.Author.Tests.{eqb-true, eqb-false, eq-eqb, ne_eqb, lt-ltb}
-use Rattle.lists.specs.Choice.{if◌then◌else◌}
+use Rattle.std.proofs.Common.{if◌then◌else◌}
 use Rattle.lists.specs.Lists.{foldl, up_to, kept, index}
 use Rattle.lists.proofs.Bools.{and_off}
 use Rattle.lists.proofs.Loops.{Upto, ended}

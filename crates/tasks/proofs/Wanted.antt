@@ -8,7 +8,7 @@ use lib.Dec.{eqb, leb}
 use lib.ListN.{length, get_or, set, length-map, get_or-map, get_or-eq_default}
 use lib.Seq.{set_out, ext_get_or}
 use borrow.Author.Tests.{eqb-true, leb-true}
-use Rattle.lists.specs.Choice.{if◌then◌else◌}
+use Rattle.std.proofs.Common.{if◌then◌else◌}
 use Rattle.lists.specs.Lists.{up_to}
 use Rattle.lists.proofs.Tests.{by_six}
 use Rattle.slots.proofs.Sweeps.{map-set, none_counted}

@@ -1,6 +1,5 @@
 -- The effective priorities: what they are by the chains of waits, and what becomes of the tasks and their order where they change.
-use Rattle.std.specs.Prelude.{ℕ, ◌≡◌, Bool, ◌&&◌, List, ◌∷◌, eqb, ltb, length, get_or}
-use Rattle.lists.specs.Choice.{if◌then◌else◌}
+use Rattle.std.specs.Prelude.{ℕ, ◌≡◌, Bool, ◌&&◌, List, ◌∷◌, eqb, ltb, length, get_or, if◌then◌else◌}
 use Rattle.lists.specs.Lists.{all_below, up_to, values}
 use Rattle.chains.specs.Chains.{within, ends, largest_own}
 use Rattle.chains.specs.declared.AllLent.{AllLent}

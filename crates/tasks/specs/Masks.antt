@@ -1,6 +1,5 @@
 -- What each row wants, as two columns of numbers; and back.
-use Rattle.std.specs.Prelude.{ℕ, Bool, true, false, not, ◌||◌, List, map, eqb, leb, get_or, set}
-use Rattle.lists.specs.Choice.{if◌then◌else◌}
+use Rattle.std.specs.Prelude.{ℕ, Bool, true, false, not, ◌||◌, List, map, eqb, leb, get_or, set, if◌then◌else◌}
 use Rattle.slots.specs.declared.Want.{Want}
 use Rattle.slots.specs.declared.Want.TheVariants.{OwnTurn, Bits}
 use Rattle.tasks.specs.declared.Wants.{Wants}

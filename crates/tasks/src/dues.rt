@@ -1,8 +1,7 @@
 // The wake ticks: how long until the next, and who is due.
-ghost use Rattle.std.specs.Prelude.{◌≡◌, not, eqb};
+ghost use Rattle.std.specs.Prelude.{◌≡◌, not, eqb, if◌then◌else◌};
 ghost use Rattle.lists.specs.Lists.{all_below};
 ghost use Rattle.tasks.specs.Columns.{row_at};
-ghost use Rattle.lists.specs.Choice.{if◌then◌else◌};
 ghost use Rattle.order.specs.Order.{listed};
 ghost use Rattle.slots.specs.Places.{ahead};
 ghost use Rattle.tasks.specs.Dues.{timed, until_in, wake_now, wait_ends, wakes_in, woken};

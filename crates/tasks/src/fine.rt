@@ -32,6 +32,7 @@ fn turns(s: u8, f: u8) -> bool
     lists::both(waits(s), f == 0)
 }
 
+#[tactic(auto, unfolding(crate::specs::Fine::row_fine))]
 fn row_fine(
     s: u8,
     o: u8,
@@ -67,6 +68,7 @@ fn row_fine(
 }
 
 // A wake tick that is used is not the count, and one that is not used is 0.
+#[tactic(auto, unfolding(crate::specs::Fine::wake_fine))]
 fn wake_fine(s: u8, w: u32, tick: u32) -> bool
     ensures { result ≡ wake_fine s w tick }
 {
@@ -142,6 +144,7 @@ impl Tasks {
     }
 
     // How many wait on an object.
+    #[tactic(auto, unfolding(crate::specs::Fine::waiting_in))]
     pub(crate) fn waiting(self) -> u8
         ensures { result ≡ waiting_in self }
     {
@@ -191,6 +194,7 @@ impl Tasks {
     }
 
     // How many want bits of an event group.
+    #[tactic(auto, unfolding(crate::specs::Fine::wanting_in))]
     pub fn wanting(self) -> u8
         ensures { result ≡ wanting_in self }
     {

@@ -1,5 +1,7 @@
 // The table of tasks: columns of plain numbers, which no other crate sees. A row goes in and comes out as a Task, in the words of the rules.
 // A function takes the columns that it reads out of the table before it looks into them: a table that is looked into by a number is copied whole.
+#![tactic(auto)]
+
 ghost use Rattle.std.specs.Prelude.{◌<◌, ◌≡◌, replicate, ◌∷◌};
 ghost use Rattle.slots.specs.Values.{free_task, ready_at};
 ghost use Rattle.tasks.specs.Columns.{tasks_of, row_at, put, placed_at, owned_at};
@@ -15,7 +17,7 @@ mod masks;
 mod numbering;
 mod walks;
 
-#[derive(Drop)]
+#[derive(Clone, Copy)]
 pub struct Tasks {
     state: [u8; 16],
     object: [u8; 16],
@@ -27,21 +29,21 @@ pub struct Tasks {
 }
 
 // What each row wants: bits of a mask, where the flags are not 0.
-#[derive(Drop)]
+#[derive(Clone, Copy)]
 pub struct Wants {
     mask: [u32; 16],
     flags: [u8; 16],
 }
 
 // What the wakes of a tick leave, and what is left where effective priorities are worked out.
-#[derive(Drop)]
+#[derive(Clone, Copy)]
 pub struct Woken {
     pub tasks: Tasks,
     pub order: Order,
 }
 
 // What the columns say of one place. A number that a state does not use is 0.
-#[derive(Drop)]
+#[derive(Clone, Copy)]
 struct Cells {
     state: u8,
     object: u8,
@@ -51,6 +53,7 @@ struct Cells {
 
 impl Tasks {
     // Idle alone.
+    #[tactic(auto, unfolding(crate::specs::Columns::tasks_of))]
     pub fn fresh() -> Tasks
         ensures { result ≡ tasks_of (ready_at 0 ∷ replicate 15 free_task) }
     {
@@ -68,6 +71,7 @@ impl Tasks {
         }
     }
 
+    #[tactic(auto, unfolding(crate::specs::Columns::row_at))]
     fn row(self, i: usize) -> Task
         requires { i < 16 }
         ensures { result ≡ row_at self i }
@@ -101,6 +105,7 @@ impl Tasks {
         if i < 16 { self.row(i) } else { Task::free() }
     }
 
+    #[tactic(auto, unfolding(crate::specs::Columns::put))]
     fn set_at(self, i: usize, x: Task) -> Tasks
         requires { i < 16 }
         ensures { result ≡ put self i x }
@@ -143,6 +148,7 @@ impl Tasks {
         self
     }
 
+    #[tactic(auto, unfolding(crate::specs::Columns::placed_at))]
     fn placed_at(self, i: usize, p: Place, n: u8) -> Tasks
         requires { i < 16 }
         ensures { result ≡ placed_at self i p n }
@@ -183,6 +189,7 @@ impl Tasks {
     }
 
     // The row of `t` with another own priority.
+    #[tactic(auto, unfolding(crate::specs::Columns::owned_at))]
     pub fn owned(self, t: TaskSlot, own: u8) -> Tasks
         ensures { result ≡ owned_at self t.0 own }
     {

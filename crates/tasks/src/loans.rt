@@ -1,6 +1,5 @@
 // The effective priorities, worked out by the chains of waits.
-ghost use Rattle.std.specs.Prelude.{◌*◌, min, ◌≡◌, ◌&&◌, eqb, get_or};
-ghost use Rattle.lists.specs.Choice.{if◌then◌else◌};
+ghost use Rattle.std.specs.Prelude.{◌*◌, min, ◌≡◌, ◌&&◌, eqb, get_or, if◌then◌else◌};
 ghost use Rattle.lists.specs.Lists.{all_below, up_to};
 ghost use Rattle.numbers.specs.Numbers.{same_task};
 ghost use Rattle.tasks.specs.Columns.{row_at};
@@ -62,6 +61,7 @@ impl Tasks {
         chains::levels(own, self.ontos(n), by, n)
     }
 
+    #[tactic(auto, unfolding(crate::specs::Columns::row_at))]
     fn at_levels(self, levels: [u8; 16]) -> bool
         ensures { result ≡ all_below 16 (λ n. eqb (row_at self n).effective (get_or levels n 0)) }
     {
@@ -138,6 +138,7 @@ impl Tasks {
     }
 
     // Every task at its level. Where each is at it already there is nothing to walk.
+    #[tactic(auto, unfolding(crate::specs::Loans::worked_in))]
     pub fn worked_out(self, o: Order, by: [u8; 16], r: TaskSlot) -> Woken
         ensures { Worked self o by r result }
     {

@@ -45,6 +45,7 @@ fn want(mask: u32, flags: u8) -> Want
 }
 
 impl Wants {
+    #[tactic(auto, unfolding(crate::specs::Masks::wants_of))]
     pub(crate) fn none() -> Wants
         ensures { result ≡ wants_of (replicate 16 OwnTurn) }
     {
@@ -54,6 +55,7 @@ impl Wants {
         }
     }
 
+    #[tactic(auto, unfolding(crate::specs::Masks::want_at))]
     pub(crate) fn get(self, i: usize) -> Want
         ensures { result ≡ want_at self i }
     {
@@ -67,6 +69,7 @@ impl Wants {
     }
 
     // What is stored past the table is lost.
+    #[tactic(auto, unfolding(crate::specs::Masks::want_put))]
     pub(crate) fn set(self, i: usize, w: Want) -> Wants
         ensures { result ≡ want_put self i w }
     {

@@ -1,0 +1,8 @@
+use Rattle.kernel.proofs.LevelWorks.{worked_core}
+use Rattle.kernel.proofs.Core.worked_out.Goals as goal
+
+pub returns : goal.returns
+returns c =
+    let worked = c.worked_out-worked in
+    let holders = c.holders-by in
+    λ s h. worked_core _ s h worked.ensures.many _ holders.ensures worked.result worked.ensures.said

@@ -1,0 +1,12 @@
+use Prim.Native.Nat.{◌+◌, ◌-◌, ◌≤◌}
+use Rattle.lists.proofs.Loops.{Upto}
+use Rattle.std.proofs.Common.{if◌then◌else◌}
+use lib.Dec.{eqb}
+use lib.ListN.{get_or}
+use Rattle.tasks.proofs.Tasks.wanting.Given as goal
+
+abbrev pub invariant-loop-i : goal.invariant-loop-i
+invariant-loop-i l = Upto (λ m j. m + (if eqb (get_or l.all j 0) 0 then 0 else 1)) 0 l.n l.i × (l.i ≤ 16) × (l.n ≤ l.i)
+
+abbrev pub decreases-loop-i : goal.decreases-loop-i
+decreases-loop-i l = 16 - l.i
