@@ -1,5 +1,5 @@
 -- Whoever waits on an object stands in the order, so a walk over the rows finds the same as its list.
-use Rattle.std.proofs.Common.{◌≡◌, ℕ, ◌+◌, Bool, true, false, not, eqb, List, [], ◌∷◌, get_or, sym, refl, ap, ◌∙◌, subst, arith, eq-eqb, if◌then◌else◌}
+use Rattle.std.proofs.Common.{◌≡◌, ℕ, ◌+◌, Bool, true, false, not, List, [], ◌∷◌, get_or, refl, ap, ◌∙◌, subst, arith, eq-eqb, if◌then◌else◌}
 use Rattle.lists.specs.Lists.{any, is_none}
 use Rattle.lists.proofs.Tests.{any_at, any_none}
 use Rattle.numbers.specs.declared.TaskSlot.{TaskSlot}

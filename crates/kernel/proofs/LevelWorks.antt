@@ -1,5 +1,5 @@
 -- The levels of the columns are the rule's, and working them out is working out those of the state; and values of which each effective priority is the rule's.
-use Rattle.std.proofs.Common.{◌≡◌, ℕ, zero, suc, ◌<◌, Bool, true, false, not, ◌&&◌, eqb, ltb, List, map, length, get_or, set, sym, refl, ap, ◌∙◌, subst, ltb-false, lt-ltb, eqb-true, if◌then◌else◌}
+use Rattle.std.proofs.Common.{◌≡◌, ℕ, zero, suc, ◌<◌, Bool, true, false, not, ◌&&◌, ltb, List, map, length, get_or, set, sym, refl, ap, ◌∙◌, subst, ltb-false, lt-ltb, eqb-true, if◌then◌else◌}
 use Rattle.lists.specs.Lists.{up_to, values, all_below}
 use Rattle.lists.proofs.Loops.{values_same}
 use Rattle.numbers.specs.declared.TaskSlot.{TaskSlot}
@@ -11,7 +11,6 @@ use Rattle.chains.proofs.Says.{says_map}
 use Rattle.chains.proofs.Paths.{within_past}
 use Rattle.chains.proofs.Largest.{largest_same}
 use Rattle.chains.proofs.Lending.{level_is}
-use Rattle.order.specs.declared.Order.{Order}
 use Rattle.slots.specs.declared.Place.{Place}
 use Rattle.slots.specs.declared.Place.TheVariants.{Free, Ready, Delayed, Waiting, Suspended, Spent}
 use Rattle.slots.specs.declared.Task.{Task}
@@ -45,7 +44,7 @@ use Rattle.rules.proofs.KeepBlocks.{same_level, prioritized_tasks}
 use Rattle.rules.proofs.KeepChosen.{sound_reckoned}
 use Rattle.kernel.specs.Types.{Core}
 use Rattle.kernel.specs.Stands.{core_of, shown_core}
-use Rattle.kernel.specs.Does.{Does, Firm, Turning, Reckons}
+use Rattle.kernel.specs.Does.{Does, Firm, Reckons}
 use Rattle.kernel.proofs.Shown.{shown_with_lem}
 use Rattle.kernel.proofs.Stands.{same_tick, same_running}
 

@@ -1,5 +1,5 @@
 -- Four bytes say the number that they come from, and the number says them.
-use Prim.Native.Nat.{ℕ, ◌<◌, ◌≤◌}
+use Prim.Native.Nat.{ℕ, ◌<◌}
 use mathlib.Core.Path.{◌≡◌}
 use native.Mathlib.Omega.{arith}
 use Rattle.lists.specs.FourBytes.{low_byte, second_byte, third_byte, last_byte, of_bytes}

@@ -43,7 +43,7 @@ use Rattle.rules.proofs.KeepTaken.{each_task}
 use Rattle.rules.proofs.Begun.{Fades, Remembers, RoomyIn, Fade, Remember, onward, none_begins, stays, tail_fades, leave_fades, worked_fades, then_fades}
 use Rattle.rules.proofs.Begun.{set_roomy, set_fades, set_at, arrives_fades, arrives_begins}
 use Rattle.rules.specs.Steps.{after}
-use Rattle.rules.specs.Events.{group_made, set_on, cleared_on, awaited_on}
+use Rattle.rules.specs.Events.{group_made, set_on, awaited_on}
 use Rattle.rules.proofs.LoanWorks.{worked_place}
 use Rattle.rules.proofs.EventCases.{by_bits, by_set, by_clear, by_await}
 

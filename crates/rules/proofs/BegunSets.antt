@@ -5,19 +5,18 @@ use mathlib.Core.Bool.{Bool, true, false, ◌&&◌, false≢true}
 use mathlib.Core.List.{List, [], ◌∷◌, ◌++◌}
 use native.Mathlib.Omega.{arith}
 use lib.Dec.{eqb}
-use lib.ListN.{length}
 use borrow.Author.Tests.{eqb-true, eqb-false, eq-eqb}
 use Rattle.lists.specs.Lists.{kept, head}
-use Rattle.lists.proofs.Bools.{and_left, and_right, and_intro, or_right, untrue}
+use Rattle.lists.proofs.Bools.{and_right, and_intro, or_right, untrue}
 use Rattle.lists.proofs.Tests.{kept-kept, kept-head}
 use Rattle.numbers.specs.Numbers.{same_task}
 use Rattle.order.specs.Order.{listed, without}
 use Rattle.order.proofs.Passing.{one_number}
 use Rattle.order.proofs.Fits.{fits_listed, fits_tail}
 use Rattle.slots.specs.Wants.{satisfied_on}
-use Rattle.slots.specs.Values.{placed, task_at}
+use Rattle.slots.specs.Values.{task_at}
 use Rattle.rules.specs.Types.{TaskSlot, ObjSlot, Ready, Task, those_satisfied_on, State}
-use Rattle.rules.specs.Lines.{is_one_of, Ahead, level, highest, those, leader, first, to_tail}
+use Rattle.rules.specs.Lines.{is_one_of, level, highest, those, leader, first, to_tail}
 use Rattle.rules.specs.Waits.{arrives}
 use Rattle.rules.specs.Events.{woken_in, all_woken}
 use Rattle.rules.proofs.TableWithin.{first_meant, first_within}

@@ -14,7 +14,7 @@ use Rattle.chains.specs.Chains.{Along}
 use Rattle.chains.proofs.Paths.{within_along, along_within}
 use Rattle.chains.proofs.Circles.{Straight, from_past, along_low, last_on, straight_ends, straight_if, if_straight, ended_straight, now_as_then, link_straight}
 use Rattle.slots.specs.Values.{task_at}
-use Rattle.rules.specs.Types.{TaskSlot, ObjSlot, Wake, Free, Waiting, Task, Object, Wait}
+use Rattle.rules.specs.Types.{TaskSlot, Wake, Free, Waiting, Task, Object, Wait}
 use Rattle.rules.specs.Loans.{for_whom, waits_for}
 use Rattle.rules.specs.Circles.{leads_to, no_circle}
 use Rattle.rules.specs.Sentences.{Reaches, Circle, back, NoCircle}

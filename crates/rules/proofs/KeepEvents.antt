@@ -1,13 +1,13 @@
 -- Event groups keep soundness: calls 20 to 23. And a set leaves no waiter that its bits satisfy.
 use Prim.Native.Nat.{ℕ, zero, suc, ◌+◌, ◌<◌, ◌≤◌}
 use mathlib.Core.Path.{◌≡◌, refl, sym, ap, ◌∙◌, subst}
-use mathlib.Core.Bool.{Bool, true, false, not, false≢true}
+use mathlib.Core.Bool.{Bool, true, false, false≢true}
 use mathlib.Core.List.{List, [], ◌∷◌}
 use native.Mathlib.Omega.{arith}
 use lib.Bits.{bit_or}
 use lib.Dec.{eqb, ltb}
 use lib.ListN.{length, set}
-use borrow.Author.Tests.{eqb-true, eqb-false, eq-eqb, ne_eqb, ltb-true, ltb-false}
+use borrow.Author.Tests.{eqb-true, eqb-false, eq-eqb, ltb-true, ltb-false}
 use Rattle.std.proofs.Common.{if◌then◌else◌}
 use Rattle.lists.specs.Lists.{up_to, is_none, kept}
 use Rattle.lists.proofs.Bools.{on, not_off, or_off, or_right, untrue}
@@ -20,17 +20,17 @@ use Rattle.order.proofs.CountPassing.{count_kept}
 use Rattle.slots.specs.Places.{is_ready}
 use Rattle.slots.specs.Kinds.{is_unused, is_group, kind_at}
 use Rattle.slots.specs.Wants.{all_bits, holds_of, satisfied, cleared, clears, wait_on, satisfied_on}
-use Rattle.slots.specs.Values.{free_task, placed, task_at}
+use Rattle.slots.specs.Values.{placed, task_at}
 use Rattle.slots.proofs.Masks.{fewer_satisfied, cleared_within, joined_within}
 use Rattle.slots.proofs.Sweeps.{none_counted}
-use Rattle.rules.specs.Types.{TaskSlot, ObjSlot, Want, OwnTurn, Bits, Wait, Wake, Place, Ready, Waiting, Task, Kind, Group, waiters_of, those_satisfied_on, Asked, State}
+use Rattle.rules.specs.Types.{TaskSlot, ObjSlot, Want, Wait, Wake, Ready, Waiting, Task, Kind, Group, those_satisfied_on, Asked, State}
 use Rattle.rules.specs.Tables.{free_object, with_object}
 use Rattle.rules.specs.Lines.{those, first, to_tail}
 use Rattle.rules.specs.Sentences.{MayWait, receiver, sender, taker, awaiter, a_group, Sound}
 use Rattle.rows.specs.Asking.{waits}
 use Rattle.rows.specs.Applies.{out_of_range, names_none, none_free, is_unmet}
 use Rattle.rules.specs.Waits.{arrives, wait_for}
-use Rattle.rules.specs.Events.{group_made, and_on, woken_in, woken_by, all_woken, clears_of, bits_set, set_on, cleared_on, awaited_on, want_by}
+use Rattle.rules.specs.Events.{group_made, and_on, woken_in, woken_by, all_woken, bits_set, want_by}
 use Rattle.rules.specs.Effects.{effect}
 use Rattle.rules.proofs.TableSlots.{past_tasks, passes_blocked}
 use Rattle.rules.proofs.SoundLists.{once_of}
@@ -43,7 +43,7 @@ use Rattle.rules.proofs.KeepNearly.{Open, settled, Nearly, RunsIn}
 use Rattle.rules.proofs.KeepSlot.{at_same, at_other}
 use Rattle.rules.proofs.KeepObject.{object_nearly}
 use Rattle.rules.proofs.KeepChosen.{sound_nearly}
-use Rattle.rules.proofs.KeepBlocks.{to_ready, to_wait, arrives_nearly, arrives_runs, arrives_at, Same, same_trans, arrives_same}
+use Rattle.rules.proofs.KeepBlocks.{to_ready, to_wait, arrives_nearly, arrives_runs, Same, same_trans, arrives_same}
 use Rattle.rules.proofs.Keeps.{Keeps, wait_busy, wait_free, must_wait_lem, some_wait, ready_low, apart}
 use Rattle.rules.proofs.KeepObjects.{none_there, new_object, free_low, free_kind, object_low, wake_ahead}
 

@@ -21,7 +21,6 @@ use Rattle.slots.specs.Values.{task_at}
 use Rattle.rules.specs.Tables.{free_object, with_object}
 use Rattle.rules.specs.Lines.{those, first}
 use Rattle.rules.specs.Sentences.{MayWait, receiver, sender, taker, awaiter, RingFits, KindFits, vacant, a_queue, an_ordinary, free_recursive, Sound}
-use Rattle.rows.specs.Asking.{waits}
 use Rattle.rows.specs.Applies.{out_of_range, names_none, none_free}
 use Rattle.rules.specs.Refusals.{held_or_waited, in_use}
 use Rattle.rules.specs.Waits.{later, wake_of}

@@ -21,7 +21,7 @@ use Rattle.order.proofs.Passing.{one_number}
 use Rattle.slots.specs.Places.{is_free, is_blocked, wakes_at, outcome_due}
 use Rattle.slots.specs.Values.{task_at, placed}
 use Rattle.slots.specs.SoundSlots.{wakes_in_range, not_due}
-use Rattle.rules.specs.Types.{TaskSlot, Place, Free, Ready, Delayed, Waiting, Suspended, Spent, Task, State, ObjSlot, Wake, Wait}
+use Rattle.rules.specs.Types.{TaskSlot, Place, Free, Ready, Delayed, Waiting, Suspended, Spent, Task, State, Wake, Wait}
 use Rattle.rules.specs.Tables.{with_tick, with_hold, with_uses}
 use Rattle.rules.specs.Lines.{begun, level, to_tail}
 use Rattle.rules.specs.Sound.{no_higher}

@@ -12,7 +12,7 @@ use Rattle.chains.specs.Chains.{Along, here, link}
 use Rattle.chains.proofs.Lending.{level_least, level_one, levels_sixteen, levels_same}
 use Rattle.slots.specs.Kinds.{kind_at, hands, by_whom, holder_of}
 use Rattle.slots.specs.Values.{task_at}
-use Rattle.rules.specs.Types.{TaskSlot, ObjSlot, Wake, Place, Free, Ready, Delayed, Waiting, Suspended, Spent, Task, Holder, Nobody, By, Object, Wait}
+use Rattle.rules.specs.Types.{TaskSlot, Wake, Place, Free, Ready, Delayed, Waiting, Suspended, Spent, Task, Holder, Nobody, By, Object, Wait}
 use Rattle.rules.specs.Lines.{level}
 use Rattle.rules.specs.Loans.{for_whom, waits_for, ruled, Reckoned}
 use Rattle.rules.specs.Sentences.{Holds, HoldsNothing, Reaches, itself, along, LargestOwn, Levels}

@@ -8,7 +8,6 @@ use native.Mathlib.Omega.{arith}
 use lib.Dec.{ltb}
 use lib.ListN.{get_or}
 use borrow.Author.Tests.{eq-eqb, ltb-true, ltb-false}
-use Rattle.std.proofs.Common.{if◌then◌else◌}
 use Rattle.lists.specs.Lists.{foldl, up_to}
 use Rattle.lists.proofs.Bools.{off, and_right}
 use Rattle.numbers.specs.Numbers.{task}
@@ -19,7 +18,7 @@ use Rattle.rules.specs.Types.{TaskSlot, Never, At, Place, Free, Ready, Delayed, 
 use Rattle.rules.specs.Tables.{with_uses}
 use Rattle.rules.specs.Sentences.{WakeFits, Unheld}
 use Rattle.rules.specs.Waits.{later}
-use Rattle.rules.specs.Ticks.{wakes, SomeoneWakes, one_tick, until_due, turned_if, ticks, counted_on}
+use Rattle.rules.specs.Ticks.{SomeoneWakes, one_tick, until_due, turned_if, ticks, counted_on}
 use Rattle.rules.specs.Loans.{Reckoned}
 use Rattle.rules.proofs.TickJumps.{turn_only, turnings_only, later_more, least_kept, until_quiet, jump, quiet_tick}
 use Rattle.rules.proofs.KeepTicks.{one_tick_lem, unheld_nearly, ticks_unheld, count_woke}

@@ -1,5 +1,5 @@
 -- Bits that are cleared: whom they do not satisfy, fewer of them do not either.
-use Rattle.std.proofs.Common.{◌≡◌, ℕ, zero, suc, ◌+◌, ◌-◌, ◌*◌, ◌/◌, ◌%◌, ◌^◌, ◌<◌, ◌≤◌, min, Bool, true, false, not, eqb, sym, refl, ap, ◌∙◌, arith, eq-eqb, ne_eqb, eqb-true}
+use Rattle.std.proofs.Common.{◌≡◌, ℕ, zero, suc, ◌+◌, ◌-◌, ◌*◌, ◌/◌, ◌%◌, ◌≤◌, min, Bool, true, false, not, eqb, sym, refl, ap, arith, eq-eqb, ne_eqb, eqb-true}
 use mathlib.Core.Bool.{false≢true}
 use lib.Bits.{bit_and, bit_or, and_step, and_zero_l, and_le_l, and_le_r, or_lt}
 use borrow.Author.Tests.{eqb-false}

@@ -1,5 +1,5 @@
 -- "wait: object, mask, all, clear, wait": what is wanted of an event group, and when its bits satisfy that.
-use Rattle.std.specs.Prelude.{ℕ, ◌-◌, Bool, true, false, not, ◌&&◌, ◌==◌, bit_and, nat_le, if◌then◌else◌}
+use Rattle.std.specs.Prelude.{ℕ, ◌-◌, Bool, false, not, ◌&&◌, ◌==◌, bit_and, nat_le, if◌then◌else◌}
 use Rattle.numbers.specs.declared.ObjSlot.{ObjSlot}
 use Rattle.numbers.specs.Numbers.{same_object}
 use Rattle.slots.specs.Types.{Want, OwnTurn, Bits, Wait, Place}

@@ -1,10 +1,10 @@
 use borrow.Author.Rules.{rules}
 use Prim.Native.Nat.{◌<◌}
 use mathlib.Core.Path.{refl, ap, ◌∙◌}
-use mathlib.Core.Bool.{true, ◌&&◌}
+use mathlib.Core.Bool.{◌&&◌}
 use native.Mathlib.Omega.{arith}
 use lib.ListN.{get_or}
-use Rattle.lists.proofs.Loops.{start, next, ended, all_begin, all_turn}
+use Rattle.lists.proofs.Loops.{start, next, all_begin, all_turn}
 use Rattle.chains.proofs.Steps.{loan_on, loan_none, goes_on_lem, goes_nowhere}
 use Rattle.chains.proofs.levels.Goals as goal
 use Rattle.chains.proofs.levels.Goals.{then-o-lt16, else-o-lt16}

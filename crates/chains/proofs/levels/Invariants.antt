@@ -1,7 +1,7 @@
 use Prim.Native.Nat.{◌-◌, ◌≤◌}
 use mathlib.Core.Bool.{true}
 use lib.ListN.{get_or}
-use Rattle.lists.proofs.Loops.{Upto, ended, Held}
+use Rattle.lists.proofs.Loops.{Upto, Held}
 use Rattle.chains.specs.Chains.{ends}
 use Rattle.chains.specs.Columns.{says, next_by, passed}
 use Rattle.chains.proofs.levels.Given as goal

@@ -1,4 +1,4 @@
-use Rattle.std.proofs.Common.{false, sym, ◌∙◌}
+use Rattle.std.proofs.Common.{sym, ◌∙◌}
 use Rattle.rules.specs.Tables.{with_tick}
 use Rattle.rules.specs.Waits.{later}
 use Rattle.rules.specs.Ticks.{counted_on, one_tick}

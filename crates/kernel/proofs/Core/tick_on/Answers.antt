@@ -1,6 +1,5 @@
 use Rattle.std.proofs.Common.{◌∙◌, le-ltb, lt-ltb}
 use Rattle.kernel.proofs.Stands.{same_hold, same_pended}
-use Rattle.lists.proofs.Bools.{at}
 use Rattle.rules.specs.Ticks.{ticked, one_tick}
 use Rattle.kernel.proofs.Core.tick_on.Goals as goal
 

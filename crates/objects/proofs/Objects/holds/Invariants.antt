@@ -1,5 +1,5 @@
 use Prim.Native.Nat.{◌-◌, ◌≤◌}
-use Rattle.lists.proofs.Loops.{Upto, found}
+use Rattle.lists.proofs.Loops.{Upto}
 use lib.Dec.{eqb, leb}
 use lib.ListN.{get_or}
 use mathlib.Core.Bool.{false, ◌&&◌, ◌||◌}

@@ -1,12 +1,10 @@
 use borrow.Author.Rules.{rules}
-use Rattle.lists.proofs.Bools.{at}
 use Rattle.lists.proofs.Loops.{done, length_mapped, all_begin, all_turn}
 use Rattle.numbers.specs.Numbers.{idle}
 use Rattle.order.proofs.Halves.{numbered, listed_low, listed_past, reach-listed}
 use Rattle.order.proofs.Tallies.{bump_past, count_begin, count_turn}
-use Rattle.order.specs.Tidy.{numbers, tallies_of}
+use Rattle.order.specs.Tidy.{tallies_of}
 use lib.ListN.{length, get_or}
-use mathlib.Core.Bool.{true}
 use mathlib.Core.Path.{◌≡◌, refl, ◌∙◌}
 use native.Mathlib.Omega.{arith}
 use Rattle.order.proofs.Order.tallied.Goals as goal

@@ -2,7 +2,6 @@ use Prim.Native.Nat.{◌-◌, ◌≤◌}
 use Rattle.lists.proofs.Loops.{Held}
 use Rattle.numbers.specs.Numbers.{idle}
 use Rattle.order.proofs.Tallies.{Counting}
-use Rattle.order.specs.Tidy.{numbers}
 use lib.Dec.{ltb}
 use lib.ListN.{get_or}
 use mathlib.Core.Bool.{true}

@@ -1,5 +1,4 @@
 use borrow.Author.Rules.{rules}
-use Rattle.lists.proofs.Bools.{at}
 use Rattle.lists.proofs.Loops.{all_turn}
 use Rattle.numbers.specs.Numbers.{idle}
 use Rattle.order.proofs.Halves.{behind_held, behind_at, behind_zeros}

@@ -1,6 +1,5 @@
 use Prim.Native.Nat.{◌-◌, ◌≤◌}
 use Rattle.lists.proofs.Loops.{Held}
-use Rattle.numbers.specs.Numbers.{object}
 use Rattle.tasks.specs.Fine.{row_fine, idle_if}
 use lib.Dec.{eqb}
 use lib.ListN.{get_or}

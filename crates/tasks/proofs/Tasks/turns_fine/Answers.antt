@@ -1,7 +1,6 @@
 use borrow.Author.Rules.{rules}
 use Rattle.lists.proofs.Loops.{all_begin, all_turn}
 use Rattle.tasks.proofs.Fines.{wait_fits, wait_past, wait_not, waits_end}
-use mathlib.Core.Bool.{true}
 use mathlib.Core.Path.{◌≡◌, refl, sym, ◌∙◌}
 use native.Mathlib.Omega.{arith}
 use Rattle.tasks.proofs.Tasks.turns_fine.Goals as goal

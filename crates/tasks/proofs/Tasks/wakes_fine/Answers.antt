@@ -1,8 +1,6 @@
 use borrow.Author.Rules.{rules}
 use Rattle.lists.proofs.Loops.{all_begin, all_turn, all_done}
 use Rattle.tasks.proofs.Fines.{wakes_are}
-use Rattle.tasks.specs.Fine.{wake_fine}
-use Rattle.tasks.specs.Masks.{mask_fine}
 use mathlib.Core.Path.{refl, ◌∙◌}
 use native.Mathlib.Omega.{arith}
 use Rattle.tasks.proofs.Tasks.wakes_fine.Goals as goal
