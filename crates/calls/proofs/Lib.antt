@@ -1,4 +1,3 @@
 pub mod OneAnswer
-pub mod Ranges
 pub mod CallAgain
 pub mod Doors

@@ -1,3 +1,4 @@
+pub mod Shapes
 pub mod Types
 pub mod Named
 pub mod Door
@@ -5,3 +6,4 @@ pub mod Table
 pub mod Behind
 pub mod Words
 pub mod Said
+pub mod Refusals

@@ -4,27 +4,29 @@
 mod behind;
 mod door;
 mod named;
+mod refusals;
 mod table;
 mod words;
 
 use numbers::{ObjSlot, TaskSlot};
+pub use refusals::Refusal;
 
 // A task number and an object number are two types, so that neither can stand for the other.
-#[derive(Clone, Copy)]
+#[derive(Clone, Copy, PartialEq, Eq, Debug)]
 pub struct TaskNo(pub u32);
 
-#[derive(Clone, Copy)]
+#[derive(Clone, Copy, PartialEq, Eq, Debug)]
 pub struct ObjNo(pub u32);
 
 // How often what stood in each slot was given up. A number is slot + 16 × use, so that an old one names nothing.
-#[derive(Clone, Copy)]
+#[derive(Clone, Copy, PartialEq, Eq, Debug)]
 pub struct Uses {
     pub tasks: [u16; 16],
     pub objects: [u16; 16],
 }
 
 // The 23 calls. The bytes of a sent item are lent beside the call.
-#[derive(Clone, Copy)]
+#[derive(Clone, Copy, PartialEq, Eq, Debug)]
 pub enum Call {
     Create(u32),
     Delete(TaskNo),
@@ -51,7 +53,7 @@ pub enum Call {
     Await(ObjNo, u32, u32, u32, u32),
 }
 
-#[derive(Clone, Copy)]
+#[derive(Clone, Copy, PartialEq, Eq, Debug)]
 pub enum Answer {
     Done,
     Made(u32),
@@ -60,7 +62,7 @@ pub enum Answer {
 }
 
 // What a call must name: nothing, a task, an object of any kind, a queue, a mutex, or an event group.
-#[derive(Clone, Copy)]
+#[derive(Clone, Copy, PartialEq, Eq, Debug)]
 pub enum Names {
     Nothing,
     Task,
@@ -71,7 +73,7 @@ pub enum Names {
 }
 
 // A call in words: its number, what it names, and the numbers among its arguments with zeros after them.
-#[derive(Clone, Copy)]
+#[derive(Clone, Copy, PartialEq, Eq, Debug)]
 pub struct Frame {
     pub number: u8,
     pub names: Names,
@@ -79,10 +81,8 @@ pub struct Frame {
 }
 
 // How the arguments of a call stand: so many numbers, then an item if there is one, then so many numbers more.
-// `known` is false where a number is no call's.
-#[derive(Clone, Copy)]
+#[derive(Clone, Copy, PartialEq, Eq, Debug)]
 pub struct Shape {
-    pub known: bool,
     pub before: usize,
     pub item: bool,
     pub after: usize,
@@ -90,8 +90,8 @@ pub struct Shape {
 
 // A call behind the door: its number and arguments, each in its own field, and slots where the caller wrote numbers; `last` says that the slot
 // stands at its last use.
-// An argument that the call does not have stands at a value that is never turned away.
-#[derive(Clone, Copy)]
+// An argument that the call does not have stands at a value that is never turned away. The rules go by the number, as their document does.
+#[derive(Clone, Copy, PartialEq, Eq, Debug)]
 pub struct Asked {
     pub number: u8,
     pub names: Names,

@@ -5,7 +5,7 @@ ghost use Rattle.calls.specs.Table.{call_of};
 use crate::{Call, ObjNo, TaskNo};
 
 impl Call {
-    // The call of a number, which `known` says is one.
+    // The call of a number that has a shape. Any other number makes a tick, so that there is always a call.
     #[tactic(auto, unfolding(crate::specs::Table::call_of))]
     pub fn of(number: u32, words: [u32; 5]) -> Call
         ensures { result ≡ call_of number words }

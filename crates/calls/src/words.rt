@@ -1,6 +1,7 @@
 // A call in words: its number, what it names and its numbers; and, by its number, how its words stand in a line.
-ghost use Rattle.std.specs.Prelude.{◌≡◌, [], ◌∷◌};
+ghost use Rattle.std.specs.Prelude.{◌≡◌, [], ◌∷◌, Some};
 ghost use Rattle.calls.specs.Words.{Small, numbers_in, fields_of, framed, frame_of, numbers_only, shape_of};
+ghost use Rattle.calls.specs.Shapes.{shape_told, Narrow};
 
 use crate::{Call, Frame, Names, Shape};
 
@@ -12,16 +13,6 @@ impl Frame {
             number,
             names,
             words: [a, b, 0, 0, 0],
-        }
-    }
-
-    fn five(number: u8, names: Names, a: u32, b: u32, c: u32, d: u32, e: u32) -> Frame
-        ensures { result ≡ framed number names (a ∷ b ∷ c ∷ d ∷ e ∷ []) }
-    {
-        Frame {
-            number,
-            names,
-            words: [a, b, c, d, e],
         }
     }
 }
@@ -55,47 +46,54 @@ impl Call {
             Call::MakeGroup => Frame::of(20, Names::Nothing, 0, 0),
             Call::SetBits(o, b) => Frame::of(21, Names::Group, o.0, b),
             Call::ClearBits(o, b) => Frame::of(22, Names::Group, o.0, b),
-            Call::Await(o, m, a, c, w) => Frame::five(23, Names::Group, o.0, m, a, c, w),
+            Call::Await(o, m, a, c, w) => Frame {
+                number: 23,
+                names: Names::Group,
+                words: [o.0, m, a, c, w],
+            },
         }
+    }
+
+    // How its words stand in a line.
+    pub fn shape(self) -> Shape
+        ensures shape { shape_told (Some result) ≡ shape_of (frame_of self).number }
+        ensures narrow { Narrow (Some result) }
+    {
+        Shape::of(u32::from(self.frame().number)).unwrap()
     }
 }
 
 impl Shape {
     // So many numbers and no item.
     fn plain(count: usize) -> Shape
-        ensures { result ≡ numbers_only count }
+        ensures { shape_told (Some result) ≡ numbers_only count }
     {
         Shape {
-            known: true,
             before: count,
             item: false,
             after: 0,
         }
     }
 
+    // None where the number is no call's.
     // "The line reader decides on the call number and groups calls by argument shape with ranges": a list of its own, since a line's words
     // are read before there is a call.
     #[tactic(auto, unfolding(crate::specs::Words::shape_of, lists::specs::Lists::any, lists::specs::Lists::index))]
-    pub fn of(number: u32) -> Shape
-        ensures { result ≡ shape_of number }
+    pub fn of(number: u32) -> Option<Shape>
+        ensures shape { shape_told result ≡ shape_of number }
+        ensures narrow { Narrow result }
     {
         match number {
-            7..=9 | 11 | 17 | 19..=20 => Shape::plain(0),
-            1..=4 | 6 | 12 | 16 | 18 => Shape::plain(1),
-            5 | 10 | 14..=15 | 21..=22 => Shape::plain(2),
-            23 => Shape::plain(5),
-            13 => Shape {
-                known: true,
+            7..=9 | 11 | 17 | 19..=20 => Some(Shape::plain(0)),
+            1..=4 | 6 | 12 | 16 | 18 => Some(Shape::plain(1)),
+            5 | 10 | 14..=15 | 21..=22 => Some(Shape::plain(2)),
+            23 => Some(Shape::plain(5)),
+            13 => Some(Shape {
                 before: 1,
                 item: true,
                 after: 1,
-            },
-            _ => Shape {
-                known: false,
-                before: 0,
-                item: false,
-                after: 0,
-            },
+            }),
+            _ => None,
         }
     }
 }

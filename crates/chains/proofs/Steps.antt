@@ -2,7 +2,7 @@
 use Prim.Native.Nat.{ℕ, zero, suc, ◌-◌, ◌≤◌, ◌<◌}
 use native.Mathlib.Omega.{arith}
 use mathlib.Core.Path.{◌≡◌, refl, sym}
-use mathlib.Core.Bool.{Bool, true, ◌&&◌, and-true}
+use mathlib.Core.Bool.{true}
 use mathlib.Core.List.{List}
 use lib.Dec.{leb}
 use lib.ListN.{get_or}
@@ -29,16 +29,13 @@ module _ (onto by : List ℕ) (p : ℕ) where
   passed_past zero o ls h = refl
   passed_past (suc n) o ls h = rw (le-ltb o 16 h) (lent_past n 16 ls (omega arith))
 
+  pub passed_none : (n o : ℕ) (ls : List ℕ) → n ≤ 0 → passed onto by n o p ls ≡ ls
+  passed_none zero o ls l = refl
+  passed_none (suc n) o ls l = absurd (omega arith)
+
   pub passed_on : (n o : ℕ) (ls : List ℕ) → 0 < n → o < 16 → passed onto by n o p ls ≡ lent onto by (n - 1) (get_or by o 0) p ls
   passed_on zero o ls l h = absurd (omega arith)
   passed_on (suc n) o ls l h = let z : suc n - 1 ≡ n = omega arith in rw (lt-ltb o 16 h, z)
-
-  -- a task's own loan goes to the mutex that it waits on, if it waits
-  pub loan_on : (n i : ℕ) (ls : List ℕ) → i < 16 → passed onto by n (get_or onto i 0) p ls ≡ passed onto by n (says onto i) p ls
-  loan_on n i ls l = rw (lt-ltb i 16 l)
-
-  pub loan_none : (n i : ℕ) (ls : List ℕ) → i < 16 → 16 ≤ get_or onto i 0 → ls ≡ passed onto by n (says onto i) p ls
-  loan_none n i ls l h = rw (lt-ltb i 16 l) (sym (passed_past n (get_or onto i 0) ls h))
 
 -- ── whether the chain ends
 module _ (onto by : List ℕ) where
@@ -55,16 +52,10 @@ module _ (onto by : List ℕ) where
   pub passes_on : (n o : ℕ) → 0 < n → o < 16 → ends (next_by onto by) (suc (n - 1)) (get_or by o 0) ≡ ends (next_by onto by) n (says by o)
   passes_on n o l h = let z : suc (n - 1) ≡ n = omega arith in rw (z, lt-ltb o 16 h)
 
-  pub passes_none : (o : ℕ) → o < 16 → leb 16 (get_or by o 0) ≡ ends (next_by onto by) 0 (says by o)
+  pub passes_none : (n o : ℕ) → n ≤ 0 → o < 16 → leb 16 (get_or by o 0) ≡ ends (next_by onto by) n (says by o)
   unfolding ends
-  passes_none o h = rw (lt-ltb o 16 h)
+  passes_none zero o l h = rw (lt-ltb o 16 h)
+  passes_none (suc n) o l h = absurd (omega arith)
 
   pub passes_past : (n o : ℕ) → 16 ≤ o → true ≡ ends (next_by onto by) n (says by o)
   passes_past n o h = rw (le-ltb o 16 h) (sym (ends_past n 16 (omega arith)))
-
-  -- from whom the task i waits for, if it waits
-  pub goes_on_lem : (i : ℕ) → i < 16 → ends (next_by onto by) 16 (says by (get_or onto i 0)) ≡ ends (next_by onto by) 16 (next_by onto by i)
-  goes_on_lem i l = rw (lt-ltb i 16 l)
-
-  pub goes_nowhere : (i : ℕ) → i < 16 → 16 ≤ get_or onto i 0 → (b : Bool) → b ≡ (b && ends (next_by onto by) 16 (next_by onto by i))
-  goes_nowhere i l h b = rw (← goes_on_lem i l, ← passes_past 16 (get_or onto i 0) h) (sym (and-true b))

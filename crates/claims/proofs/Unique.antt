@@ -1,12 +1,17 @@
 -- No second answer fits: two results that meet a promise are equal.
 use Prim.Native.Nat.{ℕ}
 use mathlib.Core.Path.{◌≡◌, refl, sym, ap, subst, ◌∙◌}
-use mathlib.Core.List.{List}
+use mathlib.Core.List.{List, [], ◌∷◌}
+use lib.ListN.{get_or}
 use native.Mathlib.Omega.{arith}
+use Rattle.calls.specs.declared.refusals.Refusal.{Refusal}
+use Rattle.calls.specs.declared.refusals.Refusal.TheVariants.{Unsound, StoreLength, NoCall, OutOfRange, NamesNone, WrongSize, NotForIdle, NotWithHold, NoneFree}
+use Rattle.calls.specs.declared.refusals.Refusal.TheVariants.{InUse, NotHis, HisAlready, NotSuspended, MustWait, NoDepth, NoTick, Circle, CountFull}
 use Rattle.calls.proofs.OneAnswer.{one_answer}
-use Rattle.slots.specs.declared.Found.{Found}
-use Rattle.slots.specs.declared.Found.TheVariants.{NoOne, Someone}
+use Rattle.numbers.specs.declared.TaskSlot.{TaskSlot}
+use Rattle.std.specs.Prelude.{Option, Some, None}
 use Rattle.slots.specs.Leads.{whom}
+use Rattle.rows.specs.Applies.{number_or_0}
 use Rattle.rules.specs.Steps.{Stepped}
 use Rattle.rules.specs.Sessions.{Run}
 use Rattle.kernel.specs.Stands.{shown}
@@ -39,11 +44,43 @@ pub line_so : (k : Kernel) (l s : List ℕ) (r : Step) (after : List ℕ) → Re
 line_so k l s r after a d f = subst (λ (x : Stepped). Is k x r after) (sym (one_line_step (shown k) s l f)) a
 
 -- who was found
-pub one_found : (f g : Found) → whom f ≡ whom g → f ≡ g
-one_found NoOne NoOne e = refl
-one_found NoOne (Someone t) e = let z : ◌≡◌ {A = ℕ} 0 1 = cc in absurd (omega arith)
-one_found (Someone t) NoOne e = let z : ◌≡◌ {A = ℕ} 0 1 = cc in absurd (omega arith)
-one_found (Someone t) (Someone u) e = cc
+pub one_found : (f g : Option TaskSlot) → whom f ≡ whom g → f ≡ g
+one_found None None e = refl
+one_found None (Some t) e = let z : ◌≡◌ {A = ℕ} 0 1 = cc in absurd (omega arith)
+one_found (Some t) None e = let z : ◌≡◌ {A = ℕ} 0 1 = cc in absurd (omega arith)
+one_found (Some t) (Some u) e = cc
+
+-- the refusal of a number, and none of 0: so no two have one number
+named : ℕ → Option Refusal
+named n = get_or (
+    None ∷ Some Unsound ∷ Some StoreLength ∷ Some NoCall ∷ Some OutOfRange ∷ Some NamesNone ∷ Some WrongSize
+    ∷ Some NotForIdle ∷ Some NotWithHold ∷ Some NoneFree ∷ Some InUse ∷ Some NotHis ∷ Some HisAlready
+    ∷ Some NotSuspended ∷ Some MustWait ∷ Some NoDepth ∷ Some NoTick ∷ Some Circle ∷ Some CountFull ∷ []) n None
+
+named_number : (f : Option Refusal) → named (number_or_0 f) ≡ f
+unfolding named
+named_number None = refl
+named_number (Some Unsound) = refl
+named_number (Some StoreLength) = refl
+named_number (Some NoCall) = refl
+named_number (Some OutOfRange) = refl
+named_number (Some NamesNone) = refl
+named_number (Some WrongSize) = refl
+named_number (Some NotForIdle) = refl
+named_number (Some NotWithHold) = refl
+named_number (Some NoneFree) = refl
+named_number (Some InUse) = refl
+named_number (Some NotHis) = refl
+named_number (Some HisAlready) = refl
+named_number (Some NotSuspended) = refl
+named_number (Some MustWait) = refl
+named_number (Some NoDepth) = refl
+named_number (Some NoTick) = refl
+named_number (Some Circle) = refl
+named_number (Some CountFull) = refl
+
+pub one_refusal : (f g : Option Refusal) → number_or_0 f ≡ number_or_0 g → f ≡ g
+one_refusal f g e = sym (named_number f) ∙ ap named e ∙ named_number g
 
 -- how long the board may sleep
 pub one_sleep : (f g : Sleep) → ticks_of f ≡ ticks_of g → f ≡ g

@@ -9,19 +9,17 @@ pub use Rattle.calls.specs.declared.Asked.{Asked}
 pub use Rattle.slots.specs.declared.Want.{Want}
 pub use Rattle.slots.specs.declared.Want.TheVariants.{Bits}
 pub use Rattle.slots.specs.declared.Wait.{Wait}
-pub use Rattle.slots.specs.declared.Wake.{Wake}
+pub use Rattle.slots.specs.Types.{Wake}
 pub use Rattle.slots.specs.declared.Place.TheVariants.{Waiting}
 pub use Rattle.slots.specs.declared.Sort.TheVariants.{Ordinary}
 pub use Rattle.slots.specs.declared.Kind.{Kind}
 pub use Rattle.slots.specs.declared.Kind.TheVariants.{Group}
 pub use Rattle.journal.specs.declared.Read.{Read}
-pub use Rattle.journal.specs.declared.Reading.TheVariants.{Says}
-pub use Rattle.journal.specs.declared.Written.{Written}
-pub use Rattle.journal.specs.declared.Written.TheVariants.{Count, Refused as NotWritten}
+pub use Rattle.journal.specs.Told.{Written}
 pub use Rattle.rules.specs.State.{State}
 pub use Rattle.kernel.specs.declared.Kernel.{Kernel}
-pub use Rattle.kernel.specs.declared.Sleep.{Sleep}
-pub use Rattle.kernel.specs.declared.Sleep.TheVariants.{Ticks, ForEver}
+pub use Rattle.kernel.specs.Sleeps.{Sleep}
+pub use Rattle.std.specs.declared.option.Option.TheVariants.{Some as Ticks, None as ForEver}
 pub use Rattle.kernel.specs.declared.Step.{Step}
 pub use Rattle.kernel.specs.declared.Session.{Session}
 pub use Rattle.kernel.specs.declared.Served.{Served}

@@ -9,7 +9,7 @@ use lib.ListN.{length, drop, set, length-drop}
 use lib.Seq.{drop-drop}
 use borrow.Author.Tests.{eqb-true, lt-ltb, le-ltb}
 use Rattle.cuts.specs.declared.Cut.{Cut}
-use Rattle.cuts.specs.declared.Stop.{Stop}
+use Rattle.std.proofs.Common.{if◌then◌else◌, Option, Some, None}
 use Rattle.cuts.specs.Keeping.{cut_of, with_byte, Gathered, gathered, Gathers}
 
 -- ---- one byte
@@ -42,10 +42,17 @@ pub record Left (block : List ℕ) (i : ℕ) (g : Gathered) : Type 0 where
   pub ends : g.newline ≡ true → drop g.next block ≡ 10 ∷ drop (g.next + 1) block
   pub within : g.newline ≡ true → (i ≤ g.next) × (g.next < length block)
   pub none : g.newline ≡ false → drop g.next block ≡ []
+  pub last : g.newline ≡ false → i ≤ length block → g.next ≡ length block
 
 pub left : (block l : List ℕ) (i : ℕ) (c : Cut) → drop i block ≡ l → Left block i (gathered i c l)
 unfolding gathered
-left block [] i c d = record { ends = λ e. absurd (false≢true e); within = λ e. absurd (false≢true e); none = λ e. d }
+left block [] i c d =
+    record {
+      ends = λ e. absurd (false≢true e);
+      within = λ e. absurd (false≢true e);
+      none = λ e. d;
+      last = λ e h. omega (arith, ap length d, length-drop i block);
+    }
 left block (b ∷ l) i c d = go (eqb b 10) refl (left block l (i + 1) (with_byte c b) (one_on block l i b d))
   where
     inside : i < length block
@@ -58,29 +65,47 @@ left block (b ∷ l) i c d = go (eqb b 10) refl (left block l (i + 1) (with_byte
           ends = λ f. d ∙ ap (λ (x : ℕ). x ∷ l) t ∙ ap (λ (m : List ℕ). 10 ∷ m) (sym (one_on block l i b d));
           within = λ f. (omega arith, inside);
           none = λ f. absurd (false≢true (sym f));
+          last = λ f. absurd (false≢true (sym f));
         }
 
     go : (t : Bool) → eqb b 10 ≡ t → Left block (i + 1) (gathered (i + 1) (with_byte c b) l) → Left block i (gathered i c (b ∷ l))
     go true e h = rw (gathered_newline i c b l e) (here e)
-    go false e h = rw (gathered_other i c b l e) record { ends = h.ends; within = λ f. let w = h.within f in (omega arith, w.1); none = h.none }
+    go false e h = rw (gathered_other i c b l e) record { ends = h.ends; within = λ f. let w = h.within f in (omega arith, w.1); none = h.none; last = λ f k. h.last f (omega (arith, inside)) }
 
--- the same of what the code was left with
-module _ (block : List ℕ) (i : ℕ) (c : Cut) (r : Stop) (bytes : List ℕ) (g : Gathers (gathered i c (drop i block)) r bytes) where
-  pub stands : r.newline ≡ true → drop r.next block ≡ 10 ∷ drop (r.next + 1) block
-  stands e = rw g.next ((left block (drop i block) i c refl).ends (sym g.newline ∙ e))
+-- ---- the same of what is told of it
 
-  pub further : r.newline ≡ true → (i ≤ r.next) × (r.next < length block)
-  further e = rw g.next ((left block (drop i block) i c refl).within (sym g.newline ∙ e))
+pub told_newline : {g : Gathered} {n : ℕ} {after : Cut} → Gathers g (Some n) after → g ≡ record { next = n; cut = after; newline = true }
+told_newline {g} {n} {after} h = go g.newline refl h.newline
+  where
+    go : (t : Bool) → g.newline ≡ t → Some n ≡ (if t then Some g.next else None) → g ≡ record { next = n; cut = after; newline = true }
+    go true e f = let m : n ≡ g.next = cc in sym (λ i. record { next = m i; cut = h.cut i; newline = sym e i })
+    go false e f = absurd (cc)
 
-  pub used_up : r.newline ≡ false → drop r.next block ≡ []
-  used_up e = rw g.next ((left block (drop i block) i c refl).none (sym g.newline ∙ e))
+pub told_none : {g : Gathered} {after : Cut} → Gathers g None after → g ≡ record { next = g.next; cut = after; newline = false }
+told_none {g} {after} h = go g.newline refl h.newline
+  where
+    go : (t : Bool) → g.newline ≡ t → None ≡ (if t then Some g.next else None) → g ≡ record { next = g.next; cut = after; newline = false }
+    go true e f = absurd (cc)
+    go false e f = sym (λ i. record { next = g.next; cut = h.cut i; newline = sym e i })
+
+module _ (block : List ℕ) (i : ℕ) (c after : Cut) where
+  -- at a newline
+  module _ (n : ℕ) (g : Gathers (gathered i c (drop i block)) (Some n) after) where
+    lies : Left block i record { next = n; cut = after; newline = true }
+    lies = rw (← told_newline g) (left block (drop i block) i c refl)
+
+    pub stands : drop n block ≡ 10 ∷ drop (n + 1) block
+    stands = lies.ends refl
+
+    pub further : (i ≤ n) × (n < length block)
+    further = lies.within refl
+
+  -- where there is none, the block has ended
+  pub used_up : Gathers (gathered i c (drop i block)) None after → i ≤ length block → (gathered i c (drop i block)).next ≡ length block
+  used_up g h = (left block (drop i block) i c refl).last (ap (λ (x : Gathered). x.newline) (told_none g)) h
 
 -- ---- no second result
 
 -- nor does another fit the promise of `keep`, which is an equation
-pub gathers_one : {g : Gathered} {r q : Stop} {a b : List ℕ} → Gathers g r a → Gathers g q b → (r ≡ q) × (a ≡ b)
-gathers_one f h =
-    let n = f.next ∙ sym h.next in
-    let c = f.cut ∙ sym h.cut in
-    let e = f.newline ∙ sym h.newline in
-    ((λ i. record { next = n i; len = (c i).len; newline = e i }), ap (λ (x : Cut). x.bytes) c)
+pub gathers_one : {g : Gathered} {r q : Option ℕ} {a b : Cut} → Gathers g r a → Gathers g q b → (r ≡ q) × (a ≡ b)
+gathers_one f h = (f.newline ∙ sym h.newline, f.cut ∙ sym h.cut)

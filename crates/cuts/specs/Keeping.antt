@@ -1,8 +1,7 @@
 -- What there is of a line, byte by byte.
-use Rattle.std.specs.Prelude.{ℕ, ◌+◌, ◌≡◌, Bool, true, false, List, [], ◌∷◌, eqb, ltb, set, replicate, if◌then◌else◌}
+use Rattle.std.specs.Prelude.{ℕ, ◌+◌, ◌≡◌, Bool, true, false, Option, Some, None, List, [], ◌∷◌, eqb, ltb, set, replicate, if◌then◌else◌}
 use Rattle.lists.specs.Lists.{index}
 use Rattle.cuts.specs.declared.Cut.{Cut}
-use Rattle.cuts.specs.declared.Stop.{Stop}
 
 abbrev pub cut_of : List ℕ → ℕ → Cut
 cut_of bytes n = record { bytes = bytes; len = n }
@@ -41,8 +40,7 @@ unfoldable pub gathered : ℕ → Cut → List ℕ → Gathered
 gathered i c [] = record { next = i; cut = c; newline = false }
 gathered i c (b ∷ l) = if eqb b 10 then record { next = i; cut = c; newline = true } else gathered (i + 1) (with_byte c b) l
 
--- r and the bytes afterwards say so
-pub record Gathers (g : Gathered) (r : Stop) (bytes : List ℕ) : Type 0 where
-  pub next : r.next ≡ g.next
-  pub cut : cut_of bytes r.len ≡ g.cut
-  pub newline : r.newline ≡ g.newline
+-- what is told of it: the place of the newline, or none; and what there is of the line then
+pub record Gathers (g : Gathered) (r : Option ℕ) (after : Cut) : Type 0 where
+  pub newline : r ≡ (if g.newline then Some g.next else None)
+  pub cut : after ≡ g.cut

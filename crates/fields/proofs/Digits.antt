@@ -8,8 +8,10 @@ use lib.ListN.{length, drop, get_or, length-append}
 use borrow.Author.Tests.{lt-ltb, le-ltb, eq-eqb, ne_eqb}
 use Rattle.fields.specs.Decimal.{digits, dec}
 use Rattle.fields.specs.Digit.{among, digit_of}
-use Rattle.fields.specs.Number.{grow, more, read_number}
-use Rattle.fields.specs.declared.Number.TheVariants.{Got}
+use Rattle.std.specs.Prelude.{Option}
+use Rattle.std.specs.Option.{unwrap_or}
+use Rattle.fields.specs.declared.Number.{Number}
+use Rattle.fields.specs.Number.{grow, got, more, read_number}
 use Rattle.lists.proofs.Tests.{below_or}
 use Rattle.fields.proofs.LinePlaces.{past}
 
@@ -105,10 +107,10 @@ module _ (line : List ℕ) where
   Ends l w j = (l ≡ dec w ++ drop j line) × (w ≤ 4294967295)
 
   -- nothing more is taken
-  stopped : (l : List ℕ) (v i w j : ℕ) → drop i line ≡ l → v < 4294967296 → Got v i ≡ Got w j → Ends (dec v ++ l) w j
+  stopped : (l : List ℕ) (v i w j : ℕ) → drop i line ≡ l → v < 4294967296 → got v i ≡ got w j → Ends (dec v ++ l) w j
   stopped l v i w j d b e =
-      let p : v ≡ w = cc in
-      let q : i ≡ j = cc in
+      let p : v ≡ w = ap (λ (r : Option Number). (unwrap_or r record { value = v; next = i }).value) e in
+      let q : i ≡ j = ap (λ (r : Option Number). (unwrap_or r record { value = v; next = i }).next) e in
       (rw (p, ← q, d), omega arith)
 
   next : (i x : ℕ) (l : List ℕ) → drop i line ≡ x ∷ l → drop (i + 1) line ≡ l
@@ -116,11 +118,11 @@ module _ (line : List ℕ) where
 
   -- the law for one digit more, from the law for what is left
   grows : (x : ℕ) (l : List ℕ) (v i w j : ℕ) → drop i line ≡ x ∷ l → 0 < v → v < 4294967296
-      → ((u : ℕ) → 0 < u → u < 4294967296 → more u (i + 1) l ≡ Got w j → Ends (dec u ++ l) w j)
-      → more v i (x ∷ l) ≡ Got w j → Ends (dec v ++ (x ∷ l)) w j
+      → ((u : ℕ) → 0 < u → u < 4294967296 → more u (i + 1) l ≡ got w j → Ends (dec u ++ l) w j)
+      → more v i (x ∷ l) ≡ got w j → Ends (dec v ++ (x ∷ l)) w j
   grows x l v i w j d p b ih = go (below_or (grow v x) 4294967296)
     where
-      go : (grow v x < 4294967296) ⊎ (4294967296 ≤ grow v x) → more v i (x ∷ l) ≡ Got w j → Ends (dec v ++ (x ∷ l)) w j
+      go : (grow v x < 4294967296) ⊎ (4294967296 ≤ grow v x) → more v i (x ∷ l) ≡ got w j → Ends (dec v ++ (x ∷ l)) w j
       go (inl a) = rw (lt-ltb (grow v x) 4294967296 a) (λ e.
           let g = grow_is v x a in
           let q = digit_is x g.0 in
@@ -130,11 +132,11 @@ module _ (line : List ℕ) where
           (sym (append_assoc (dec v) (x ∷ []) l) ∙ ap (λ (h : List ℕ). h ++ l) (sym t) ∙ s.0, s.1))
       go (inr a) = rw (le-ltb (grow v x) 4294967296 a) (stopped (x ∷ l) v i w j d b)
 
-  more_ends : (l : List ℕ) (v i w j : ℕ) → drop i line ≡ l → 0 < v → v < 4294967296 → more v i l ≡ Got w j → Ends (dec v ++ l) w j
+  more_ends : (l : List ℕ) (v i w j : ℕ) → drop i line ≡ l → 0 < v → v < 4294967296 → more v i l ≡ got w j → Ends (dec v ++ l) w j
   more_ends [] v i w j d p b e = stopped [] v i w j d b e
   more_ends (x ∷ l) v i w j d p b e = grows x l v i w j d p b (λ u k f. more_ends l u (i + 1) w j (next i x l d) k f) e
 
-  number_ends : (l : List ℕ) (i w j : ℕ) → drop i line ≡ l → read_number i l ≡ Got w j → Ends l w j
+  number_ends : (l : List ℕ) (i w j : ℕ) → drop i line ≡ l → read_number i l ≡ got w j → Ends l w j
   number_ends [] i w j d e = let z : ◌≡◌ {A = ℕ} 0 1 = cc in absurd (omega arith)
   number_ends (x ∷ l) i w j d e = go (below_or (digit_of x) 256) (below_or 0 (digit_of x)) e
     where
@@ -143,7 +145,7 @@ module _ (line : List ℕ) where
           let q = digit_is x a in
           ap (λ (y : ℕ). y ∷ l) q.1 ∙ ap (λ (h : List ℕ). h ++ l) (sym (dec_small (digit_of x) q.0))
 
-      go : (digit_of x < 256) ⊎ (256 ≤ digit_of x) → (0 < digit_of x) ⊎ (digit_of x ≤ 0) → read_number i (x ∷ l) ≡ Got w j → Ends (x ∷ l) w j
+      go : (digit_of x < 256) ⊎ (256 ≤ digit_of x) → (0 < digit_of x) ⊎ (digit_of x ≤ 0) → read_number i (x ∷ l) ≡ got w j → Ends (x ∷ l) w j
       go (inl a) (inl p) = rw (lt-ltb (digit_of x) 256 a, ne_eqb (digit_of x) 0 (omega arith)) (λ e.
           let s = more_ends l (digit_of x) (i + 1) w j (next i x l d) p (omega arith) e in
           (first a ∙ s.0, s.1))
@@ -153,7 +155,7 @@ module _ (line : List ℕ) where
           (first a ∙ ap (λ (v : ℕ). dec v ++ l) z ∙ s.0, s.1))
       go (inr a) p = rw (le-ltb (digit_of x) 256 a) (λ e. let z : ◌≡◌ {A = ℕ} 0 1 = cc in absurd (omega arith))
 
-  pub number_front : (at w j : ℕ) → read_number at (drop at line) ≡ Got w j → (drop at line ≡ dec w ++ drop j line) × (w ≤ 4294967295)
+  pub number_front : (at w j : ℕ) → read_number at (drop at line) ≡ got w j → (drop at line ≡ dec w ++ drop j line) × (w ≤ 4294967295)
   number_front at w j e = number_ends (drop at line) at w j refl e
 
 -- ---- a number's digits are read whole
@@ -162,7 +164,7 @@ module _ (line : List ℕ) where
 abbrev pub Stops : List ℕ → Type 0
 Stops l = digit_of (get_or l 0 10) ≡ 256
 
-more_stops : (v i : ℕ) (l : List ℕ) → Stops l → more v i l ≡ Got v i
+more_stops : (v i : ℕ) (l : List ℕ) → Stops l → more v i l ≡ got v i
 more_stops v i [] s = refl
 more_stops v i (t ∷ l) s = rw (grow_stop v t s)
 
@@ -189,7 +191,7 @@ number_digits (suc k) n i l p b f =
     ∙ ap (λ (m : ℕ). more n m l) e))
     (below_or n 10)
 
-pub number_whole : (n i : ℕ) (l : List ℕ) → n ≤ 4294967295 → Stops l → read_number i (dec n ++ l) ≡ Got n (i + length (dec n))
+pub number_whole : (n i : ℕ) (l : List ℕ) → n ≤ 4294967295 → Stops l → read_number i (dec n ++ l) ≡ got n (i + length (dec n))
 unfolding dec
 number_whole n i l b s =
     ⊎_elim (λ (p : 0 < n). number_digits 19 n i l p (omega arith) (omega arith) ∙ more_stops n (i + length (digits 19 n)) l s)

@@ -1,6 +1,7 @@
 -- The laws of an item in a line: what the reader takes is the item's digits, and it takes them all.
 use Prim.Native.Nat.{ℕ, zero, suc, ◌+◌, ◌-◌, ◌*◌, ◌/◌, ◌%◌, ◌<◌, ◌≤◌, min}
 use mathlib.Core.Path.{◌≡◌, refl, sym, ap, ◌∙◌}
+use mathlib.Core.Bool.{false≢true}
 use mathlib.Core.Logic.{◌⊎◌, inl, inr, ⊎_elim}
 use mathlib.Core.List.{List, [], ◌∷◌, ◌++◌}
 use native.Mathlib.Omega.{arith}
@@ -10,7 +11,9 @@ use lib.Seq.{sets, drop-drop}
 use borrow.Author.Tests.{lt-ltb, le-ltb}
 use Rattle.fields.specs.Texts.{texts}
 use Rattle.fields.specs.Hex.{hex_digit, two_digits, hex, Bytes}
-use Rattle.fields.specs.Digit.{among, nibble_of}
+use Rattle.std.specs.Prelude.{Option, Some, None}
+use Rattle.std.specs.Option.{unwrap_or, is_some}
+use Rattle.fields.specs.Digit.{among, nibble_of, below}
 use Rattle.fields.specs.Item.{pair_of, byte_of, bytes_in}
 use Rattle.fields.specs.declared.Item.{Item}
 use Rattle.lists.proofs.Tests.{below_or}
@@ -134,6 +137,16 @@ pub tab_stops : (l : List ℕ) → byte_of (9 ∷ l) ≡ 256
 unfolding pair_of
 tab_stops [] = refl
 tab_stops (y ∷ l) = rw tab_none (omega arith)
+
+-- ---- what the code says of a byte: none, or the byte
+
+pub none_below : {m n : ℕ} → None ≡ below m n → m ≤ n
+none_below {m} {n} e = ⊎_elim (λ (a : n < m). let f : None ≡ Some n = rw (lt-ltb n m a) at e in absurd (false≢true (ap is_some f))) (λ (a : m ≤ n). a) (below_or n m)
+
+pub some_below : {m n v : ℕ} → Some v ≡ below m n → (v ≡ n) × (n < m)
+some_below {m} {n} {v} e =
+    ⊎_elim (λ (a : n < m). let f : Some v ≡ Some n = rw (lt-ltb n m a) at e in (ap (λ (r : Option ℕ). unwrap_or r v) f, a))
+    (λ (a : m ≤ n). let f : Some v ≡ None = rw (le-ltb n m a) at e in absurd (false≢true (sym (ap is_some f)))) (below_or n m)
 
 -- ---- the loop that reads an item: n bytes are in bs, the place is i, l is left, and up to k more are taken
 

@@ -18,10 +18,8 @@ pub fn put_all(line: &mut [u8], at: usize, bytes: &[u8]) -> usize
     ensures { Wrote line.old at bytes.now result line.new }
 {
     let mut next = at;
-    let mut i: usize = 0;
-    while i < bytes.len() {
-        next = put(line, next, bytes[i]);
-        i += 1;
+    for &b in bytes {
+        next = put(line, next, b);
     }
     next
 }

@@ -1,5 +1,6 @@
 // An item in lower-case hexadecimal, two digits a byte.
 ghost use Rattle.std.specs.Prelude.{◌≡◌, ◌<◌, drop};
+ghost use Rattle.fields.specs.Digit.{below};
 ghost use Rattle.fields.specs.Hex.{hex_digit, two_digits, hex};
 ghost use Rattle.fields.specs.Item.{pair_of, byte_of, read_item};
 ghost use Rattle.fields.specs.Wrote.{Wrote};
@@ -9,24 +10,21 @@ use crate::bytes::put;
 use crate::digit::nibble;
 
 // The byte that two digits stand for, and 256 where they are not both digits.
-#[tactic(auto, unfolding(crate::specs::Item::pair_of))]
+#[tactic(auto, using(crate::proofs::Pairs::nibble_fits), unfolding(crate::specs::Item::pair_of))]
 fn pair(x: u8, y: u8) -> u32
     ensures { result ≡ pair_of x y }
 {
-    lists::lesser(nibble(x) * 16 + nibble(y), 256)
+    (nibble(x) * 16 + nibble(y)).min(256)
 }
 
-// The byte whose two digits stand at a place, and 256 where there are none.
-fn byte_at(line: &[u8], at: usize) -> u32
-    ensures { result ≡ byte_of (drop at line.now) }
+// The byte whose two digits stand at a place.
+fn byte_at(line: &[u8], at: usize) -> Option<u8>
+    ensures { result ≡ below 256 (byte_of (drop at line.now)) }
 {
-    if at >= line.len() {
-        return 256;
+    match line.get(at..)? {
+        [x, y, ..] => u8::try_from(pair(*x, *y)).ok(),
+        _ => None,
     }
-    if at + 1 >= line.len() {
-        return 256;
-    }
-    pair(line[at], line[at + 1])
 }
 
 // The longest item at a place, of up to 64 bytes. A 65th is left, and whatever is to come next refuses it.
@@ -34,25 +32,22 @@ pub fn read_item(line: &[u8], at: usize) -> Item
     ensures { result ≡ read_item at (drop at line.now) }
 {
     let mut bytes = [0u8; 64];
-    let mut i = at;
-    let mut n: usize = 0;
-    while n < 64 {
-        let b = byte_at(line, i);
-        if b >= 256 {
-            return Item {
+    let mut next = at;
+    for n in 0..64 {
+        match byte_at(line, next) {
+            Some(b) => bytes[n] = b,
+            None => return Item {
                 bytes,
                 len: n,
-                next: i,
-            };
+                next,
+            },
         }
-        bytes[n] = b as u8;
-        n += 1;
-        i += 2;
+        next += 2;
     }
     Item {
         bytes,
-        len: n,
-        next: i,
+        len: 64,
+        next,
     }
 }
 
@@ -62,7 +57,7 @@ fn hex_of(n: u8) -> u8
     requires { n < 16 }
     ensures { result ≡ hex_digit n }
 {
-    if n < 10 { 48 + n } else { 87 + n }
+    if n < 10 { b'0' + n } else { b'a' + (n - 10) }
 }
 
 // A byte's two digits.
@@ -78,10 +73,8 @@ pub fn put_hex(line: &mut [u8], at: usize, item: &[u8]) -> usize
     ensures { Wrote line.old at (hex item.now) result line.new }
 {
     let mut next = at;
-    let mut i: usize = 0;
-    while i < item.len() {
-        next = put_byte(line, next, item[i]);
-        i += 1;
+    for &b in item {
+        next = put_byte(line, next, b);
     }
     next
 }

@@ -10,15 +10,15 @@ pub use bytes::{put, put_all};
 pub use decimal::{put_number, read_number};
 pub use hex::{put_hex, read_item};
 
-// A number that stands at a place, with the place after it.
-#[derive(Clone, Copy)]
-pub enum Number {
-    Got(u32, usize),
-    Missing,
+// A number that stands at a place, and the place after it.
+#[derive(Clone, Copy, PartialEq, Eq, Debug)]
+pub struct Number {
+    pub value: u32,
+    pub next: usize,
 }
 
 // An item that stands at a place: its bytes with zeros after them, how many they are, and the place after it.
-#[derive(Clone, Copy)]
+#[derive(Clone, Copy, PartialEq, Eq, Debug)]
 pub struct Item {
     pub bytes: [u8; 64],
     pub len: usize,

@@ -5,12 +5,13 @@ ghost use Rattle.std.specs.Prelude.{◌<◌, ◌≡◌};
 ghost use Rattle.heights.specs.Heights.{lit, top, no_lines, noted, height};
 
 // A bit for each of the 32 lines. `over` is the highest priority past them, 0 where there is none: no sound kernel has one, but the highest is found in every table.
-#[derive(Clone, Copy)]
+#[derive(Clone, Copy, PartialEq, Eq, Debug)]
 pub struct Lines {
     pub word: u32,
     pub over: u8,
 }
 
+#[tactic(auto, using(crate::proofs::Counts::lit_is))]
 fn lit(w: u32, p: u8) -> u32
     requires { p < 32 }
     ensures { result ≡ lit w p }
@@ -23,10 +24,7 @@ fn lit(w: u32, p: u8) -> u32
 fn top(w: u32) -> u8
     ensures { result ≡ top w }
 {
-    if w == 0 {
-        return 0;
-    }
-    (31 - u32::leading_zeros(w)) as u8
+    31u32.saturating_sub(w.leading_zeros()) as u8
 }
 
 impl Lines {
@@ -37,21 +35,15 @@ impl Lines {
     }
 
     // One task more, of priority `p`: it stands in a line if it is ready.
-    pub fn noted(self, ready: bool, p: u8) -> Lines
-        ensures { result ≡ noted self ready p }
+    pub fn note(&mut self, ready: bool, p: u8)
+        ensures { self.new ≡ noted self.old ready p }
     {
-        if !ready {
-            return self;
-        }
-        if p < 32 {
-            return Lines {
-                word: lit(self.word, p),
-                over: self.over,
-            };
-        }
-        Lines {
-            word: self.word,
-            over: lists::larger(self.over, p),
+        if ready {
+            if p < 32 {
+                self.word = lit(self.word, p);
+            } else {
+                self.over = self.over.max(p);
+            }
         }
     }
 
@@ -59,6 +51,6 @@ impl Lines {
     pub fn height(self) -> u8
         ensures { result ≡ height self }
     {
-        lists::larger(top(self.word), self.over)
+        top(self.word).max(self.over)
     }
 }

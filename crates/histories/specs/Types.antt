@@ -6,15 +6,14 @@ pub use Rattle.numbers.specs.declared.ObjSlot.{ObjSlot}
 pub use Rattle.calls.specs.declared.Call.{Call}
 pub use Rattle.calls.specs.declared.Call.TheVariants.{Create, Delete, Suspend, Resume, SetPriority, Delay, Yield, Hold, Release}
 pub use Rattle.calls.specs.declared.Call.TheVariants.{MakeQueue, MakeMutex, Remove, Send, Receive, Take, Give, Tick, Advance, MakeRecursive, MakeGroup, SetBits, ClearBits, Await}
-pub use Rattle.slots.specs.declared.Wake.{Wake}
+pub use Rattle.slots.specs.Types.{Wake}
 pub use Rattle.slots.specs.declared.Want.{Want}
 pub use Rattle.slots.specs.declared.Want.TheVariants.{OwnTurn}
 pub use Rattle.slots.specs.declared.Place.{Place}
 pub use Rattle.slots.specs.declared.Place.TheVariants.{Free, Ready, Delayed, Waiting, Suspended, Spent}
 pub use Rattle.slots.specs.declared.Task.{Task}
 pub use Rattle.slots.specs.declared.Ring.{Ring}
-pub use Rattle.slots.specs.declared.Holder.{Holder}
-pub use Rattle.slots.specs.declared.Holder.TheVariants.{Nobody, By}
+pub use Rattle.slots.specs.Types.{Holder, Nobody, By}
 pub use Rattle.slots.specs.declared.Sort.{Sort}
 pub use Rattle.slots.specs.declared.Sort.TheVariants.{Ordinary, Recursive}
 pub use Rattle.slots.specs.declared.Kind.{Kind}

@@ -1,14 +1,13 @@
--- The copying loop, for every length; and a part of the store that is lent and comes back.
-use Prim.Native.Nat.{ℕ, suc, ◌+◌, ◌-◌, ◌<◌, ◌≤◌, min}
+-- The copy, for every length; and a part of the store that is lent and comes back.
+use Prim.Native.Nat.{ℕ, suc, ◌+◌, ◌-◌, ◌≤◌, min}
 use mathlib.Core.Path.{◌≡◌, refl, sym, ap, ◌∙◌}
 use mathlib.Core.Bool.{Bool, true, false}
 use mathlib.Core.List.{List, [], ◌∷◌, ◌++◌, append-nil}
-use native.Mathlib.Numerals.{add-one}
 use native.Mathlib.Nat.{zero-add, add-zero}
 use native.Mathlib.Omega.{arith}
 use lib.Dec.{ltb}
-use lib.ListN.{length, get_or, set, take, drop, replicate, length-take, length-drop, length-set, take-append-drop, drop_of_length-le}
-use lib.Seq.{sets, length-sets, take-nil, take-suc, take_all, take-add, take-append-le, drop-append-le, drop-drop, set_out, set-append_left, sets-eq, take_at}
+use lib.ListN.{length, set, take, drop, replicate, length-take, length-drop, length-set, take-append-drop, drop_of_length-le}
+use lib.Seq.{sets, length-sets, take-nil, take_all, take-add, take-append-le, drop-append-le, drop-drop, set_out, set-append_left, sets-eq, take_at}
 use borrow.Author.Tests.{ltb-true, ltb-false}
 use Rattle.items.specs.Bytes.{bytes_at, put_at}
 
@@ -23,27 +22,6 @@ sets_append (v ∷ vs) ws l i =
 pub sets_past : (vs l : List ℕ) (i : ℕ) → length l ≤ i → sets l i vs ≡ l
 sets_past [] l i h = refl
 sets_past (v ∷ vs) l i h = rw (set_out l i v h) (sets_past vs l (suc i) (omega arith))
-
--- a loop that copies the first `n` of `xs` over the first of `d`, up to `e`, has copied `i`
-pub record Copying (d xs : List ℕ) (n : ℕ) (r : List ℕ) (e i : ℕ) : Type 0 where
-  pub so : r ≡ sets d 0 (take i xs)
-  pub within : i ≤ e
-  pub upto : e ≡ min n (min (length d) (length xs))
-  pub wide : length r ≡ length d
-
-pub copy_begin : {d xs : List ℕ} {n e : ℕ} → e ≡ min n (min (length d) (length xs)) → Copying d xs n d e 0
-copy_begin u = record { so = refl; within = omega arith; upto = u; wide = refl }
-
-pub copy_turn : {d xs : List ℕ} {n e i : ℕ} {r q : List ℕ} → Copying d xs n r e i → i < e → q ≡ set r i (get_or xs i 0) → Copying d xs n q e (i + 1)
-copy_turn {d} {xs} {i = i} {r = r} c h p =
-    let l : i < length xs = omega arith in
-    let m : length (take i xs) ≡ i = rw length-take (omega arith) in
-    record {
-      so = rw (p, add-one, take-suc xs i 0 l, sets_append (take i xs) (get_or xs i 0 ∷ []) d 0, m, zero-add, c.so);
-      within = omega arith;
-      upto = c.upto;
-      wide = rw (p, length-set) c.wide;
-    }
 
 -- nothing is left to copy at the least of the three
 copied : (d xs : List ℕ) (n i : ℕ) → i ≡ min n (min (length d) (length xs)) → sets d 0 (take i xs) ≡ sets d 0 (take n xs)
@@ -62,8 +40,12 @@ copied d xs n i q = go (ltb i n) refl (ltb i (length xs)) refl
         sym (ap (λ z. sets d 0 (take z xs)) m
         ∙ rw (take-add i (n - i) xs, sets_append (take i xs) (take (n - i) (drop i xs)) d 0, w, zero-add) (sets_past (take (n - i) (drop i xs)) (sets d 0 (take i xs)) i past))
 
-pub copy_done : {d xs : List ℕ} {n e i : ℕ} {r : List ℕ} → Copying d xs n r e i → e ≤ i → r ≡ sets d 0 (take n xs)
-copy_done {d} {xs} {n} {i = i} c h = c.so ∙ copied d xs n i (omega arith)
+pub put_first : (d xs : List ℕ) (n e : ℕ) (r : List ℕ) → e ≡ min n (min (length d) (length xs)) → r ≡ take e xs → r ++ drop e d ≡ sets d 0 (take n xs)
+put_first d xs n e r h q =
+    let w : length (take e xs) ≡ e = rw length-take (omega arith) in
+    let f : 0 + length (take e xs) ≤ length d = omega arith in
+    let m : 0 + length (take e xs) ≡ e = omega arith in
+    rw (q, ← copied d xs n e h, sets-eq (take e xs) d 0 f, m)
 
 -- from a place on to the end, as a part that is lent
 pub tail_part : (xs : List ℕ) (at : ℕ) → take (length xs - at) (drop at xs) ≡ drop at xs
@@ -92,6 +74,10 @@ put_back xs vs ys at h e =
     let m : length (take at xs) + 0 ≡ at = rw length-take (omega arith) in
     rw (e, tail_part xs at, drop_of_length-le (drop at xs) g, append-nil)
     (sym (ap (λ (l : List ℕ). sets l at vs) (sym (take-append-drop at xs)) ∙ ap (λ n. sets (take at xs ++ drop at xs) n vs) (sym m) ∙ sets_behind vs (take at xs) (drop at xs) 0))
+
+pub put_past : (xs vs : List ℕ) (at : ℕ) → length xs ≤ at → xs ≡ put_at at vs xs
+unfolding put_at
+put_past xs vs at h = sym (sets_past vs xs at h)
 
 -- bytes set before others
 sets_before : (vs p q : List ℕ) (i : ℕ) → i + length vs ≤ length p → sets (p ++ q) i vs ≡ sets p i vs ++ q

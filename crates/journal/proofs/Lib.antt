@@ -5,3 +5,4 @@ pub mod Promised
 pub mod LineStores
 pub mod Theorems
 pub mod Newlines
+pub mod Parts

@@ -1,14 +1,15 @@
 -- What the writers store is the line, and there is room for it.
 use Prim.Native.Nat.{ℕ, ◌+◌, ◌*◌, ◌<◌, ◌≤◌}
 use mathlib.Core.Path.{◌≡◌, refl, sym, ap, ◌∙◌}
-use mathlib.Core.Bool.{Bool, true, false, ◌&&◌}
+use mathlib.Core.Bool.{Bool, true, false}
 use mathlib.Core.List.{List, [], ◌∷◌, ◌++◌}
 use native.Mathlib.Omega.{arith}
 use lib.Dec.{ltb}
-use lib.ListN.{length, get_or, take, drop, length-append, length-take, length-drop}
-use lib.Seq.{sets-eq, get_or-take, get_or-drop}
-use borrow.Author.Tests.{ltb-false, eq-eqb, ne_eqb}
+use lib.ListN.{length, take, drop, length-append, length-take, length-drop}
+use lib.Seq.{sets-eq}
+use borrow.Author.Tests.{lt-ltb, le-ltb, eq-eqb, ne_eqb}
 use Rattle.std.proofs.Common.{if◌then◌else◌}
+use Rattle.std.specs.Prelude.{Ok, Err}
 use Rattle.calls.specs.Said.{Word, done, made, waiting, refused, Saying, said}
 use Rattle.calls.specs.Words.{shape_of, frame_of}
 use Rattle.calls.proofs.CallAgain.{frame_five}
@@ -18,21 +19,13 @@ use Rattle.fields.specs.Wrote.{Wrote}
 use Rattle.fields.proofs.Digits.{dec-length}
 use Rattle.fields.proofs.Pairs.{hex-length}
 use Rattle.fields.proofs.Stores.{wrote_then}
-use Rattle.journal.specs.Types.{Call, Answer, TaskNo, Shape, Frame, Count, NotWritten}
+use Rattle.journal.specs.Types.{Call, Answer, TaskNo, Shape, Frame, StoreLength, WrongSize}
 use Rattle.journal.specs.Line.{line_of, carries, its_item}
 use Rattle.journal.specs.Reply.{word_of, reply, reply_of}
 use Rattle.journal.specs.Told.{wrote}
 use Rattle.journal.specs.Promise.{Writes, line_refusal, item_refusal, WritesAnswer}
 use Rattle.journal.specs.Writer.{tabbed, sent_text, shape_text, frame_text}
 use Rattle.journal.proofs.LineWords.{line_frame, item_frame}
-
--- ---- the numbers of a frame
-
-pub picked_length : (vs : List ℕ) (from k : ℕ) → from + k ≤ length vs → length (take k (drop from vs)) ≡ k
-picked_length vs from k h = length-take k (drop from vs) ∙ omega (arith, length-drop from vs)
-
-pub picked : (vs : List ℕ) (from k i : ℕ) → i < k → get_or (take k (drop from vs)) i 0 ≡ get_or vs (from + i) 0
-picked vs from k i h = get_or-take k (drop from vs) i 0 h ∙ get_or-drop from vs i 0
 
 -- ---- room
 
@@ -108,10 +101,10 @@ frame_wrote n vs b s e u v w x y = rw (← e) (wrote_then u (wrote_then v (wrote
 
 -- ---- the answers
 
-pub line_refused : (n : ℕ) (text l : List ℕ) → (length l ≡ 256 → ⊥) → Writes (line_refusal l n) text l (NotWritten 2) l
+pub line_refused : (n : ℕ) (text l : List ℕ) → (length l ≡ 256 → ⊥) → Writes (line_refusal l n) text l (Err StoreLength) l
 line_refused n text l h = rw (ne_eqb (length l) 256 h) record { answer = refl; line = refl }
 
-written : (text l m : List ℕ) (r : ℕ) → length l ≡ 256 → length text ≤ 256 → Wrote l 0 text r m → Writes 0 text l (Count r) m
+written : (text l m : List ℕ) (r : ℕ) → length l ≡ 256 → length text ≤ 256 → Wrote l 0 text r m → Writes 0 text l (Ok r) m
 written text l m r h k w =
     let z : 0 + length text ≡ length text = omega arith in
     record {
@@ -131,26 +124,30 @@ passed_over c b =
     let e : sent_text (shape_of n).item (its_item c b) ≡ sent_text (shape_of n).item b = rw (item_frame c) (sent_passed (shape_of n).item b) in
     line_frame c (its_item c b) ∙ rw e (sym (line_frame c b))
 
-too_long : (i : Bool) (b : List ℕ) → ltb 64 (length (if i then b else [])) ≡ (i && ltb 64 (length b))
-too_long true b = refl
-too_long false b = refl
-
 -- what the code tested is that the call's item is too long
-module _ (c : Call) (b l : List ℕ) (h : length l ≡ 256) (f : Frame) (s : Shape) (t : Bool) (ef : f ≡ frame_of c) (es : s ≡ shape_of f.number)
-    (et : t ≡ (s.item && ltb 64 (length b))) where
-  tested : ltb 64 (length (its_item c b)) ≡ t
-  tested = too_long (carries c) b ∙ sym (et ∙ rw (es, ef, item_frame c))
+module _ (c : Call) (b l : List ℕ) (h : length l ≡ 256) (f : Frame) (s : Shape) (ef : f ≡ frame_of c) (es : s ≡ shape_of f.number) where
+  carried : carries c ≡ s.item
+  carried = rw (es, ef) (item_frame c)
 
-  pub item_refused : t ≡ true → Writes (line_refusal l (item_refusal (its_item c b))) (line_of c (its_item c b)) l (NotWritten 6) l
-  item_refused e = rw (eq-eqb (length l) 256 h, tested, e) record { answer = refl; line = refl }
+  pub item_refused : s.item ≡ true → 64 < length b → Writes (line_refusal l (item_refusal (its_item c b))) (line_of c (its_item c b)) l (Err WrongSize) l
+  item_refused e k =
+      let t : ltb 64 (length (its_item c b)) ≡ true = rw (carried ∙ e) (lt-ltb 64 (length b) k) in
+      rw (eq-eqb (length l) 256 h, t) record { answer = refl; line = refl }
 
-  pub call_written : (m : List ℕ) (r : ℕ) → t ≡ false → Wrote l 0 (frame_text f.number f.words b) r m
-      → Writes (line_refusal l (item_refusal (its_item c b))) (line_of c (its_item c b)) l (Count r) m
+  short : (s.item ≡ true → length b ≤ 64) → length (its_item c b) ≤ 64
+  short k = go (carries c) refl
+    where
+      go : (i : Bool) → carries c ≡ i → length (if i then b else []) ≤ 64
+      go true e = k (sym carried ∙ e)
+      go false e = omega arith
+
+  pub call_written : (m : List ℕ) (r : ℕ) → (s.item ≡ true → length b ≤ 64) → Wrote l 0 (frame_text f.number f.words b) r m
+      → Writes (line_refusal l (item_refusal (its_item c b))) (line_of c (its_item c b)) l (Ok r) m
   unfolding frame_text
   call_written m r k w =
       let q : frame_text f.number f.words b ≡ line_of c (its_item c b) = rw ef (sym (line_frame c b)) ∙ sym (passed_over c b) in
-      let short : length (its_item c b) ≤ 64 = ltb-false 64 (length (its_item c b)) (tested ∙ k) in
-      rw (eq-eqb (length l) 256 h, tested, k) (written (line_of c (its_item c b)) l m r h (line_short c (its_item c b) (λ e. short)) (rw q at w))
+      rw (eq-eqb (length l) 256 h, le-ltb 64 (length (its_item c b)) (short k))
+      (written (line_of c (its_item c b)) l m r h (line_short c (its_item c b) (λ e. short k)) (rw q at w))
 
-pub reply_written : (a : Answer) (t : TaskNo) (l m : List ℕ) (r : ℕ) → length l ≡ 256 → Wrote l 0 (reply_of a t) r m → WritesAnswer a t l (Count r) m
+pub reply_written : (a : Answer) (t : TaskNo) (l m : List ℕ) (r : ℕ) → length l ≡ 256 → Wrote l 0 (reply_of a t) r m → WritesAnswer a t l (Ok r) m
 reply_written a t l m r h w = rw (eq-eqb (length l) 256 h) (written (reply_of a t) l m r h (omega (arith, reply_short a t)) w)

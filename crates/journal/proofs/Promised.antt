@@ -2,13 +2,13 @@
 use Prim.Native.Nat.{ℕ, ◌+◌, ◌<◌, ◌≤◌}
 use mathlib.Core.Path.{◌≡◌, refl, sym, ap, ◌∙◌}
 use mathlib.Core.Logic.{inl, inr}
-use mathlib.Core.Bool.{Bool, true, false, ◌&&◌, not}
+use mathlib.Core.Bool.{Bool, true, false, ◌&&◌, false≢true}
 use mathlib.Core.List.{List, [], ◌∷◌, ◌++◌, append_assoc}
 use native.Mathlib.Omega.{arith}
 use lib.ListN.{length, take, drop, length-append, length-take, length-drop}
 use lib.Seq.{sets, length-sets, sets-eq, take_at, drop_at}
-use borrow.Author.Tests.{not-true, not-false}
 use Rattle.lists.proofs.Bools.{and_left, and_right}
+use Rattle.std.specs.Prelude.{is_ok}
 use Rattle.calls.specs.Table.{call_of}
 use Rattle.calls.specs.Words.{fields_of, numbers_in, Small, no_words, frame_of, shape_of}
 use Rattle.calls.proofs.CallAgain.{known_below, row_numbers, shape_small, words_kept, call_again, frame_five}
@@ -18,7 +18,7 @@ use Rattle.fields.specs.Item.{filled}
 use Rattle.fields.specs.Digit.{among}
 use Rattle.fields.proofs.LinePlaces.{within}
 use Rattle.fields.proofs.Stores.{sets_append}
-use Rattle.journal.specs.Types.{Call, Item, Says, NoCall, Read, Place, Shape}
+use Rattle.journal.specs.Types.{Call, Number, Item, Read, Shape}
 use Rattle.journal.specs.Line.{line_of, carries, HasLine}
 use Rattle.journal.specs.Promise.{IsLine, NoLine, ReadsAs}
 use Rattle.journal.specs.Writer.{tabbed, sent_text, shape_text}
@@ -54,7 +54,7 @@ values v a b m k o p q h =
     (e ∙ sets-eq (a ++ b) v 0 (omega (arith, length-append a b)))
 
 -- the parts that were read are the call's line
-module _ (l : List ℕ) (p : Place) (f r : Numbers) (i : Item) where
+module _ (l : List ℕ) (p : Number) (f r : Numbers) (i : Item) where
   abbrev s : Shape
   s = shape_of p.value
 
@@ -86,7 +86,7 @@ module _ (l : List ℕ) (p : Place) (f r : Numbers) (i : Item) where
 still_left : (l : List ℕ) (j : ℕ) → drop j l ≡ 10 ∷ [] → j < length l
 still_left l j e = omega (arith, length-drop j l, ap length e)
 
-read_line : (l : List ℕ) (p : Place) (f r : Numbers) (i : Item) → p ≡ number_at l 0 → f ≡ nums l (shape_of p.value).before 0 no_words p.next
+read_line : (l : List ℕ) (p : Number) (f r : Numbers) (i : Item) → p ≡ number_at l 0 → f ≡ nums l (shape_of p.value).before 0 no_words p.next
     → i ≡ sent_at l f.next (shape_of p.value).item → r ≡ nums l (shape_of p.value).after (shape_of p.value).before f.values i.next
     → (shape_of p.value).known ≡ true → end_of (drop r.next l) ≡ true → IsLine l (read_as (call_of p.value r.values) i.bytes i.len)
 read_line l p f r i ep ef ei er k e =
@@ -163,9 +163,7 @@ line_read c b h =
 said_not_none : (c : Call) (b : List ℕ) → read_as c (filled b) (length b) ≡ no_call → ⊥
 unfolding no_call
 said_not_none c b e =
-    let f : Says c ≡ NoCall 3 = ap (λ (r : Read). r.answer) e in
-    let z : ◌≡◌ {A = ℕ} 0 1 = cc in
-    omega arith
+    false≢true (sym (ap (λ (r : Read). is_ok r.answer) e))
 
 no_line : (l : List ℕ) → read_of l ≡ no_call → NoLine l (read_of l)
 unfolding no_call
@@ -178,7 +176,7 @@ pub reads_as : (l : List ℕ) → ReadsAs l (read_of l)
 unfolding read_of
 reads_as l = go (s.known && end_of (drop r.next l)) refl (no_line l)
   where
-    p : Place
+    p : Number
     p = number_at l 0
 
     s : Shape
@@ -199,24 +197,3 @@ reads_as l = go (s.known && end_of (drop r.next l)) refl (no_line l)
         let d = and_right s.known (end_of (drop r.next l)) e in
         rw e (inl (read_line l p f r i refl refl refl refl k d))
     go false e none = inr (none (rw e refl))
-
--- ---- what the code read, step by step, is what was to be read
-
-module _ (l : List ℕ) (p : Place) (s : Shape) (f : Numbers) (i : Item) (r : Numbers) (b e : Bool) (ep : p ≡ number_at l 0) (es : s ≡ shape_of p.value)
-    (ef : f ≡ nums l s.before 0 no_words p.next) (ei : i ≡ sent_at l f.next s.item) (er : r ≡ nums l s.after s.before f.values i.next)
-    (ee : e ≡ end_of (drop r.next l)) (eb : b ≡ (s.known && e)) where
-  steps : read_end l p.value s i r ≡ read_of l
-  unfolding read_of
-  steps = rw (er, ei, ef, es, ep)
-
-  pub refused_read : (x : Read) → not b ≡ true → x ≡ no_call → ReadsAs l x
-  refused_read x k h =
-      let n : (s.known && end_of (drop r.next l)) ≡ false = rw (← ee, ← eb) (not-true b k) in
-      let q : read_end l p.value s i r ≡ no_call = rw n in
-      rw (h ∙ sym q ∙ steps) (reads_as l)
-
-  pub call_read : (c : Call) → not b ≡ false → c ≡ call_of p.value r.values → ReadsAs l (read_as c i.bytes i.len)
-  call_read c k h =
-      let n : (s.known && end_of (drop r.next l)) ≡ true = rw (← ee, ← eb) (not-false b k) in
-      let q : read_end l p.value s i r ≡ read_as (call_of p.value r.values) i.bytes i.len = rw n in
-      rw (ap (λ (d : Call). read_as d i.bytes i.len) h ∙ sym q ∙ steps) (reads_as l)

@@ -14,14 +14,16 @@ use Rattle.fields.specs.Decimal.{dec}
 use Rattle.fields.specs.Hex.{hex, Bytes}
 use Rattle.fields.specs.Texts.{texts}
 use Rattle.fields.specs.Digit.{among}
-use Rattle.fields.specs.Number.{read_number}
+use Rattle.fields.specs.Number.{got, read_number}
 use Rattle.fields.specs.Item.{byte_of, bytes_in, filled}
 use Rattle.fields.proofs.LinePlaces.{past, within}
 use Rattle.fields.proofs.Digits.{number_front, number_whole, Stops}
 use Rattle.fields.proofs.Pairs.{hex-length, item_front, bytes_fit, bytes_whole, tab_stops}
-use Rattle.journal.specs.Types.{Number, Got, Missing, Item, Place}
+use Rattle.std.specs.Prelude.{Option, Some, None}
+use Rattle.std.specs.Option.{unwrap_or}
+use Rattle.journal.specs.Types.{Number, Item}
 use Rattle.journal.specs.Writer.{tabbed, sent_text}
-use Rattle.journal.specs.Reader.{tab_in, after_tab, place_in, number_at, Numbers, nums, sent_at, end_of}
+use Rattle.journal.specs.Reader.{tab_in, after_tab, no_number, number_at, Numbers, nums, sent_at, end_of}
 
 -- the item that goes with a shape: 0 to 64 bytes, or none
 abbrev pub ItemFits : Bool → List ℕ → Type 0
@@ -68,15 +70,15 @@ module _ (line : List ℕ) where
       → (drop at line ≡ dec (number_at line at).value ++ drop (number_at line at).next line) × ((number_at line at).value ≤ 4294967295)
   place_front at = go (read_number at (drop at line)) refl
     where
-      go : (x : Number) → read_number at (drop at line) ≡ x → (place_in (length line) x).next < length line
-          → (drop at line ≡ dec (place_in (length line) x).value ++ drop (place_in (length line) x).next line) × ((place_in (length line) x).value ≤ 4294967295)
-      go (Got w j) e h = number_front line at w j e
-      go Missing e h = absurd (omega arith)
+      go : (x : Option Number) → read_number at (drop at line) ≡ x → (unwrap_or x (no_number line)).next < length line
+          → (drop at line ≡ dec (unwrap_or x (no_number line)).value ++ drop (unwrap_or x (no_number line)).next line) × ((unwrap_or x (no_number line)).value ≤ 4294967295)
+      go (Some p) e h = number_front line at p.value p.next e
+      go None e h = absurd (omega arith)
 
   pub place_whole : (at n : ℕ) (r : List ℕ) → drop at line ≡ dec n ++ r → n ≤ 4294967295 → Stops r
       → ((number_at line at).value ≡ n) × (drop (number_at line at).next line ≡ r)
   place_whole at n r e h s =
-      let g : read_number at (drop at line) ≡ Got n (at + length (dec n)) = rw e (number_whole n at r h s) in
+      let g : read_number at (drop at line) ≡ got n (at + length (dec n)) = rw e (number_whole n at r h s) in
       (rw g, rw g (past line at (dec n) r e))
 
   -- ---- numbers, each after a tab
@@ -111,7 +113,7 @@ module _ (line : List ℕ) where
       }
 
   -- one number more, by what the code read
-  pub nums_more : (k i : ℕ) (vs : List ℕ) (at t : ℕ) (p : Place) → t ≡ after_tab line at → p ≡ number_at line t
+  pub nums_more : (k i : ℕ) (vs : List ℕ) (at t : ℕ) (p : Number) → t ≡ after_tab line at → p ≡ number_at line t
       → nums line (suc k) i vs at ≡ nums line k (i + 1) (set vs i p.value) p.next
   unfolding nums
   nums_more k i vs at t p e f = rw (f, e)

@@ -3,20 +3,24 @@ use Prim.Native.Nat.{ℕ, ◌+◌, ◌<◌, ◌≤◌}
 use mathlib.Core.Path.{◌≡◌, refl, sym, ap, ◌∙◌}
 use mathlib.Core.Logic.{inl, inr, ⊎_elim}
 use mathlib.Core.Bool.{Bool, true, false, false≢true}
-use mathlib.Core.List.{List, [], ◌++◌, map}
+use mathlib.Core.List.{List, [], ◌∷◌, ◌++◌, map}
 use native.Mathlib.Omega.{arith}
-use lib.ListN.{length, take, drop, replicate, length-append}
+use lib.ListN.{length, get_or, take, drop, replicate, length-append}
 use lib.Seq.{sets, sets-eq, take_at}
 use lib.Dec.{eqb, ltb}
 use borrow.Author.Tests.{eqb-true, eq-eqb, le-ltb, ltb-false}
 use Rattle.std.proofs.Common.{if◌then◌else◌}
+use Rattle.std.specs.Prelude.{Ok, Err}
+use Rattle.calls.specs.declared.refusals.Refusal.TheVariants.{Unsound, StoreLength, NoCall, OutOfRange, NamesNone, WrongSize, NotForIdle, NotWithHold, NoneFree}
+use Rattle.calls.specs.declared.refusals.Refusal.TheVariants.{InUse, NotHis, HisAlready, NotSuspended, MustWait, NoDepth, NoTick, Circle, CountFull}
+use Rattle.calls.specs.Refusals.{number_of}
 use Rattle.calls.specs.Table.{called, call_of}
 use Rattle.calls.specs.Words.{field_of, numbers_in, no_words}
 use Rattle.calls.proofs.CallAgain.{call_again}
 use Rattle.fields.specs.Item.{filled}
-use Rattle.journal.specs.Types.{Call, Answer, TaskNo, Reading, Says, NoCall, Read, Written, Count, NotWritten}
+use Rattle.journal.specs.Types.{Call, Answer, TaskNo, Refusal, Read}
 use Rattle.journal.specs.Line.{line_of, HasLine}
-use Rattle.journal.specs.Told.{Told, tells_call, refused_with, wrote, reads, writes}
+use Rattle.journal.specs.Told.{Told, tells_call, refused_with, wrote, Reading, Written, reads, writes}
 use Rattle.journal.specs.Promise.{Tells, IsLine, NoLine, ReadsAs, Writes, line_refusal, item_refusal, WritesCall, WritesAnswer}
 use Rattle.journal.specs.Reader.{read_as, read_of}
 use Rattle.journal.proofs.Fit.{item_long}
@@ -25,28 +29,56 @@ use Rattle.journal.proofs.LineStores.{line_short}
 
 -- ---- the answers by what they say
 
+-- the refusal that has a number; a number that none has is not asked of
+pub refusal_of : ℕ → Refusal
+refusal_of n =
+    get_or
+    (Unsound ∷ Unsound ∷ StoreLength ∷ NoCall ∷ OutOfRange ∷ NamesNone ∷ WrongSize ∷ NotForIdle ∷ NotWithHold ∷ NoneFree ∷ InUse ∷ NotHis ∷ HisAlready ∷ NotSuspended ∷ MustWait ∷ NoDepth ∷ NoTick ∷ Circle ∷ CountFull ∷ [])
+    n Unsound
+
+pub refusal_again : (r : Refusal) → refusal_of (number_of r) ≡ r
+unfolding refusal_of
+refusal_again Unsound = refl
+refusal_again StoreLength = refl
+refusal_again NoCall = refl
+refusal_again OutOfRange = refl
+refusal_again NamesNone = refl
+refusal_again WrongSize = refl
+refusal_again NotForIdle = refl
+refusal_again NotWithHold = refl
+refusal_again NoneFree = refl
+refusal_again InUse = refl
+refusal_again NotHis = refl
+refusal_again HisAlready = refl
+refusal_again NotSuspended = refl
+refusal_again MustWait = refl
+refusal_again NoDepth = refl
+refusal_again NoTick = refl
+refusal_again Circle = refl
+refusal_again CountFull = refl
+
 reading : Told → Reading
-reading (tells_call w) = Says (call_of w.number (sets no_words 0 (numbers_in (map field_of w.arguments))))
-reading (refused_with n) = NoCall n
-reading (wrote n) = NoCall n
+reading (tells_call w) = Ok (call_of w.number (sets no_words 0 (numbers_in (map field_of w.arguments))))
+reading (refused_with n) = Err (refusal_of n)
+reading (wrote n) = Err (refusal_of n)
 
 reading_again : (x : Reading) → reading (reads x) ≡ x
 unfolding reading
-reading_again (Says c) = ap Says (call_again c).call
-reading_again (NoCall n) = refl
+reading_again (Ok c) = ap Ok (call_again c).call
+reading_again (Err r) = ap Err (refusal_again r)
 
 pub one_reading : (x y : Reading) → reads x ≡ reads y → x ≡ y
 one_reading x y e = sym (reading_again x) ∙ ap reading e ∙ reading_again y
 
 written : Told → Written
-written (tells_call w) = Count 0
-written (refused_with n) = NotWritten n
-written (wrote n) = Count n
+written (tells_call w) = Ok 0
+written (refused_with n) = Err (refusal_of n)
+written (wrote n) = Ok n
 
 written_again : (x : Written) → written (writes x) ≡ x
 unfolding written
-written_again (Count n) = refl
-written_again (NotWritten n) = refl
+written_again (Ok n) = refl
+written_again (Err r) = ap Err (refusal_again r)
 
 pub one_written : (x y : Written) → writes x ≡ writes y → x ≡ y
 one_written x y e = sym (written_again x) ∙ ap written e ∙ written_again y
@@ -102,12 +134,12 @@ pub len_within : (l : List ℕ) (r : Read) → ReadsAs l r → r.len ≤ 64
 len_within l r (inl f) = omega (arith, f.tells.len, item_long f.call f.item f.has)
 len_within l r (inr f) = omega (arith, f.tells.len)
 
-same_call : (c d : Call) → Says c ≡ Says d → c ≡ d
+same_call : (c d : Call) → ◌≡◌ {A = Reading} (Ok c) (Ok d) → c ≡ d
 same_call c d e = ap back e
   where
     back : Reading → Call
-    back (Says x) = x
-    back (NoCall n) = c
+    back (Ok x) = x
+    back (Err r) = c
 
 -- no two calls have one line
 pub one_call : (c d : Call) (a b : List ℕ) → HasLine c a → HasLine d b → line_of c a ≡ line_of d b → (c ≡ d) × (a ≡ b)
@@ -115,7 +147,7 @@ one_call c d a b h k e =
     let r : read_as c (filled a) (length a) ≡ read_as d (filled b) (length b) = sym (line_read c a h) ∙ ap read_of e ∙ line_read d b k in
     let n : length a ≡ length b = ap (λ (x : Read). x.len) r in
     let f : filled a ≡ filled b = ap (λ (x : Read). x.item) r in
-    let g : Says c ≡ Says d = ap (λ (x : Read). x.answer) r in (
+    let g : ◌≡◌ {A = Reading} (Ok c) (Ok d) = ap (λ (x : Read). x.answer) r in (
       same_call c d g,
       sym (taken_back (replicate 64 0) a (item_long c a h))
           ∙ ap (λ (m : ℕ). take m (filled a)) n
@@ -146,7 +178,7 @@ pub record Counted (k : ℕ) (text l : List ℕ) (n : ℕ) (m : List ℕ) : Type
   pub long : n ≡ length text
   pub line : m ≡ text ++ drop (length text) l
 
-pub written_counted : (k : ℕ) (text l : List ℕ) (n : ℕ) (m : List ℕ) → Writes k text l (Count n) m → Counted k text l n m
+pub written_counted : (k : ℕ) (text l : List ℕ) (n : ℕ) (m : List ℕ) → Writes k text l (Ok n) m → Counted k text l n m
 unfolding is_count number_in
 written_counted k text l n m f = go (eqb k 0) refl f.answer f.line
   where
@@ -156,11 +188,11 @@ written_counted k text l n m f = go (eqb k 0) refl f.answer f.line
     go false e a b = absurd (false≢true (sym (ap is_count a)))
 
 -- .. and one that refused gave the number
-pub turned_away : (k : ℕ) (text l : List ℕ) (n : ℕ) (m : List ℕ) → Writes k text l (NotWritten n) m → (eqb k 0 ≡ false) × (n ≡ k)
+pub turned_away : (k : ℕ) (text l : List ℕ) (r : Refusal) (m : List ℕ) → Writes k text l (Err r) m → (eqb k 0 ≡ false) × (number_of r ≡ k)
 unfolding is_count number_in
-turned_away k text l n m f = go (eqb k 0) refl f.answer
+turned_away k text l r m f = go (eqb k 0) refl f.answer
   where
-    go : (z : Bool) → eqb k 0 ≡ z → refused_with n ≡ (if z then wrote (length text) else refused_with k) → (eqb k 0 ≡ false) × (n ≡ k)
+    go : (z : Bool) → eqb k 0 ≡ z → refused_with (number_of r) ≡ (if z then wrote (length text) else refused_with k) → (eqb k 0 ≡ false) × (number_of r ≡ k)
     go true e a = absurd (false≢true (ap is_count a))
     go false e a = (e, ap number_in a)
 
@@ -180,7 +212,7 @@ pub record AsWritten (c : Call) (b l : List ℕ) (n : ℕ) (m : List ℕ) : Type
   pub front : take n m ≡ line_of c b
   pub within : n ≤ length m
 
-pub as_written : (c : Call) (b l : List ℕ) (n : ℕ) (m : List ℕ) → WritesCall c b l (Count n) m → AsWritten c b l n m
+pub as_written : (c : Call) (b l : List ℕ) (n : ℕ) (m : List ℕ) → WritesCall c b l (Ok n) m → AsWritten c b l n m
 as_written c b l n m f =
     let t = line_of c b in
     let g = written_counted _ t l n m f.written in
@@ -192,22 +224,22 @@ as_written c b l n m f =
     }
 
 -- "reading it gives back the call": what the writer counted is read as the call itself and its item
-pub written_reads_back : (c : Call) (b l : List ℕ) (n : ℕ) (m : List ℕ) (r : Read) → WritesCall c b l (Count n) m → ReadsAs (take n m) r
-    → (r.answer ≡ Says c) × Tells r (tells_call (called c)) b
+pub written_reads_back : (c : Call) (b l : List ℕ) (n : ℕ) (m : List ℕ) (r : Read) → WritesCall c b l (Ok n) m → ReadsAs (take n m) r
+    → (r.answer ≡ Ok c) × Tells r (tells_call (called c)) b
 written_reads_back c b l n m r f g =
     let w = as_written c b l n m f in
     let t = round_trip c b r w.has (rw w.front at g) in
-    (one_reading r.answer (Says c) t.answer, t)
+    (one_reading r.answer (Ok c) t.answer, t)
 
 -- "each call whose item is at most 64 bytes has one journal line": with 256 bytes lent it is written, and never refused ..
-pub always_written : (c : Call) (b l : List ℕ) (w : Written) (m : List ℕ) → length l ≡ 256 → length b ≤ 64 → WritesCall c b l w m → w ≡ Count (length (line_of c b))
-always_written c b l w m h k f = one_written w (Count (length (line_of c b))) (rw (eq-eqb (length l) 256 h, le-ltb 64 (length b) k) at f.written.answer)
+pub always_written : (c : Call) (b l : List ℕ) (w : Written) (m : List ℕ) → length l ≡ 256 → length b ≤ 64 → WritesCall c b l w m → w ≡ Ok (length (line_of c b))
+always_written c b l w m h k f = one_written w (Ok (length (line_of c b))) (rw (eq-eqb (length l) 256 h, le-ltb 64 (length b) k) at f.written.answer)
 
 -- .. no other line is read as it ..
 pub one_line : (c : Call) (b l : List ℕ) (r : Read) → ReadsAs l r → Tells r (tells_call (called c)) b → l ≡ line_of c b
 unfolding is_call
 one_line c b l r (inl f) t =
-    let p : Says f.call ≡ Says c = one_reading (Says f.call) (Says c) (sym f.tells.answer ∙ t.answer) in
+    let p : ◌≡◌ {A = Reading} (Ok f.call) (Ok c) = one_reading (Ok f.call) (Ok c) (sym f.tells.answer ∙ t.answer) in
     let n = item_long f.call f.item f.has in
     let h : length b ≤ 64 = omega (arith, t.len, f.tells.len) in
     let q : f.item ≡ b = sym (told_item r _ f.item f.tells n) ∙ told_item r _ b t h in
@@ -215,7 +247,7 @@ one_line c b l r (inl f) t =
 one_line c b l r (inr f) t = absurd (false≢true (ap is_call (sym f.tells.answer ∙ t.answer)))
 
 -- .. and no other call is written so
-pub one_written_call : (c d : Call) (a b l k : List ℕ) (i j : ℕ) (m o : List ℕ) → WritesCall c a l (Count i) m → WritesCall d b k (Count j) o
+pub one_written_call : (c d : Call) (a b l k : List ℕ) (i j : ℕ) (m o : List ℕ) → WritesCall c a l (Ok i) m → WritesCall d b k (Ok j) o
     → take i m ≡ take j o → (c ≡ d) × (a ≡ b)
 one_written_call c d a b l k i j m o f g e =
     let v = as_written c a l i m f in

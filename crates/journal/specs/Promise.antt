@@ -2,10 +2,10 @@
 use Rattle.std.specs.Prelude.{ℕ, ◌≤◌, ◌≡◌, ◌⊎◌, List, [], ◌++◌, length, drop, eqb, ltb, if◌then◌else◌}
 use Rattle.calls.specs.Table.{called}
 use Rattle.fields.specs.Item.{filled}
-use Rattle.journal.specs.Types.{Call, Answer, TaskNo, Read, Written}
+use Rattle.journal.specs.Types.{Call, Answer, TaskNo, Read}
 use Rattle.journal.specs.Line.{line_of, HasLine}
 use Rattle.journal.specs.Reply.{reply_of}
-use Rattle.journal.specs.Told.{Told, tells_call, refused_with, wrote, reads, writes}
+use Rattle.journal.specs.Told.{Told, tells_call, refused_with, wrote, Written, reads, writes}
 
 -- what was read says t, with the bytes b
 pub record Tells (r : Read) (t : Told) (b : List ℕ) : Type 0 where

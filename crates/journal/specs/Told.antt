@@ -1,7 +1,8 @@
 -- What the answers of the reader and of the writers say.
-use Rattle.std.specs.Prelude.{ℕ}
+use Rattle.std.specs.Prelude.{ℕ, Result, Ok, Err}
 use Rattle.calls.specs.Table.{Entry, called}
-use Rattle.journal.specs.Types.{Reading, Says, NoCall, Written, Count, NotWritten}
+use Rattle.calls.specs.Refusals.{number_of}
+use Rattle.journal.specs.Types.{Call, Refusal}
 
 pub data Told : Type 0 where
   -- "Call numbers 1 to 17, arguments in this order"
@@ -11,12 +12,19 @@ pub data Told : Type 0 where
   -- how many bytes were written
   wrote : ℕ → Told
 
+-- what the reader answers: a call, or why there is none; and what a writer answers: how many bytes it wrote, or why none
+abbrev pub Reading : Type 0
+Reading = Result Call Refusal
+
+abbrev pub Written : Type 0
+Written = Result ℕ Refusal
+
 -- what a reading says
 abbrev pub reads : Reading → Told
-reads (Says c) = tells_call (called c)
-reads (NoCall n) = refused_with n
+reads (Ok c) = tells_call (called c)
+reads (Err r) = refused_with (number_of r)
 
 -- what a writer's answer says
 abbrev pub writes : Written → Told
-writes (Count n) = wrote n
-writes (NotWritten n) = refused_with n
+writes (Ok n) = wrote n
+writes (Err r) = refused_with (number_of r)

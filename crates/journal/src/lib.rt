@@ -4,28 +4,14 @@
 mod reader;
 mod writer;
 
-use calls::Call;
+use calls::{Call, Refusal};
 pub use reader::read_call;
 pub use writer::{put_answer, write_answer, write_call};
 
-// What a line says: a call, or the number of a refusal.
-#[derive(Clone, Copy)]
-pub enum Reading {
-    Says(Call),
-    Refused(u32),
-}
-
-// What was read, with a call's item in the first `len` bytes and zeros after it.
-#[derive(Clone, Copy)]
+// What was read: a line's call, or why it is none; and the call's item in the first `len` bytes, with zeros after it.
+#[derive(Clone, Copy, PartialEq, Eq, Debug)]
 pub struct Read {
-    pub answer: Reading,
+    pub answer: Result<Call, Refusal>,
     pub item: [u8; 64],
     pub len: usize,
-}
-
-// What a line's writer answers: how many bytes it wrote, or the number of a refusal.
-#[derive(Clone, Copy)]
-pub enum Written {
-    Count(usize),
-    Refused(u32),
 }

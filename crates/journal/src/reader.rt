@@ -1,74 +1,56 @@
-// The reader. What cannot be read leads to the line's end, where nothing more is read, not even the newline.
-ghost use Rattle.std.specs.Prelude.{◌≡◌, ◌+◌, ◌≤◌, drop};
+// The reader. Each part of a line begins at the place after the part before it.
+ghost use Rattle.std.specs.Prelude.{◌≡◌, ℕ, length, drop};
+ghost use Rattle.std.specs.Option.{unwrap_or};
 ghost use Rattle.journal.specs.Promise.{ReadsAs};
-ghost use Rattle.journal.specs.Reader.{after_tab, number_at, numbers_to, nums, sent_at, end_of, no_call};
+ghost use Rattle.journal.specs.Reader.{after_tab, no_number, no_item, number_at, nums, NumbersRead, sent_at, end_of, read_or_none, read_of};
 
-use crate::{Read, Reading};
-use calls::{Call, Shape};
+use crate::Read;
+use calls::{Call, Refusal, Shape};
 use fields::{Item, Number, read_item, read_number};
-use lists::both;
 
-// A number and the place after it.
-#[derive(Clone, Copy)]
-pub(crate) struct Place {
-    pub(crate) value: u32,
-    pub(crate) next: usize,
-}
-
-// The place after a tab; where there is none, the line's end.
-fn after_tab(line: &[u8], at: usize) -> usize
-    ensures { result ≡ after_tab line.now at }
+// The place after a tab.
+fn after_tab(line: &[u8], at: usize) -> Option<usize>
+    ensures { unwrap_or result (length line.now) ≡ after_tab line.now at }
 {
-    if at >= line.len() {
-        return line.len();
+    if *line.get(at)? == b'\t' {
+        Some(at + 1)
+    } else {
+        None
     }
-    if line[at] != 9 {
-        return line.len();
-    }
-    at + 1
 }
 
-// The number at a place; where there is none, 0 and the line's end.
-fn number_at(line: &[u8], at: usize) -> Place
-    ensures { result ≡ number_at line.now at }
+// A tab and a number.
+fn tabbed_number(line: &[u8], at: usize) -> Option<Number>
+    ensures { unwrap_or result (no_number line.now) ≡ number_at line.now (after_tab line.now at) }
 {
-    match read_number(line, at) {
-        Number::Got(value, next) => Place { value, next },
-        Number::Missing => Place {
-            value: 0,
-            next: line.len(),
-        },
-    }
+    read_number(line, after_tab(line, at)?)
 }
 
-// A tab and a number for each of `count` values, from the place `from` on. Answers the place after them.
-#[tactic(auto, unfolding(crate::specs::Reader::nums))]
-fn read_numbers(line: &[u8], at: usize, from: usize, count: usize, values: &mut [u32; 5]) -> usize
-    requires { from + count ≤ 5 }
-    ensures { numbers_to values.new result ≡ nums line.now count from values.old at }
+// A tab and a number for each of `values`. Answers the place after them.
+fn read_numbers(line: &[u8], at: usize, values: &mut [u32]) -> Option<usize>
+    ensures { NumbersRead line.now (nums line.now (length values.old) 0 values.old at) values.new result }
 {
     let mut next = at;
-    let mut i: usize = 0;
-    while i < count {
-        let f = number_at(line, after_tab(line, next));
-        values[from + i] = f.value;
-        next = f.next;
-        i += 1;
+    for value in values.iter_mut() {
+        let number = tabbed_number(line, next)?;
+        *value = number.value;
+        next = number.next;
     }
-    next
+    Some(next)
 }
 
 // A tab and an item, where there is to be one.
-fn read_sent(line: &[u8], at: usize, item: bool) -> Item
-    ensures { result ≡ sent_at line.now at item }
+fn read_sent(line: &[u8], at: usize, item: bool) -> Option<Item>
+    ensures { unwrap_or result (no_item line.now) ≡ sent_at line.now at item }
 {
     if item {
-        return read_item(line, after_tab(line, at));
-    }
-    Item {
-        bytes: [0u8; 64],
-        len: 0,
-        next: at,
+        Some(read_item(line, after_tab(line, at)?))
+    } else {
+        Some(Item {
+            bytes: [0; 64],
+            len: 0,
+            next: at,
+        })
     }
 }
 
@@ -76,47 +58,47 @@ fn read_sent(line: &[u8], at: usize, item: bool) -> Item
 fn at_end(line: &[u8], at: usize) -> bool
     ensures { result ≡ end_of (drop at line.now) }
 {
-    if at >= line.len() {
-        return false;
-    }
-    if line[at] != 10 {
-        return false;
-    }
-    if at + 1 < line.len() {
-        return false;
-    }
-    true
+    matches!(line.get(at..), Some([b'\n']))
 }
 
-// Refusal 3, with no bytes.
-#[tactic(auto, unfolding(crate::specs::Reader::no_call))]
-fn no_call() -> Read
-    ensures { result ≡ no_call }
+// A line's call and its item.
+fn call_in(line: &[u8]) -> Option<(Call, Item)>
+    ensures { read_or_none result ≡ read_of line.now }
 {
-    Read {
-        answer: Reading::Refused(3),
-        item: [0u8; 64],
-        len: 0,
+    let number = read_number(line, 0)?;
+    let shape = Shape::of(number.value)?;
+    let mut words = [0; 5];
+    let first = read_numbers(line, number.next, &mut words[..shape.before])?;
+    let sent = read_sent(line, first, shape.item)?;
+    let last = read_numbers(
+        line,
+        sent.next,
+        &mut words[shape.before..shape.before + shape.after],
+    )?;
+    if at_end(line, last) {
+        Some((Call::of(number.value, words), sent))
+    } else {
+        None
     }
 }
 
-// The call of a line, or refusal 3.
+// The call of a line, or refusal 3 with no bytes.
 pub fn read_call(line: &[u8]) -> Read
     ensures { ReadsAs line.now result }
 {
-    let number = number_at(line, 0);
-    let shape = Shape::of(number.value);
-    let mut words = [0u32; 5];
-    let first = read_numbers(line, number.next, 0, shape.before, &mut words);
-    let sent = read_sent(line, first, shape.item);
-    let last = read_numbers(line, sent.next, shape.before, shape.after, &mut words);
-    if !both(shape.known, at_end(line, last)) {
-        return no_call();
-    }
-    let bytes = sent.bytes;
-    Read {
-        answer: Reading::Says(Call::of(number.value, words)),
-        item: bytes,
-        len: sent.len,
+    match call_in(line) {
+        Some((call, sent)) => {
+            let item = sent.bytes;
+            Read {
+                answer: Ok(call),
+                item,
+                len: sent.len,
+            }
+        }
+        None => Read {
+            answer: Err(Refusal::NoCall),
+            item: [0; 64],
+            len: 0,
+        },
     }
 }

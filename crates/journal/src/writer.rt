@@ -1,36 +1,33 @@
 // The writers. The places of the parts follow from each other, so none asks for room; the whole line fits in 256 bytes.
-ghost use Rattle.std.specs.Prelude.{◌≡◌, ◌+◌, ◌≤◌, take, drop};
+ghost use Rattle.std.specs.Prelude.{◌≡◌, Some};
 ghost use Rattle.fields.specs.Texts.{texts};
 ghost use Rattle.fields.specs.Wrote.{Wrote};
 ghost use Rattle.calls.specs.Said.{said};
+ghost use Rattle.calls.specs.Shapes.{shape_told};
+ghost use Rattle.calls.specs.Words.{shape_of};
 ghost use Rattle.journal.specs.Line.{its_item};
 ghost use Rattle.journal.specs.Reply.{word_of, reply_of};
 ghost use Rattle.journal.specs.Writer.{tabbed, sent_text, frame_text};
 ghost use Rattle.journal.specs.Promise.{WritesCall, WritesAnswer};
 
-use crate::Written;
-use calls::{Answer, Call, Frame, Shape, TaskNo};
+use calls::{Answer, Call, Frame, Refusal, Shape, TaskNo};
 use fields::{put, put_all, put_hex, put_number};
-use lists::both;
 
 // A tab and a number.
 fn put_field(line: &mut [u8], at: usize, n: u32) -> usize
     ensures { Wrote line.old at (tabbed n) result line.new }
 {
-    let digits = put(line, at, 9);
-    put_number(line, digits, n as u64)
+    let digits = put(line, at, b'\t');
+    put_number(line, digits, u64::from(n))
 }
 
-// A tab and a number for each of `count` values, from the place `from` on.
-fn put_numbers(line: &mut [u8], at: usize, values: [u32; 5], from: usize, count: usize) -> usize
-    requires { from + count ≤ 5 }
-    ensures { Wrote line.old at (texts tabbed (take count (drop from values))) result line.new }
+// A tab and a number for each of `values`.
+fn put_numbers(line: &mut [u8], at: usize, values: &[u32]) -> usize
+    ensures { Wrote line.old at (texts tabbed values.now) result line.new }
 {
     let mut next = at;
-    let mut i: usize = 0;
-    while i < count {
-        next = put_field(line, next, values[from + i]);
-        i += 1;
+    for &n in values {
+        next = put_field(line, next, n);
     }
     next
 }
@@ -40,37 +37,39 @@ fn put_sent(line: &mut [u8], at: usize, sent: bool, item: &[u8]) -> usize
     ensures { Wrote line.old at (sent_text sent item.now) result line.new }
 {
     if sent {
-        let digits = put(line, at, 9);
+        let digits = put(line, at, b'\t');
         return put_hex(line, digits, item);
     }
     at
 }
 
 // The whole line of a frame.
-fn put_frame(line: &mut [u8], f: Frame, item: &[u8]) -> usize
+#[tactic(auto, using(calls::proofs::CallAgain::shape_small))]
+fn put_frame(line: &mut [u8], f: Frame, shape: Shape, item: &[u8]) -> usize
+    requires { shape_told (Some shape) ≡ shape_of f.number }
     ensures { Wrote line.old 0 (frame_text f.number f.words item.now) result line.new }
 {
-    let shape = Shape::of(f.number as u32);
-    let v = f.words;
-    let first = put_number(line, 0, f.number as u64);
-    let sent = put_numbers(line, first, v, 0, shape.before);
+    let words = f.words;
+    let first = put_number(line, 0, u64::from(f.number));
+    let sent = put_numbers(line, first, &words[..shape.before]);
     let last = put_sent(line, sent, shape.item, item);
-    let end = put_numbers(line, last, v, shape.before, shape.after);
-    put(line, end, 10)
+    let end = put_numbers(line, last, &words[shape.before..shape.before + shape.after]);
+    put(line, end, b'\n')
 }
 
-// The line of a call, in the first bytes of the lent line. An item lent beside a call that carries none is passed over.
-pub fn write_call(call: Call, item: &[u8], line: &mut [u8]) -> Written
+// The line of a call, in the first bytes of the lent line: how many they are. An item lent beside a call that carries none is passed over.
+pub fn write_call(call: Call, item: &[u8], line: &mut [u8]) -> Result<usize, Refusal>
     ensures { WritesCall call (its_item call item.now) line.old result line.new }
 {
     let f = call.frame();
+    let shape = call.shape();
     if line.len() != 256 {
-        return Written::Refused(2);
+        return Err(Refusal::StoreLength);
     }
-    if both(Shape::of(f.number as u32).item, item.len() > 64) {
-        return Written::Refused(6);
+    if shape.item && item.len() > 64 {
+        return Err(Refusal::WrongSize);
     }
-    Written::Count(put_frame(line, f, item))
+    Ok(put_frame(line, f, shape, item))
 }
 
 // The word of an answer.
@@ -78,8 +77,7 @@ fn put_word(line: &mut [u8], at: usize, answer: Answer) -> usize
     ensures { Wrote line.old at (word_of (said answer).word) result line.new }
 {
     match answer {
-        Answer::Done => put_all(line, at, b"ok"),
-        Answer::Made(_) => put_all(line, at, b"ok"),
+        Answer::Done | Answer::Made(_) => put_all(line, at, b"ok"),
         Answer::Waiting => put_all(line, at, b"wait"),
         Answer::Refused(_) => put_all(line, at, b"no"),
     }
@@ -90,10 +88,8 @@ fn number_of(answer: Answer) -> u32
     ensures { result ≡ (said answer).number }
 {
     match answer {
-        Answer::Done => 0,
-        Answer::Made(n) => n,
-        Answer::Waiting => 0,
-        Answer::Refused(n) => n,
+        Answer::Made(n) | Answer::Refused(n) => n,
+        Answer::Done | Answer::Waiting => 0,
     }
 }
 
@@ -104,15 +100,15 @@ pub fn put_answer(line: &mut [u8], at: usize, answer: Answer, running: TaskNo) -
     let word = put_word(line, at, answer);
     let number = put_field(line, word, number_of(answer));
     let last = put_field(line, number, running.number());
-    put(line, last, 10)
+    put(line, last, b'\n')
 }
 
 // The same in the first bytes of a lent line.
-pub fn write_answer(answer: Answer, running: TaskNo, line: &mut [u8]) -> Written
+pub fn write_answer(answer: Answer, running: TaskNo, line: &mut [u8]) -> Result<usize, Refusal>
     ensures { WritesAnswer answer running line.old result line.new }
 {
     if line.len() != 256 {
-        return Written::Refused(2);
+        return Err(Refusal::StoreLength);
     }
-    Written::Count(put_answer(line, 0, answer, running))
+    Ok(put_answer(line, 0, answer, running))
 }

@@ -1,15 +1,14 @@
 -- The wakes of a set, one after the other: what is still to be done, and what is done, make together what the set does.
-use Rattle.std.proofs.Common.{◌≡◌, ℕ, zero, suc, ◌+◌, ◌<◌, ◌≤◌, List, [], ◌∷◌, length, sym, refl, ap, ◌∙◌, arith, length-set}
+use Rattle.std.proofs.Common.{◌≡◌, ℕ, zero, suc, ◌+◌, ◌<◌, ◌≤◌, true, List, [], ◌∷◌, length, sym, refl, ap, ◌∙◌, arith, length-set}
+use mathlib.Core.Bool.{false≢true}
 use lib.Bits.{bit_or}
-use lib.Seq.{length-sets}
 use Rattle.lists.specs.Lists.{foldl}
-use Rattle.items.specs.Bytes.{put_at}
 use Rattle.numbers.specs.declared.TaskSlot.{TaskSlot}
 use Rattle.numbers.specs.declared.ObjSlot.{ObjSlot}
 use Rattle.slots.specs.declared.Task.{Task}
 use Rattle.slots.specs.declared.Place.TheVariants.{Ready}
 use Rattle.slots.specs.Who.{those_satisfied_on}
-use Rattle.slots.specs.Wants.{clears, want_in}
+use Rattle.slots.specs.Wants.{clears, want_in, satisfied_on}
 use Rattle.slots.specs.Values.{task_at}
 use Rattle.tasks.specs.Columns.{rows_of}
 use Rattle.tasks.proofs.Columns.{rows_of_lem}
@@ -18,7 +17,8 @@ use Rattle.rules.specs.Lines.{first, to_tail}
 use Rattle.rules.specs.Waits.{arrives}
 use Rattle.rules.specs.Events.{slip_bits, and_on, woken_in, woken_by, all_woken, clears_of, store_set}
 use Rattle.rules.proofs.EventCases.{none_woken, one_woken}
-use Rattle.rules.proofs.TableWithin.{first_within}
+use Rattle.rules.proofs.TableWithin.{first_meant, first_within}
+use Rattle.rules.proofs.KeepTaken.{each_task}
 use Rattle.kernel.specs.Types.{Core}
 use Rattle.kernel.specs.Stands.{core_of, shown_core}
 use Rattle.kernel.specs.Does.{Firm}
@@ -53,10 +53,13 @@ many_still : (j : State) (t : TaskSlot) → length (arrives j t Ready 1).tasks �
 unfolding arrives to_tail
 many_still j t = length-set j.tasks t.0 _
 
--- bytes put into a store leave its length
-pub put_many : (at : ℕ) (bytes store : List ℕ) → length (put_at at bytes store) ≡ length store
-unfolding put_at
-put_many at bytes store = length-sets store at bytes
+-- whom the bits satisfy still asks what it asked in the state s
+abbrev Still : ObjSlot → ℕ → State → TaskSlot → Task → Type 0
+Still o b s t x = satisfied_on o b x.place ≡ true → clears (want_in x.place) ≡ clears (want_in (task_at s.tasks t).place)
+
+still_so : (o : ObjSlot) (b : ℕ) (s j : State) (u : TaskSlot) → ((t : TaskSlot) → Still o b s t (task_at j.tasks t)) → (t : TaskSlot) → Still o b s t (task_at (arrives j u Ready 1).tasks t)
+unfolding arrives to_tail
+still_so o b s j u f = each_task j.tasks u _ (Still o b s) (λ e. absurd (false≢true e)) f
 
 -- from the state s and the store before, i wakes are done, or none is left
 pub record Rousing (o : ObjSlot) (b : ℕ) (s : State) (before : List ℕ) (k : Core) (m i : ℕ) (store : List ℕ) : Type 0 where
@@ -65,6 +68,7 @@ pub record Rousing (o : ObjSlot) (b : ℕ) (s : State) (before : List ℕ) (k : 
   pub steps : left + i ≡ 16
   pub stands : k ≡ core_of now
   pub full : length now.tasks ≡ 16
+  pub still : (t : TaskSlot) → Still o b s t (task_at now.tasks t)
   pub woken : all_woken now (woken_in left now o b) ≡ all_woken s (woken_in 16 s o b)
   pub asked : asking s.tasks m (woken_in left now o b) ≡ asking s.tasks 0 (woken_in 16 s o b)
   pub told : telling b store (woken_in left now o b) ≡ telling b before (woken_in 16 s o b)
@@ -80,7 +84,7 @@ module _ {self : Core} (F : Firm self) (o : ObjSlot) (b : ℕ) where
       ap length (sym (rows_of_lem s.tasks) ∙ ap (λ (k : Core). rows_of k.tasks) (sym h ∙ F.stands) ∙ rows_of_lem (shown_core self).tasks) ∙ F.sound.tables.task_slots
 
   pub rouse_begins : (before : List ℕ) → Rouses o b self before self 0 0 before
-  rouse_begins before s h = record { now = s; left = 16; steps = refl; stands = h; full = sixteen s h; woken = refl; asked = refl; told = refl }
+  rouse_begins before s h = record { now = s; left = 16; steps = refl; stands = h; full = sixteen s h; still = λ t e. refl; woken = refl; asked = refl; told = refl }
 
   module _ {before store : List ℕ} {k : Core} {m i : ℕ} (G : Rouses o b self before k m i store) (more : i < 16) where
     -- nobody is left
@@ -102,6 +106,7 @@ module _ {self : Core} (F : Firm self) (o : ObjSlot) (b : ℕ) where
               steps = refl;
               stands = (G s h).stands;
               full = (G s h).full;
+              still = (G s h).still;
               woken = ap (all_woken j) (none 0 ∙ sym (none n)) ∙ a;
               asked = ap (asking s.tasks m) (none 0 ∙ sym (none n)) ∙ c;
               told = ap (telling b store) (none 0 ∙ sym (none n)) ∙ d;
@@ -115,7 +120,7 @@ module _ {self : Core} (F : Firm self) (o : ObjSlot) (b : ℕ) where
           omega (arith, first_within g.now (those_satisfied_on o b) t (sym (f g.now g.stands)), g.full)
 
       pub rouse_next : {k' : Core} {store' : List ℕ} {c : ℕ} → ((s : State) → k ≡ core_of s → k' ≡ core_of (arrives s t Ready 1))
-          → ((s : State) → self ≡ core_of s → c ≡ clears (want_in (task_at s.tasks t).place)) → store' ≡ slip_bits b t store
+          → ((s : State) → k ≡ core_of s → c ≡ clears (want_in (task_at s.tasks t).place)) → store' ≡ slip_bits b t store
           → Rouses o b self before k' (bit_or m c) (i + 1) store'
       rouse_next {k'} {store'} {c} a e q s h = go (G s h).left (G s h).steps (G s h).woken (G s h).asked (G s h).told
         where
@@ -128,8 +133,11 @@ module _ {self : Core} (F : Firm self) (o : ObjSlot) (b : ℕ) where
           rest : ℕ → List TaskSlot
           rest n = woken_in n (arrives j t Ready 1) o b
 
-          still : length (arrives j t Ready 1).tasks ≡ 16
-          still = many_still j t ∙ (G s h).full
+          asks : c ≡ clears (want_in (task_at s.tasks t).place)
+          asks = e j (G s h).stands ∙ (G s h).still t (first_meant j (those_satisfied_on o b) t this)
+
+          many : length (arrives j t Ready 1).tasks ≡ 16
+          many = many_still j t ∙ (G s h).full
 
           go : (n : ℕ) → n + i ≡ 16 → all_woken j (woken_in n j o b) ≡ all_woken s (woken_in 16 s o b) → asking s.tasks m (woken_in n j o b) ≡ asking s.tasks 0 (woken_in 16 s o b)
               → telling b store (woken_in n j o b) ≡ telling b before (woken_in 16 s o b) → Rousing o b s before k' (bit_or m c) (i + 1) store'
@@ -140,9 +148,10 @@ module _ {self : Core} (F : Firm self) (o : ObjSlot) (b : ℕ) where
                 left = n;
                 steps = omega arith;
                 stands = a j (G s h).stands;
-                full = still;
+                full = many;
+                still = still_so o b s j t (G s h).still;
                 woken = sym (ap (all_woken j) (one_first o b n j t this) ∙ one_woken j t (rest n)) ∙ w;
-                asked = ap (λ (p : ℕ). asking s.tasks (bit_or m p) (rest n)) (e s h) ∙ sym (ap (asking s.tasks m) (one_first o b n j t this) ∙ one_asked s.tasks m t (rest n)) ∙ x;
+                asked = ap (λ (p : ℕ). asking s.tasks (bit_or m p) (rest n)) asks ∙ sym (ap (asking s.tasks m) (one_first o b n j t this) ∙ one_asked s.tasks m t (rest n)) ∙ x;
                 told = ap (λ (r : List ℕ). telling b r (rest n)) q ∙ sym (ap (telling b store) (one_first o b n j t this) ∙ one_told b store t (rest n)) ∙ y;
               }
 

@@ -15,11 +15,15 @@ use Rattle.slots.specs.declared.Place.{Place}
 use Rattle.slots.specs.declared.Place.TheVariants.{Free, Ready, Delayed, Waiting, Suspended, Spent}
 use Rattle.slots.specs.declared.Task.{Task}
 use Rattle.slots.specs.declared.Object.{Object}
+use Rattle.slots.specs.declared.Sort.{Sort}
+use Rattle.slots.specs.Types.{Holder}
+use Rattle.slots.specs.declared.Kind.{Kind}
+use Rattle.slots.specs.declared.Kind.TheVariants.{Unused, Spent as SpentObject, Queue, Mutex, Group}
 use Rattle.slots.specs.Places.{is_ready, waited_on}
 use Rattle.slots.specs.Kinds.{unused, holder_of, kind_at}
 use Rattle.slots.specs.Values.{levelled, task_at}
 use Rattle.slots.proofs.Sweeps.{values_of}
-use Rattle.tasks.specs.declared.Woken.{Woken}
+use Rattle.tasks.specs.Dues.{Woken}
 use Rattle.tasks.specs.Columns.{tasks_of, rows_of, row_at}
 use Rattle.tasks.proofs.Columns.{rows_of_lem}
 use Rattle.tasks.specs.Dues.{woken, tailed, wake_now, wait_ends}
@@ -201,6 +205,14 @@ module _ {k : Core} (F : Firm k) (s : State) (e : k ≡ core_of s) where
 
   pub none_leads : false ≡ leads_to s.tasks s.objects (task 16) s.running
   none_leads = sym (nobody_leads s.tasks s.objects s.running)
+
+  -- from what is no mutex no chain leads anywhere
+  pub no_mutex_leads : (x : Kind) → ((m : Sort) (h : Holder) → x ≡ Mutex m h → ⊥) → false ≡ leads_to s.tasks s.objects (holder_of x) s.running
+  no_mutex_leads Unused n = none_leads
+  no_mutex_leads SpentObject n = none_leads
+  no_mutex_leads (Queue q) n = none_leads
+  no_mutex_leads (Mutex m h) n = absurd (n m h refl)
+  no_mutex_leads (Group b) n = none_leads
 
 -- nothing is to be worked out of them
 pub nothing_to_do : {k : Core} → Reckons k → Does k worked_out k

@@ -30,14 +30,8 @@ past_three m n l a b c = omega arith
 pub from_ten : (n : ℕ) → 1 ≤ n → (n ≡ 1 → ⊥) → (n ≡ 2 → ⊥) → (n ≡ 3 → ⊥) → (n ≡ 4 → ⊥) → (n ≡ 5 → ⊥) → (n ≡ 6 → ⊥) → (n ≡ 7 → ⊥) → (n ≡ 8 → ⊥) → (n ≡ 9 → ⊥) → 10 ≤ n
 from_ten n l a b c d e f g h i = past_three 7 n (past_three 4 n (past_three 1 n l a b c) d e f) g h i
 
-pub under_one : (n : ℕ) → n < 1 → n ≡ 0
-under_one n l = omega arith
-
 pub at_most : (n : ℕ) → n < 21 → n ≤ 20
 at_most n l = omega arith
-
-pub from_24 : (n : ℕ) → 21 ≤ n → (n ≡ 21 → ⊥) → (n ≡ 22 → ⊥) → (n ≡ 23 → ⊥) → 24 ≤ n
-from_24 n l a b c = past_three 21 n l a b c
 
 by_writes : (n : ℕ) → Writes n → (P : Type 0) → (n ≡ 10 → P) → (n ≡ 11 → P) → (n ≡ 12 → P) → (n ≡ 19 → P) → (n ≡ 20 → P) → P
 by_writes n W P a b c d e = go (eqb n 10) refl (eqb n 11) refl (eqb n 12) refl (eqb n 19) refl

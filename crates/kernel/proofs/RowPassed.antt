@@ -1,5 +1,5 @@
 -- What the rows that do not apply say of an accepted call, and of the kernel value.
-use Rattle.std.proofs.Common.{◌≡◌, ℕ, true, false, ◌&&◌, eqb, ltb, ap, ◌∙◌}
+use Rattle.std.proofs.Common.{◌≡◌, ℕ, true, false, ◌&&◌, eqb, ltb, sym, ap, ◌∙◌, ne_eqb}
 use Rattle.calls.specs.declared.Asked.{Asked}
 use Rattle.slots.specs.Kinds.{kind_at}
 use Rattle.rules.specs.State.{State}
@@ -16,11 +16,16 @@ use Rattle.kernel.specs.Stands.{shown_core}
 use Rattle.kernel.specs.Does.{Reads, Firm, Turning}
 use Rattle.kernel.proofs.Stands.{same_running, same_hold, same_pended}
 
+-- a store of another length is turned away by the table's first row
+pub wrong_length : (s : State) (a : Asked) (item store : ℕ) → (store ≡ 9216 → ⊥) → 2 ≡ later_row s a item store
+unfolding later_row table
+wrong_length s a item store other = rw (ne_eqb store 9216 other)
+
 -- what was seen is what the table looks at, and has the new slot
 module _ (s : State) (a : Asked) (x : Seen) (e : x ≡ seen s a) where
-  pub row_of : (item store : ℕ) → first_row (table x a item store) ≡ later_row s a item store
+  pub row_of : (item store : ℕ) → store ≡ 9216 → first_row (table x a item 9216) ≡ later_row s a item store
   unfolding later_row
-  row_of item store = ap (λ (y : Seen). first_row (table y a item store)) e
+  row_of item store whole = ap (λ (y : Seen). first_row (table y a item 9216)) e ∙ ap (λ (n : ℕ). first_row (table (seen s a) a item n)) (sym whole)
 
   pub new_of : makes a ≡ true → x.new ≡ new_slot s a
   new_of m = ap (λ (y : Seen). y.new) e ∙ rw m
@@ -31,9 +36,6 @@ module _ (k : Core) (F : Firm k) (a : Asked) (item store : ℕ) (e : later_row (
 
   pub in_range : InRange a
   in_range = in_range_of a P.in_range
-
-  pub whole : store ≡ 9216
-  whole = P.whole
 
   pub right_size : a.number ≡ 13 → size_differs item (kind_at (shown_core k).objects a.object) ≡ false
   right_size n = send_sized (shown_core k) a item store n e

@@ -1,17 +1,19 @@
 -- The session's code: a line's step, and the loop over the lines of a block.
-use Rattle.std.proofs.Common.{◌≡◌, ℕ, ◌+◌, ◌-◌, ◌<◌, ◌≤◌, Bool, true, false, not, ◌&&◌, ◌||◌, eqb, ltb, List, [], ◌∷◌, ◌++◌, length, take, drop, set, sym, refl, ap, ◌∙◌, subst, arith, length-append, length-set, ltb-false, ltb-true, le-ltb, lt-ltb, if◌then◌else◌}
+use Rattle.std.proofs.Common.{◌≡◌, ℕ, ◌+◌, ◌-◌, ◌<◌, ◌≤◌, Bool, true, false, ◌&&◌, ◌||◌, eqb, ltb, ◌⊎◌, inl, inr, List, [], ◌∷◌, ◌++◌, length, take, drop, set, sym, refl, ap, ◌∙◌, subst, arith, length-append, length-set, Some, None, Ok, Err, le-ltb, lt-ltb, if◌then◌else◌}
 use mathlib.Core.Bool.{false≢true}
+use lib.ListN.{length-drop}
 use lib.Seq.{sets-eq, take-length}
-use Rattle.lists.proofs.Bools.{or_off}
 use Rattle.calls.specs.declared.Call.{Call}
+use Rattle.calls.specs.declared.refusals.Refusal.{Refusal}
+use Rattle.calls.specs.declared.refusals.Refusal.TheVariants.{Unsound}
+use Rattle.calls.specs.Refusals.{number_of}
 use Rattle.calls.specs.declared.Answer.TheVariants.{Refused as NotDone}
 use Rattle.calls.specs.Behind.{asked}
 use Rattle.calls.specs.Door.{task_no}
 use Rattle.fields.specs.Wrote.{Wrote}
 use Rattle.fields.proofs.Stores.{wrote_then, wrote_none, wrote_length}
 use Rattle.journal.specs.declared.Read.{Read}
-use Rattle.journal.specs.declared.Reading.{Reading}
-use Rattle.journal.specs.declared.Reading.TheVariants.{Says, Refused}
+use Rattle.journal.specs.Told.{Reading}
 use Rattle.journal.specs.Promise.{ReadsAs}
 use Rattle.journal.specs.Reply.{reply, reply_of}
 use Rattle.calls.specs.Words.{shape_of}
@@ -19,9 +21,8 @@ use Rattle.journal.specs.Reader.{no_call, read_of}
 use Rattle.journal.proofs.LineStores.{reply_short}
 use Rattle.journal.proofs.Theorems.{read_is, len_within}
 use Rattle.cuts.specs.declared.Cut.{Cut}
-use Rattle.cuts.specs.declared.Stop.{Stop}
 use Rattle.cuts.specs.Keeping.{cut_of, with_byte, ended, is_blank, Gathered, gathered, Gathers}
-use Rattle.cuts.proofs.Gathering.{gathered_newline, gathered_other, one_on}
+use Rattle.cuts.proofs.Gathering.{gathered_newline, gathered_other, one_on, Left, left, told_newline, told_none}
 use Rattle.rules.specs.State.{State}
 use Rattle.rules.specs.Sound.{sound}
 use Rattle.rules.specs.Refusals.{later_row, refusal}
@@ -30,7 +31,7 @@ use Rattle.rules.specs.Sessions.{no_line_of, no_line, step_told, step_read, read
 use Rattle.rules.proofs.KeepEvery.{step_kept}
 use Rattle.kernel.specs.Types.{Kernel, Uses, Step, Served}
 use Rattle.kernel.specs.Stands.{kernel_of, shown, standing}
-use Rattle.kernel.specs.Promises.{Is, SoundSteps, Ran}
+use Rattle.kernel.specs.Promises.{came, Is, SoundSteps, Ran}
 use Rattle.kernel.proofs.Shown.{shown_running, shown_uses, stays_standing, next_shown}
 
 -- ---- what a line says
@@ -83,36 +84,36 @@ read_as k s r t d q after e f = subst (λ (x : Stepped). Is k x q after) (sym (a
 
 -- a line that is no call's, and any line where the kernel is not sound, is turned away
 module _ (k : Kernel) (s : List ℕ) (r : Read) (stands : sound (shown k) ≡ true → k ≡ kernel_of (shown k)) where
-  away : (t : Reading) (n : ℕ) → r.answer ≡ t → step_told (shown k) s t (item_of r) ≡ turned_away (shown k) n s
-      → Is k (step_read (shown k) s r) record { kernel = k; answer = NotDone n } s
-  away t n p q = read_as k s r t (turned_away (shown k) n s) record { kernel = k; answer = NotDone n } s p q record { kernel = stays_standing k stands; answer = refl; store = refl }
+  away : (t : Reading) (n : Refusal) → r.answer ≡ t → step_told (shown k) s t (item_of r) ≡ turned_away (shown k) (number_of n) s
+      → Is k (step_read (shown k) s r) (came k (Err n)) s
+  away t n p q = read_as k s r t (turned_away (shown k) (number_of n) s) (came k (Err n)) s p q record { kernel = stays_standing k stands; answer = refl; store = refl }
 
-  pub unsound_step : (c : Call) → r.answer ≡ Says c → sound (shown k) ≡ false → Is k (step_read (shown k) s r) record { kernel = k; answer = NotDone 1 } s
-  unsound_step c p f = away (Says c) 1 p (step_by false (shown k) c (item_of r) s f)
+  pub unsound_step : (c : Call) → r.answer ≡ Ok c → sound (shown k) ≡ false → Is k (step_read (shown k) s r) (came k (Err Unsound)) s
+  unsound_step c p f = away (Ok c) Unsound p (step_by false (shown k) c (item_of r) s f)
 
-  pub no_line_step : (m : ℕ) (b : Bool) (n : ℕ) → r.answer ≡ Refused m → b ≡ sound (shown k) → n ≡ no_line_of b (length s)
-      → Is k (step_read (shown k) s r) record { kernel = k; answer = NotDone n } s
-  no_line_step m b n p e q = away (Refused m) n p (ap (λ (x : ℕ). turned_away (shown k) x s) (no_line_lem (shown k) s b e ∙ sym q))
+  pub no_line_step : (m : Refusal) (b : Bool) (n : Refusal) → r.answer ≡ Err m → b ≡ sound (shown k) → number_of n ≡ no_line_of b (length s)
+      → Is k (step_read (shown k) s r) (came k (Err n)) s
+  no_line_step m b n p e q = away (Err m) n p (ap (λ (x : ℕ). turned_away (shown k) x s) (no_line_lem (shown k) s b e ∙ sym q))
 
 -- else the step is the call's
-pub sound_step : (k : Kernel) (s : List ℕ) (r : Read) (c : Call) (q : Step) (after : List ℕ) → r.answer ≡ Says c → sound (shown k) ≡ true
+pub sound_step : (k : Kernel) (s : List ℕ) (r : Read) (c : Call) (q : Step) (after : List ℕ) → r.answer ≡ Ok c → sound (shown k) ≡ true
     → SoundSteps k (asked k.uses c) (item_of r) s q after → Is k (step_read (shown k) s r) q after
-sound_step k s r c q after p f d = read_as k s r (Says c) _ q after p (step_by true (shown k) c (item_of r) s f)
+sound_step k s r c q after p f d = read_as k s r (Ok c) _ q after p (step_by true (shown k) c (item_of r) s f)
     (subst (λ (us : Uses). SoundSteps k (asked us c) (item_of r) s q after) (sym (shown_uses k)) d)
 
 -- a line's step leaves the kernel as sound as it was
 told_keeps : (k : State) (s : List ℕ) (t : Reading) (item : List ℕ) (b : Bool) → sound k ≡ b → sound (step_told k s t item).kernel ≡ b
-told_keeps k s (Refused n) item b e = e
-told_keeps k s (Says c) item true e = step_kept k c item s e
-told_keeps k s (Says c) item false e = ap (λ (x : Stepped). sound x.kernel) (step_by false k c item s e) ∙ e
+told_keeps k s (Err n) item b e = e
+told_keeps k s (Ok c) item true e = step_kept k c item s e
+told_keeps k s (Ok c) item false e = ap (λ (x : Stepped). sound x.kernel) (step_by false k c item s e) ∙ e
 
 pub line_keeps : (k : State) (s : List ℕ) (r : Read) → sound (step_read k s r).kernel ≡ sound k
 line_keeps k s r = told_keeps k s r.answer (item_of r) (sound k) refl
 
 -- and one that is not sound as it was
 told_stays : (k : State) (s : List ℕ) (t : Reading) (item : List ℕ) → sound k ≡ false → (step_told k s t item).kernel ≡ k
-told_stays k s (Refused n) item e = refl
-told_stays k s (Says c) item e = ap (λ (x : Stepped). x.kernel) (step_by false k c item s e)
+told_stays k s (Err n) item e = refl
+told_stays k s (Ok c) item e = ap (λ (x : Stepped). x.kernel) (step_by false k c item s e)
 
 -- ---- the run
 
@@ -185,55 +186,65 @@ gathered_wide i c (b ∷ l) = go (eqb b 10) (gathered_wide (i + 1) (with_byte c 
     go true h = refl
     go false h = h
 
-pub keeps_wide : (bytes after : List ℕ) (len n b : ℕ) → length bytes ≡ 256 → cut_of after n ≡ with_byte (cut_of bytes len) b → length after ≡ 256
-keeps_wide bytes after len n b w e = ap (λ (c : Cut). length c.bytes) e ∙ kept_wide (cut_of bytes len) b ∙ w
+pub keeps_wide : (c after : Cut) (b : ℕ) → length c.bytes ≡ 256 → after ≡ with_byte c b → length after.bytes ≡ 256
+keeps_wide c after b w e = ap (λ (x : Cut). length x.bytes) e ∙ kept_wide c b ∙ w
 
 -- what is left of the block, run on from here, gives the whole run; the answers so far stand in the output
-pub record Going (k₀ : Kernel) (whole : Run) (lent block : List ℕ) (fine : Bool) (k : Kernel) (s bytes : List ℕ) (len at written : ℕ) (out : List ℕ) : Type 0 where
+pub record Going (k₀ : Kernel) (whole : Run) (lent block : List ℕ) (fine : Bool) (k : Kernel) (s : List ℕ) (c : Cut) (at written : ℕ) (out : List ℕ) : Type 0 where
   pub answers : List ℕ
   pub within : length answers ≤ length lent
-  pub wide : length bytes ≡ 256
+  pub reached : at ≤ length block
+  pub wide : length c.bytes ≡ 256
   pub wrote : Wrote lent 0 answers written out
   pub known : fine ≡ sound (shown k)
   pub same : sound (shown k) ≡ sound (shown k₀)
   pub stand : k ≡ standing k₀ (shown k)
-  pub goes : run (length lent) (under at (shown k) s (cut_of bytes len) answers) (drop at block) ≡ whole
+  pub goes : run (length lent) (under at (shown k) s c answers) (drop at block) ≡ whole
 
 pub set_out : (lent block : List ℕ) (fine : Bool) (k : Kernel) (s : List ℕ) (c : Cut) → length c.bytes ≡ 256 → fine ≡ sound (shown k) → (fine ≡ true → k ≡ kernel_of (shown k))
-    → Going k (run (length lent) (begun (shown k) s c) block) lent block fine k s c.bytes c.len 0 0 lent
+    → Going k (run (length lent) (begun (shown k) s c) block) lent block fine k s c 0 0 lent
 set_out lent block fine k s c w e f =
-    record { answers = []; within = omega arith; wide = w; wrote = wrote_none lent 0; known = e; same = refl; stand = stays_standing k (λ q. f (e ∙ q)); goes = refl }
+    record { answers = []; within = omega arith; reached = omega arith; wide = w; wrote = wrote_none lent 0; known = e; same = refl; stand = stays_standing k (λ q. f (e ∙ q)); goes = refl }
 
 -- the kernel value stands for a state, if it is sound
-pub session_stands : {k₀ : Kernel} {whole : Run} {lent block : List ℕ} {fine : Bool} {k : Kernel} {s bytes : List ℕ} {len at written : ℕ} {out : List ℕ}
-    → Going k₀ whole lent block fine k s bytes len at written out → sound (shown k) ≡ true → k ≡ kernel_of (shown k)
+pub session_stands : {k₀ : Kernel} {whole : Run} {lent block : List ℕ} {fine : Bool} {k : Kernel} {s : List ℕ} {c : Cut} {at written : ℕ} {out : List ℕ}
+    → Going k₀ whole lent block fine k s c at written out → sound (shown k) ≡ true → k ≡ kernel_of (shown k)
 session_stands {k₀} {k = k} w e = w.stand ∙ ap (λ (b : Bool). if b then kernel_of (shown k) else k₀) (sym w.same ∙ e)
 
 -- where the answers end
-pub so_far : {k₀ : Kernel} {whole : Run} {lent block : List ℕ} {fine : Bool} {k : Kernel} {s bytes : List ℕ} {len at written : ℕ} {out : List ℕ}
-    → (w : Going k₀ whole lent block fine k s bytes len at written out) → (written ≡ length w.answers) × (length out ≡ length lent)
+pub so_far : {k₀ : Kernel} {whole : Run} {lent block : List ℕ} {fine : Bool} {k : Kernel} {s : List ℕ} {c : Cut} {at written : ℕ} {out : List ℕ}
+    → (w : Going k₀ whole lent block fine k s c at written out) → (written ≡ length w.answers) × (length out ≡ length lent)
 so_far w = (omega (arith, w.wrote.next, w.within), wrote_length w.wrote)
 
--- the bytes up to the next newline
-pub gathers_on : {k₀ : Kernel} {whole : Run} {lent block : List ℕ} {fine : Bool} {k : Kernel} {s bytes : List ℕ} {len at written : ℕ} {out : List ℕ} {r : Stop} {after : List ℕ}
-    → Going k₀ whole lent block fine k s bytes len at written out → Gathers (gathered at (cut_of bytes len) (drop at block)) r after
-    → Going k₀ whole lent block fine k s after r.len r.next written out
-gathers_on {lent = lent} {block = block} {k = k} {s = s} {bytes = bytes} {len = len} {at = at} {r = r} {after = after} w g = record {
+-- the bytes up to where they are left
+gathers_to : {k₀ : Kernel} {whole : Run} {lent block : List ℕ} {fine : Bool} {k : Kernel} {s : List ℕ} {c : Cut} {at written : ℕ} {out : List ℕ}
+    → Going k₀ whole lent block fine k s c at written out
+    → Going k₀ whole lent block fine k s (gathered at c (drop at block)).cut (gathered at c (drop at block)).next written out
+gathers_to {lent = lent} {block = block} {k = k} {s = s} {c = c} {at = at} w = record {
   answers = w.answers;
   within = w.within;
-  wide = ap (λ (x : Cut). length x.bytes) g.cut ∙ gathered_wide at (cut_of bytes len) (drop at block) ∙ w.wide;
+  reached = go (gathered at c (drop at block)).newline refl;
+  wide = gathered_wide at c (drop at block) ∙ w.wide;
   wrote = w.wrote;
   known = w.known;
   same = w.same;
   stand = w.stand;
-  goes = ap (λ (x : ℕ). run (length lent) (under x (shown k) s (cut_of after r.len) w.answers) (drop x block)) g.next
-      ∙ ap (λ (x : Cut). run (length lent) (under stop.next (shown k) s x w.answers) (drop stop.next block)) g.cut
-      ∙ sym (run-gathered block (drop at block) (length lent) at (shown k) s (cut_of bytes len) w.answers refl)
-      ∙ w.goes;
+  goes = sym (run-gathered block (drop at block) (length lent) at (shown k) s c w.answers refl) ∙ w.goes;
 }
   where
-    stop : Gathered
-    stop = gathered at (cut_of bytes len) (drop at block)
+    l : Left block at (gathered at c (drop at block))
+    l = left block (drop at block) at c refl
+
+    go : (t : Bool) → (gathered at c (drop at block)).newline ≡ t → (gathered at c (drop at block)).next ≤ length block
+    go true e = omega (arith, (l.within e).1)
+    go false e = omega (arith, l.last e w.reached)
+
+-- a newline stands there
+pub gathers_on : {k₀ : Kernel} {whole : Run} {lent block : List ℕ} {fine : Bool} {k : Kernel} {s : List ℕ} {c after : Cut} {at next written : ℕ} {out : List ℕ}
+    → Going k₀ whole lent block fine k s c at written out → Gathers (gathered at c (drop at block)) (Some next) after
+    → Going k₀ whole lent block fine k s after next written out
+gathers_on {k₀} {whole} {lent} {block} {fine} {k} {s} {written = written} {out = out} w g =
+    subst (λ (x : Gathered). Going k₀ whole lent block fine k s x.cut x.next written out) (told_newline g) (gathers_to w)
 
 -- a text that stands first in the output
 first_text : {lent a : List ℕ} {next : ℕ} {out : List ℕ} → Wrote lent 0 a next out → length a ≤ length lent → (next ≡ length a) × (out ≡ a ++ drop (length a) lent)
@@ -241,20 +252,15 @@ first_text {lent} {a} w h =
     let z : 0 + length a ≡ length a = omega arith in
     (omega (arith, w.next), w.line ∙ sets-eq a lent 0 (omega arith) ∙ ap (λ (n : ℕ). a ++ drop n lent) z)
 
--- whether the loop goes on: a newline stands there, and there is room for its answer
-pub goes_on : (newline : Bool) (room : ℕ) (b : Bool) → b ≡ (not newline || ltb room 256) → b ≡ false → (newline ≡ true) × (256 ≤ room)
-goes_on true room b e f = (refl, ltb-false room 256 (sym e ∙ f))
-goes_on false room b e f = absurd (false≢true (sym f ∙ e))
+abbrev served_to : Kernel → Cut → ℕ → ℕ → Served
+served_to k c taken written = record { session = record { kernel = k; cut = c }; taken = taken; written = written }
 
-module _ {k₀ : Kernel} {whole : Run} {lent block : List ℕ} {fine : Bool} {k : Kernel} {s bytes : List ℕ} {len at written : ℕ} {out : List ℕ}
-    (w : Going k₀ whole lent block fine k s bytes len at written out) where
+module _ {k₀ : Kernel} {whole : Run} {lent block : List ℕ} {fine : Bool} {k : Kernel} {s : List ℕ} {c : Cut} {at written : ℕ} {out : List ℕ}
+    (w : Going k₀ whole lent block fine k s c at written out) where
   abbrev here : Run
-  here = under at (shown k) s (cut_of bytes len) w.answers
+  here = under at (shown k) s c w.answers
 
-  abbrev served : Served
-  served = record { session = record { kernel = k; cut = cut_of bytes len }; taken = at; written = written }
-
-  ran : here ≡ whole → Ran (standing k₀ whole.kernel) whole lent served s out
+  ran : here ≡ whole → Ran (standing k₀ whole.kernel) whole lent (served_to k c at written) s out
   ran e =
       let f = first_text w.wrote w.within in
       record {
@@ -266,19 +272,20 @@ module _ {k₀ : Kernel} {whole : Run} {lent block : List ℕ} {fine : Bool} {k 
         output = f.1 ∙ ap (λ (x : Run). x.answers ++ drop (length x.answers) lent) e;
       }
 
-  -- the loop ends: the block is used up, or there is no room
-  pub stopped : (newline b : Bool) → (newline ≡ false → drop at block ≡ []) → (newline ≡ true → drop at block ≡ 10 ∷ drop (at + 1) block)
-      → b ≡ (not newline || ltb (length out - written) 256) → b ≡ true → Ran (standing k₀ whole.kernel) whole lent served s out
+  -- the block is used up
+  ended_here : drop at block ≡ [] → Ran (standing k₀ whole.kernel) whole lent (served_to k c at written) s out
   unfolding run
-  stopped false b none ends e f = ran (sym (ap (run (length lent) here) (none refl)) ∙ w.goes)
-  stopped true b none ends e f =
-      let room : length out - written < 256 = ltb-true (length out - written) 256 (sym e ∙ f) in
+  ended_here none = ran (sym (ap (run (length lent) here) none) ∙ w.goes)
+
+  -- a newline stands there, and there is no room for its answer
+  pub no_room_left : drop at block ≡ 10 ∷ drop (at + 1) block → length out - written < 256 → Ran (standing k₀ whole.kernel) whole lent (served_to k c at written) s out
+  no_room_left ends room =
       let full : length lent < length w.answers + 256 = omega (arith, (so_far w).0, (so_far w).1, w.within) in
-      ran (sym (ap (run (length lent) here) (ends refl) ∙ run_full (length lent) here (drop (at + 1) block) full) ∙ w.goes)
+      ran (sym (ap (run (length lent) here) ends ∙ run_full (length lent) here (drop (at + 1) block) full) ∙ w.goes)
 
   -- a line is answered
   module _ (cut : Cut) (q : Step) (after : List ℕ) (room_next : ℕ) (told_out : List ℕ)
-      (keeps : cut ≡ with_byte (cut_of bytes len) 10)
+      (keeps : cut ≡ with_byte c 10)
       (is : Is k (step_read (shown k) s (read_cut cut)) q after)
       (wrote : Wrote out written (reply_of q.answer (task_no q.kernel.uses q.kernel.core.running)) room_next told_out)
       (room : 256 ≤ length out - written) (ends : drop at block ≡ 10 ∷ drop (at + 1) block) where
@@ -288,7 +295,7 @@ module _ {k₀ : Kernel} {whole : Run} {lent block : List ℕ} {fine : Bool} {k 
     abbrev now : Stepped
     now = step_read (shown k) s (read_cut cut)
 
-    stepped : now ≡ line_step (shown k) s (with_byte (cut_of bytes len) 10)
+    stepped : now ≡ line_step (shown k) s (with_byte c 10)
     unfolding line_step
     stepped = ap (λ (x : Cut). step_read (shown k) s (read_cut x)) keeps
 
@@ -326,22 +333,34 @@ module _ {k₀ : Kernel} {whole : Run} {lent block : List ℕ} {fine : Bool} {k 
         go true false e f = absurd (false≢true (sym e))
         go false true e f = absurd (false≢true e)
 
-    pub answered_on : Going k₀ whole lent block fine q.kernel after cut.bytes 0 (at + 1) room_next told_out
+    pub answered_on : Going k₀ whole lent block fine q.kernel after (cut_of cut.bytes 0) (at + 1) room_next told_out
     answered_on = record {
       answers = w.answers ++ line;
       within = omega (arith, length-append w.answers line, reply_short q.answer (task_no q.kernel.uses q.kernel.core.running), fits);
-      wide = keeps_wide bytes cut.bytes len cut.len 10 w.wide keeps;
+      reached = omega (arith, ap length ends, length-drop at block);
+      wide = keeps_wide c cut 10 w.wide keeps;
       wrote = wrote_then w.wrote wrote;
       known = w.known ∙ sym as_sound;
       same = as_sound ∙ w.same;
       stand = stand_on;
       goes = ap (λ (x : Run). run (length lent) x (drop (at + 1) block)) (sym same)
           ∙ ap (λ (x : Stepped). run (length lent) (answered_by here cut x) (drop (at + 1) block)) stepped
-          ∙ ap (λ (x : Cut). run (length lent) (answered_by here x (line_step (shown k) s (with_byte (cut_of bytes len) 10))) (drop (at + 1) block)) keeps
-          ∙ sym (run_line (length lent) at (shown k) s (cut_of bytes len) w.answers (drop (at + 1) block) fits)
+          ∙ ap (λ (x : Cut). run (length lent) (answered_by here x (line_step (shown k) s (with_byte c 10))) (drop (at + 1) block)) keeps
+          ∙ sym (run_line (length lent) at (shown k) s c w.answers (drop (at + 1) block) fits)
           ∙ sym (ap (run (length lent) here) ends)
           ∙ w.goes;
     }
+
+-- the block has ended before the next newline
+pub ends_there : {k₀ : Kernel} {whole : Run} {lent block : List ℕ} {fine : Bool} {k : Kernel} {s : List ℕ} {c after : Cut} {at written : ℕ} {out : List ℕ}
+    → Going k₀ whole lent block fine k s c at written out → Gathers (gathered at c (drop at block)) None after
+    → Ran (standing k₀ whole.kernel) whole lent (served_to k after (length block) written) s out
+ends_there {k₀} {whole} {lent} {block} {k = k} {s = s} {c = c} {after = after} {at = at} {written = written} {out = out} w g =
+    let l = left block (drop at block) at c refl in
+    let e = ap (λ (x : Gathered). x.newline) (told_none g) in
+    subst (λ (x : Cut). Ran (standing k₀ whole.kernel) whole lent (served_to k x (length block) written) s out) (sym g.cut)
+    (subst (λ (n : ℕ). Ran (standing k₀ whole.kernel) whole lent (served_to k (gathered at c (drop at block)).cut n written) s out) (l.last e w.reached)
+    (ended_here (gathers_to w) (l.none e)))
 
 -- ---- the end of the input
 
@@ -358,24 +377,27 @@ module _ (k : Kernel) (s : List ℕ) (c : Cut) (lent : List ℕ) where
       ∙ ap (λ (t : Bool). if t then begun (shown k) s c else told_end) (sym f)
 
   -- nothing is answered
-  pub none_left : (empty b : Bool) → empty ≡ is_blank c → b ≡ (empty || ltb (length lent) 256) → b ≡ true
+  pub none_left : (empty : Bool) → empty ≡ is_blank c → (empty ≡ true) ⊎ ((empty ≡ false) × (length lent < 256))
       → Ran k (closed (length lent) (shown k) s c) lent record { session = record { kernel = k; cut = c }; taken = 0; written = 0 } s lent
-  none_left empty b e f g =
+  none_left empty e g =
       subst (λ (x : Run). Ran k x lent record { session = record { kernel = k; cut = c }; taken = 0; written = 0 } s lent)
-      (sym (closed_by empty b e f ∙ ap (λ (t : Bool). if t then begun (shown k) s c else told_end) g))
+      (sym (closed_by empty _ e refl ∙ ap (λ (t : Bool). if t then begun (shown k) s c else told_end) (any g)))
       record { kernel = refl; cut = refl; taken = refl; written = refl; store = refl; output = refl }
+    where
+      any : (empty ≡ true) ⊎ ((empty ≡ false) × (length lent < 256)) → (empty || ltb (length lent) 256) ≡ true
+      any (inl q) = rw q refl
+      any (inr q) = rw (q.0, lt-ltb (length lent) 256 q.1) refl
 
   -- the line without a newline is answered
-  pub last_told : (empty b fine : Bool) (m next : ℕ) (out : List ℕ) → empty ≡ is_blank c → b ≡ (empty || ltb (length lent) 256) → b ≡ false
-      → fine ≡ sound (shown k) → m ≡ no_line_of fine (length s) → Wrote lent 0 (reply_of (NotDone m) (task_no k.uses k.core.running)) next out
+  pub last_told : (empty fine : Bool) (m : Refusal) (next : ℕ) (out : List ℕ) → empty ≡ is_blank c → empty ≡ false → 256 ≤ length lent
+      → fine ≡ sound (shown k) → number_of m ≡ no_line_of fine (length s) → Wrote lent 0 (reply_of (NotDone (number_of m)) (task_no k.uses k.core.running)) next out
       → Ran k (closed (length lent) (shown k) s c) lent record { session = record { kernel = k; cut = cut_of c.bytes 0 }; taken = 0; written = next } s out
   unfolding ended
-  last_told empty b fine m next out e f g p q w =
-      let room : 256 ≤ length lent = ltb-false (length lent) 256 (or_off empty (ltb (length lent) 256) (sym f ∙ g)).1 in
-      let no : m ≡ no_line (shown k) s = q ∙ sym (no_line_lem (shown k) s fine p) in
-      let x = first_text w (omega (arith, reply_short (NotDone m) (task_no k.uses k.core.running))) in
+  last_told empty fine m next out e g room p q w =
+      let no : number_of m ≡ no_line (shown k) s = q ∙ sym (no_line_lem (shown k) s fine p) in
+      let x = first_text w (omega (arith, reply_short (NotDone (number_of m)) (task_no k.uses k.core.running))) in
       subst (λ (x : Run). Ran k x lent record { session = record { kernel = k; cut = cut_of c.bytes 0 }; taken = 0; written = next } s out)
-      ((λ i. record { taken = 0; kernel = shown k; store = s; cut = ended c; answers = reply_of (NotDone m) (task_no (sym (shown_uses k) i) (sym (shown_running k) i)) })
+      ((λ i. record { taken = 0; kernel = shown k; store = s; cut = ended c; answers = reply_of (NotDone (number_of m)) (task_no (sym (shown_uses k) i) (sym (shown_running k) i)) })
       ∙ ap (λ (j : ℕ). record { taken = 0; kernel = shown k; store = s; cut = ended c; answers = told (turned_away (shown k) j s) }) no
-      ∙ sym (closed_by empty b e f ∙ ap (λ (t : Bool). if t then begun (shown k) s c else told_end) g))
+      ∙ sym (closed_by empty _ e refl ∙ rw (g, le-ltb (length lent) 256 room)))
       record { kernel = refl; cut = refl; taken = refl; written = x.0; store = refl; output = x.1 }

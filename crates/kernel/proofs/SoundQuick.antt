@@ -465,3 +465,7 @@ module _ (k : Core) (stands : List ℕ) (hs : Holdings) (fine : Bool) (F : Fine 
       let f = and_left fine _ (tables q) in
       let g = and_right levels _ (and_right waits _ (and_right fine _ (tables q))) in
       rw (is_plain q) (λ i. record { tasks = F.whole f i; objects = H.whole g i; order = k.order; running = k.running; tick = k.tick; hold = k.hold; pended = k.pended })
+
+  -- what the code's one expression comes to
+  pub quickly : {b : Bool} → b ≡ quick → (b ≡ sound (shown_core k)) × (b ≡ true → k ≡ core_of (shown_core k))
+  quickly e = (e ∙ quick_is, λ q. stands_for (sym e ∙ q))

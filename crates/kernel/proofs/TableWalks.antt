@@ -10,7 +10,7 @@ use Rattle.slots.specs.Who.{Who, all_ready}
 use Rattle.slots.specs.Places.{is_ready, wakes_at, outcome_due}
 use Rattle.slots.specs.Values.{task_at}
 use Rattle.slots.specs.Leads.{leads}
-use Rattle.tasks.specs.declared.Woken.{Woken}
+use Rattle.tasks.specs.Dues.{Woken}
 use Rattle.tasks.specs.Columns.{tasks_of}
 use Rattle.objects.specs.Columns.{objects_of}
 use Rattle.tasks.specs.Walks.{lead_in, line_in, head_or, lines_in, top_in}
@@ -18,13 +18,14 @@ use Rattle.tasks.specs.Dues.{woken, ready_of, tailed, wakes_in}
 use Rattle.tasks.proofs.ByList.{lead_of, line_of, lines_of_lem, top_of, wakes_by}
 use Rattle.rules.specs.State.{State}
 use Rattle.rules.specs.Tables.{with_running}
-use Rattle.rules.specs.Lines.{line, those, level, highest, first, runs_if, chosen, to_tail}
+use Rattle.rules.specs.Lines.{line, those, level, highest, first, runs_if, chosen, to_tail, begun}
 use Rattle.rules.specs.Sound.{no_higher}
 use Rattle.rules.specs.Waits.{arrives}
 use Rattle.rules.specs.Ticks.{woken_if_due, wakes, turned}
 use Rattle.rules.specs.Occupied.{lines_of}
 use Rattle.rules.proofs.LineLeads.{finds, first_heads_highest, no_higher_by}
 use Rattle.rules.proofs.LineHeights.{largest-highest}
+use Rattle.rules.proofs.BegunCalls.{wakes-begun}
 use Rattle.kernel.specs.Types.{Core}
 use Rattle.kernel.specs.Stands.{core_of}
 use Rattle.kernel.proofs.Stands.{same_running}
@@ -130,3 +131,10 @@ wakes_done s l w e = λ i. record {
   hold = sym (all_same (λ z. z.hold) (λ z t. woke (λ y. y.hold) z t refl) s l) i;
   pended = sym (all_same (λ z. z.pended) (λ z t. woke (λ y. y.pended) z t refl) s l) i;
 }
+
+-- a value whose due are woken, as the state that it stands for
+pub woken_core : (k : Core) (s : State) → k ≡ core_of s → (w : Woken) → w ≡ wakes_in k.tick (woken k.tasks k.order) (listed k.order)
+    → ◌≡◌ {A = Core} (record { tasks = w.tasks; objects = k.objects; order = w.order; running = k.running; tick = k.tick; hold = k.hold; pended = k.pended })
+    (core_of (wakes s (begun s.tasks (listed s.order))))
+unfolding core_of
+woken_core k s h w e = rw h (wakes_done s (listed s.order) w (e ∙ rw h) ∙ ap core_of (wakes-begun s (listed s.order)))

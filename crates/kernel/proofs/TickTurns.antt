@@ -29,9 +29,9 @@ use Rattle.rules.proofs.KeepNearly.{settled, Nearly}
 use Rattle.rules.proofs.KeepChosen.{some_ready}
 use Rattle.rules.proofs.KeepTicks.{one_tick_lem, unheld_nearly, tick_unheld, ticks_unheld, ticks_reckoned}
 use Rattle.rules.proofs.LineTurns.{its_line, turns_at_once, its_room, tick_still}
-use Rattle.kernel.specs.Types.{Core, Headed}
+use Rattle.kernel.specs.Types.{Core}
 use Rattle.kernel.specs.Stands.{core_of, shown_core}
-use Rattle.kernel.specs.Does.{Does, Turning, headed_by, Reckons}
+use Rattle.kernel.specs.Does.{Does, Turning, Reckons}
 use Rattle.kernel.proofs.Stands.{same_tick, same_hold, same_pended}
 use Rattle.kernel.proofs.TableWalks.{top_highest, chosen_by, no_higher_of, no_turn}
 use Rattle.kernel.proofs.Shown.{shown_with_lem}
@@ -55,9 +55,13 @@ turning_next {k} {r} f T d u =
     record { stands = is ∙ ap core_of (sym shows); unheld = subst Unheld (sym shows) (unheld_with next (u (shown_core k) T.stands T.unheld)) }
 
 -- ── the line turned in one go
+-- the value with another order, and another who runs
+abbrev headed : Core → Order → TaskSlot → Core
+headed k o r = record { tasks = k.tasks; objects = k.objects; order = o; running = r; tick = k.tick; hold = k.hold; pended = k.pended }
+
 pub turned_many : (k : Core) (s : State) → k ≡ core_of s → Unheld s → (n : ℕ) → 0 < n → (y : Task) → y ≡ task_at s.tasks s.running
     → (l : Order) → l ≡ ordered (line_in k.tasks y.effective (listed k.order)) → (o : Order) → o ≡ times_turned k.order (listed l) n → (r : TaskSlot) → r ≡ head_after (listed l) n
-    → headed_by k (record { order = o; running = r }) ≡ core_of (turnings true n s)
+    → headed k o r ≡ core_of (turnings true n s)
 unfolding core_of
 turned_many k s h U n some y e l f o g r q =
     let ks = kept (its_line s) (listed s.order) in
@@ -65,30 +69,21 @@ turned_many k s h U n some y e l f o g r q =
     let its : listed l ≡ ks = ap listed same ∙ fits_listed ks (its_room s U) in
     rw (g, q, its, h) (sym (ap core_of (turns_at_once s U n some)))
 
--- its two parts put into the value
-pub headed_parts : (k : Core) (t : Headed) {o : Order} {r : TaskSlot} → o ≡ t.order → r ≡ t.running → headed_by k (record { order = o; running = r }) ≡ headed_by k t
-headed_parts k t e f = λ i. headed_by k (record { order = e i; running = f i })
-
 -- ── ticks on which nobody is due
 abbrev passing : Bool → ℕ → State → State
 passing turns n s = with_tick (turnings turns n s) (later s.tick n)
 
-module _ {k r : Core} (n next : ℕ) (e : next ≡ later k.tick n) (turns : Bool) where
-  counts_on : Does k (λ s. with_tick (turnings turns n s) next) r → Does k (passing turns n) r
-  counts_on f s h = f s h ∙ ap (λ (m : ℕ). core_of (with_tick (turnings turns n s) m)) (e ∙ ap (λ (m : ℕ). later m n) (same_tick k s h))
+pub counts_on : {k j r : Core} (n next : ℕ) → next ≡ later k.tick n → (turns : Bool) → Does k (turnings turns n) j → Does j (λ s. with_tick s next) r → Does k (passing turns n) r
+counts_on {k} n next e turns f g s h =
+    g (turnings turns n s) (f s h) ∙ ap (λ (m : ℕ). core_of (with_tick (turnings turns n s) m)) (e ∙ ap (λ (m : ℕ). later m n) (same_tick k s h))
 
-  -- with their turns
-  pub turned_on : turns ≡ true → Does k (λ s. with_tick (turnings true n s) next) r → Does k (passing turns n) r
-  turned_on q f = counts_on (rw q f)
+-- in none at all there is no turn, nor where they come without
+pub no_tick_turns : (k : Core) (n : ℕ) (turns : Bool) → n ≤ 0 → Does k (turnings turns n) k
+unfolding up_to
+no_tick_turns k n turns z s h = h ∙ ap core_of (let y : n ≡ 0 = omega arith in ap (λ (m : ℕ). turnings turns m s) (sym y))
 
-  -- none at all
-  pub no_tick_passes : Does k (λ s. with_tick s next) r → n ≤ 0 → Does k (passing turns n) r
-  unfolding up_to
-  no_tick_passes g z = counts_on (λ s h. g s h ∙ ap core_of (let y : n ≡ 0 = omega arith in ap (λ (m : ℕ). with_tick (turnings turns m s) next) (sym y)))
-
-  -- or without
-  pub passes_straight : Does k (λ s. with_tick s next) r → turns ≡ false → Does k (passing turns n) r
-  passes_straight g q = counts_on (λ s h. g s h ∙ ap (λ (x : State). core_of (with_tick x next)) (sym (no_turnings n s) ∙ ap (λ (b : Bool). turnings b n s) (sym q)))
+pub none_turns : (k : Core) (n : ℕ) (turns : Bool) → turns ≡ false → Does k (turnings turns n) k
+none_turns k n turns q s h = h ∙ ap core_of (sym (no_turnings n s) ∙ ap (λ (b : Bool). turnings b n s) (sym q))
 
 -- ── a tick on which somebody may be due
 -- who heads the highest line is found by its list
@@ -115,7 +110,7 @@ module _ {k j : Core} (T : Turning k) (f : Does k one_tick j) (y : Task) (q : (s
     (n : ℕ) (e : n ≡ top_in j.tasks (listed j.order)) where
   -- who outranks the running task runs
   pub overtaken : y.effective < n → (l : Order) → l ≡ ordered (line_in j.tasks n (listed j.order)) → (r : TaskSlot) → r ≡ head_after (listed l) 0
-      → Does k (λ s. turned_if true (one_tick s)) (headed_by j (record { order = j.order; running = r }))
+      → Does k (λ s. turned_if true (one_tick s)) (headed j j.order r)
   unfolding core_of
   overtaken h l m r p s g =
       let i = one_tick s in

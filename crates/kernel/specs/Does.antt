@@ -9,7 +9,7 @@ use Rattle.rules.specs.Loans.{Reckoned}
 use Rattle.rules.specs.State.{State}
 use Rattle.rows.specs.Asking.{makes}
 use Rattle.rules.specs.Sentences.{Sound, Unheld}
-use Rattle.kernel.specs.Types.{Core, Headed}
+use Rattle.kernel.specs.Types.{Core}
 use Rattle.kernel.specs.Stands.{core_of, shown_core}
 
 -- it reads
@@ -37,10 +37,6 @@ pub record Firm (k : Core) : Type 0 where
 pub record Turning (k : Core) : Type 0 where
   pub stands : k ≡ core_of (shown_core k)
   pub unheld : Unheld (shown_core k)
-
--- the value with its line so turned
-abbrev pub headed_by : Core → Headed → Core
-headed_by k t = record { tasks = k.tasks; objects = k.objects; order = t.order; running = t.running; tick = k.tick; hold = k.hold; pended = k.pended }
 
 -- the value stands for a state, and each effective priority of that state is the rule's
 pub record Reckons (k : Core) : Type 0 where

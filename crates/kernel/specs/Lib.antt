@@ -1,3 +1,4 @@
+pub mod Sleeps
 pub mod Types
 pub mod Waited
 pub mod Made

@@ -1,7 +1,7 @@
 -- What each make puts into the lowest free object, by the call's number.
 use Rattle.std.specs.Prelude.{if◌then◌else◌}
 use Rattle.calls.specs.declared.Asked.{Asked}
-use Rattle.slots.specs.declared.Holder.TheVariants.{Nobody}
+use Rattle.slots.specs.Types.{Nobody}
 use Rattle.slots.specs.declared.Sort.TheVariants.{Ordinary, Recursive}
 use Rattle.slots.specs.declared.Kind.{Kind}
 use Rattle.slots.specs.declared.Kind.TheVariants.{Queue, Mutex, Group}

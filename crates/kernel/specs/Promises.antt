@@ -1,7 +1,11 @@
 -- What the public functions promise, for every kernel value.
-use Rattle.std.specs.Prelude.{◌≡◌, ℕ, List, [], ◌∷◌, ◌++◌, length, drop}
+use Rattle.std.specs.Prelude.{◌≡◌, ℕ, List, [], ◌∷◌, ◌++◌, length, drop, Result, Ok, Err}
 use Rattle.calls.specs.declared.Call.{Call}
 use Rattle.calls.specs.declared.Asked.{Asked}
+use Rattle.calls.specs.declared.Answer.{Answer}
+use Rattle.calls.specs.declared.Answer.TheVariants.{Refused}
+use Rattle.calls.specs.declared.refusals.Refusal.{Refusal}
+use Rattle.calls.specs.Refusals.{number_of}
 use Rattle.calls.specs.Said.{said}
 use Rattle.cuts.specs.Keeping.{no_byte}
 use Rattle.rules.specs.Tables.{fresh}
@@ -10,6 +14,15 @@ use Rattle.rules.specs.Steps.{Stepped, stepped_by, step}
 use Rattle.rules.specs.Sessions.{step_of_line, Run, run, begun, closed}
 use Rattle.kernel.specs.Types.{Kernel, Sleep, Ticks, ForEver, Step, Session, Served}
 use Rattle.kernel.specs.Stands.{kernel_of, shown, standing}
+
+-- what was answered: a refusal by its number
+abbrev pub told_of : Result Answer Refusal → Answer
+told_of (Ok n) = n
+told_of (Err r) = Refused (number_of r)
+
+-- what comes of a call that is answered so in place, with the kernel afterwards
+abbrev pub came : Kernel → Result Answer Refusal → Step
+came k r = record { kernel = k; answer = told_of r }
 
 -- the step r from the kernel value k, with the store s afterwards, is what the definition d says: refused as not sound, k comes back as it was
 pub record Is (k : Kernel) (d : Stepped) (r : Step) (s : List ℕ) : Type 0 where

@@ -3,12 +3,10 @@ pub use Rattle.cuts.specs.declared.Cut.{Cut}
 pub use Rattle.calls.specs.declared.Uses.{Uses}
 pub use Rattle.kernel.specs.declared.Core.{Core}
 pub use Rattle.kernel.specs.declared.Kernel.{Kernel}
-pub use Rattle.kernel.specs.declared.Sleep.{Sleep}
-pub use Rattle.kernel.specs.declared.Sleep.TheVariants.{Ticks, ForEver}
+pub use Rattle.kernel.specs.Sleeps.{Sleep}
+pub use Rattle.std.specs.declared.option.Option.TheVariants.{Some as Ticks, None as ForEver}
 pub use Rattle.kernel.specs.declared.Step.{Step}
 pub use Rattle.kernel.specs.declared.Outlet.{Outlet}
 pub use Rattle.kernel.specs.declared.Outlet.TheVariants.{Waiter, Ring as InRing, Caller}
-pub use Rattle.kernel.specs.declared.Headed.{Headed}
-pub use Rattle.kernel.specs.declared.Roused.{Roused}
 pub use Rattle.kernel.specs.declared.Session.{Session}
 pub use Rattle.kernel.specs.declared.Served.{Served}

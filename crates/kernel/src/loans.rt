@@ -13,38 +13,23 @@ use numbers::TaskSlot;
 pub(crate) fn may_lend(a: Asked) -> bool
     ensures { result ≡ may_lend a }
 {
-    let n = a.number;
-    let mutexes = lists::either(n == 15, n == 16);
-    let tasks = lists::either(n == 3, lists::either(n == 5, mutexes));
-    lists::either(n == 2, tasks)
+    matches!(a.number, 2 | 3 | 5 | 15 | 16)
 }
 
 impl Core {
     #[tactic(auto, unfolding(rules::specs::Loans::new_priority))]
-    pub(crate) fn new_priority(self, t: TaskSlot, p: u8) -> Core
-        ensures { Does self (λ s. new_priority s t p) result }
+    pub(crate) fn new_priority(&mut self, t: TaskSlot, p: u8)
+        ensures { Does self.old (λ s. new_priority s t p) self.new }
     {
-        self.owned(t, p)
+        self.owned(t, p);
     }
 
     // Every task gets the effective priority that the rule gives it; ready tasks whose line changes move in order of slot.
-    pub(crate) fn worked_out(self) -> Core
-        ensures { Does self worked_out result }
+    pub(crate) fn worked_out(&mut self)
+        ensures { Does self.old worked_out self.new }
     {
         let by = self.objects.holders();
-        let worked = self.tasks.worked_out(self.order, by, self.running);
-        let tasks = worked.tasks;
-        let order = worked.order;
-        let objects = self.objects;
-        let running = self.running;
-        Core {
-            tasks,
-            objects,
-            order,
-            running,
-            tick: self.tick,
-            hold: self.hold,
-            pended: self.pended,
-        }
+        let u = self.running;
+        self.tasks.work_out(&mut self.order, by, u);
     }
 }

@@ -10,35 +10,35 @@ use crate::Core;
 use calls::Asked;
 use numbers::ObjSlot;
 use rows::Seen;
-use slots::{Holder, Kind};
+use slots::Kind;
 
 impl Core {
     // The slot that a create or make takes; 16 where none is free, 0 for any other call.
-    fn new_slot(self, a: Asked) -> u8
-        ensures { Reads self (λ s. if makes a then new_slot s a else 0) result }
+    fn new_slot(&self, a: Asked) -> u8
+        ensures { Reads self.now (λ s. if makes a then new_slot s a else 0) result }
     {
         if a.number == 1 {
             return self.tasks.free_slot();
         }
-        if rows::makes(a) {
+        if rows::makes(&a) {
             return self.objects.free_object();
         }
         0
     }
 
     // Whoever waits stands in the order, so it is enough to walk the rows.
-    fn held_or_waited(self, o: ObjSlot) -> bool
-        requires { Firm self }
-        ensures { Reads self (λ s. held_or_waited s o) result }
+    fn held_or_waited(&self, o: ObjSlot) -> bool
+        requires { Firm self.now }
+        ensures { Reads self.now (λ s. held_or_waited s o) result }
     {
-        lists::either(self.kind(o).is_held(), self.tasks.waits_on(o))
+        self.kind(o).is_held() || self.tasks.waits_on(o)
     }
 
     // A task to be deleted holds a mutex; an object to be removed is held or has waiters.
     #[tactic(auto, unfolding(rules::specs::Refusals::in_use))]
-    fn used(self, a: Asked) -> bool
-        requires { Firm self }
-        ensures { Reads self (λ s. in_use s a) result }
+    fn used(&self, a: Asked) -> bool
+        requires { Firm self.now }
+        ensures { Reads self.now (λ s. in_use s a) result }
     {
         if a.number == 2 {
             return self.holds(a.task);
@@ -50,30 +50,27 @@ impl Core {
     }
 
     // The chain from the holder of a mutex leads back to the caller.
-    fn leads_back(self, x: Kind) -> bool
-        requires { Firm self }
-        ensures { Reads self (λ s. leads_to s.tasks s.objects (holder_of x) s.running) result }
+    fn leads_back(&self, x: Kind) -> bool
+        requires { Firm self.now }
+        ensures { Reads self.now (λ s. leads_to s.tasks s.objects (holder_of x) s.running) result }
     {
         match x {
-            Kind::Unused => false,
-            Kind::Spent => false,
-            Kind::Queue(_) => false,
-            Kind::Mutex(_, h) => match h {
-                Holder::Nobody => false,
-                Holder::By(t) => {
+            Kind::Mutex(_, holder) => match holder {
+                None => false,
+                Some(t) => {
                     let by = self.objects.holders();
                     self.tasks.reaches(by, t, self.running)
                 }
             },
-            Kind::Group(_) => false,
+            _ => false,
         }
     }
 
     // A take that would close a circle. Of a mutex that nobody holds, or that the caller takes again, there is no chain to follow.
     #[tactic(auto, unfolding(rules::specs::Circles::closes_circle))]
-    fn closes_circle(self, a: Asked) -> bool
-        requires { Firm self }
-        ensures { Reads self (λ s. closes_circle s a) result }
+    fn closes_circle(&self, a: Asked) -> bool
+        requires { Firm self.now }
+        ensures { Reads self.now (λ s. closes_circle s a) result }
     {
         if a.number == 15 {
             let x = self.kind(a.object);
@@ -85,9 +82,9 @@ impl Core {
         false
     }
 
-    pub(crate) fn seen(self, a: Asked) -> Seen
-        requires { Firm self }
-        ensures { Reads self (λ s. seen s a) result }
+    pub(crate) fn seen(&self, a: Asked) -> Seen
+        requires { Firm self.now }
+        ensures { Reads self.now (λ s. seen s a) result }
     {
         let x = self.task(a.task);
         let place = x.place;

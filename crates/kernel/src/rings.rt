@@ -12,10 +12,8 @@ pub(crate) fn one_more(q: Ring) -> Ring
     ensures { result ≡ one_more q }
 {
     Ring {
-        capacity: q.capacity,
-        size: q.size,
-        first: q.first,
         count: q.count + 1,
+        ..q
     }
 }
 
@@ -24,10 +22,9 @@ pub(crate) fn one_less(q: Ring) -> Ring
     ensures { result ≡ one_less q }
 {
     Ring {
-        capacity: q.capacity,
-        size: q.size,
         first: (q.first + 1) % q.capacity,
         count: q.count - 1,
+        ..q
     }
 }
 
@@ -36,7 +33,7 @@ fn place(q: Ring, i: u8) -> usize
     requires { RingFits q }
     ensures { (result ≡ (q.first + i) % q.capacity) × (result < q.capacity) }
 {
-    ((q.first as usize) + (i as usize)) % (q.capacity as usize)
+    (usize::from(q.first) + usize::from(i)) % usize::from(q.capacity)
 }
 
 // How far into its object's part it begins.
@@ -44,7 +41,7 @@ pub(crate) fn begins(q: Ring, i: u8) -> usize
     requires { RingFits q }
     ensures { (result ≡ (q.first + i) % q.capacity * q.size) × (result + q.size ≤ 512) }
 {
-    place(q, i) * (q.size as usize)
+    place(q, i) * usize::from(q.size)
 }
 
 pub(crate) fn room_or(q: Ring) -> Outlet

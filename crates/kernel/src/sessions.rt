@@ -1,15 +1,17 @@
 // A line read and stepped; and a session: bytes come in blocks, cut anywhere, and each line that ends among them is answered.
 // Soundness is tested once a block; a step keeps it.
 ghost use Rattle.std.specs.Prelude.{◌≡◌, ◌≤◌, true, nat_lt, if◌then◌else◌};
+ghost use Rattle.calls.specs.Refusals.{number_of};
 ghost use Rattle.rules.specs.Sound.{sound};
 ghost use Rattle.rules.specs.Sessions.{no_line_of, step_read};
 ghost use Rattle.kernel.specs.Stands.{kernel_of, shown};
-ghost use Rattle.kernel.specs.Promises.{Is, ReadsAndSteps, Answers, Closes, new_session};
+ghost use Rattle.kernel.specs.Promises.{Is, came, ReadsAndSteps, Answers, Closes, new_session};
 
+use crate::steps::told;
 use crate::{Kernel, Served, Session, Step};
-use calls::Answer;
-use cuts::{Cut, gather, keep};
-use journal::{Read, Reading, put_answer, read_call};
+use calls::{Answer, Refusal};
+use cuts::Cut;
+use journal::{Read, put_answer, read_call};
 
 // How many of a line's bytes are read: all of them, or none, if it is too long. (No call's line is empty.)
 fn whole(len: usize) -> usize
@@ -18,49 +20,44 @@ fn whole(len: usize) -> usize
     if 256 < len { 0 } else { len }
 }
 
-// The number of a line that is no call's: 1 and 2 stand before 3.
-fn no_line(fine: bool, len: usize) -> u32
-    ensures { result ≡ no_line_of fine len }
+// Why a line that is no call's is turned away: 1 and 2 stand before 3.
+fn no_line(fine: bool, len: usize) -> Refusal
+    ensures { number_of result ≡ no_line_of fine len }
 {
     if !fine {
-        return 1;
+        Refusal::Unsound
+    } else if len != 9216 {
+        Refusal::StoreLength
+    } else {
+        Refusal::NoCall
     }
-    if len == 9216 { 3 } else { 2 }
 }
 
 impl Kernel {
     // The step of a line; `fine` says whether the kernel is sound.
-    fn line_step(self, fine: bool, line: Read, store: &mut [u8]) -> Step
-        requires { (fine ≡ sound (shown self)) × (sound (shown self) ≡ true → self ≡ kernel_of (shown self)) × (line.len ≤ 64) }
-        ensures { Is self (step_read (shown self) store.old line) result store.new }
+    fn line_step(&mut self, fine: bool, line: Read, store: &mut [u8]) -> Result<Answer, Refusal>
+        requires { (fine ≡ sound (shown self.old)) × (sound (shown self.old) ≡ true → self.old ≡ kernel_of (shown self.old)) × (line.len ≤ 64) }
+        ensures { Is self.old (step_read (shown self.old) store.old line) (came self.new result) store.new }
     {
-        let says = line.answer;
-        let item = line.item;
-        let n = line.len;
-        match says {
-            Reading::Says(call) => {
-                if fine {
-                    return self.step_sound(call, &item[..n], store);
-                }
-                Step {
-                    kernel: self,
-                    answer: Answer::Refused(1),
-                }
-            }
-            Reading::Refused(_) => Step {
-                kernel: self,
-                answer: Answer::Refused(no_line(fine, store.len())),
-            },
+        match line.answer {
+            Ok(call) if fine => self.step_sound(call, &line.item[..line.len], store),
+            Ok(_) => Err(Refusal::Unsound),
+            Err(_) => Err(no_line(fine, store.len())),
         }
     }
 
     // The step of a line: any bytes, of whatever length.
-    pub fn step_line(self, line: &[u8], store: &mut [u8]) -> Step
+    pub fn step_line(mut self, line: &[u8], store: &mut [u8]) -> Step
         ensures { ReadsAndSteps self line.now store.old result store.new }
     {
         let n = whole(line.len());
         let read = read_call(&line[..n]);
-        self.line_step(self.sound(), read, store)
+        let fine = self.is_sound();
+        let answer = told(self.line_step(fine, read, store));
+        Step {
+            kernel: self,
+            answer,
+        }
     }
 }
 
@@ -77,39 +74,34 @@ impl Session {
     }
 
     // Answers each line that ends in the block, as far as the answers fit.
-    pub fn answer(self, block: &[u8], store: &mut [u8], out: &mut [u8]) -> Served
+    pub fn answer(mut self, block: &[u8], store: &mut [u8], out: &mut [u8]) -> Served
         ensures { Answers self block.now store.old out.old result store.new out.new }
     {
-        let mut kernel = self.kernel;
-        let fine = kernel.sound();
-        let mut bytes = self.cut.bytes;
-        let mut len = self.cut.len;
+        let fine = self.kernel.is_sound();
         let mut at = 0usize;
         let mut written = 0usize;
         loop {
-            let stop = gather(block, at, &mut bytes, len);
-            if lists::either(!stop.newline, out.len() - written < 256) {
+            let Some(next) = self.cut.gather(block, at) else {
                 return Served {
-                    session: Session {
-                        kernel,
-                        cut: Cut {
-                            bytes,
-                            len: stop.len,
-                        },
-                    },
-                    taken: stop.next,
+                    session: self,
+                    taken: block.len(),
+                    written,
+                };
+            };
+            if out.len() - written < 256 {
+                return Served {
+                    session: self,
+                    taken: next,
                     written,
                 };
             }
-            let n = keep(&mut bytes, stop.len, 10);
-            let m = whole(n);
-            let line = read_call(&bytes[..m]);
-            let step = kernel.line_step(fine, line, store);
-            kernel = step.kernel;
-            let answer = step.answer;
-            written = put_answer(out, written, answer, kernel.runs());
-            len = 0;
-            at = stop.next + 1;
+            self.cut.keep(10);
+            let m = whole(self.cut.len);
+            let line = read_call(&self.cut.bytes[..m]);
+            let answer = told(self.kernel.line_step(fine, line, store));
+            written = put_answer(out, written, answer, self.kernel.runs());
+            self.cut.len = 0; // for the next line
+            at = next + 1;
         }
     }
 
@@ -117,17 +109,16 @@ impl Session {
     pub fn end(mut self, store: &[u8], out: &mut [u8]) -> Served
         ensures { Closes self store.now out.old result out.new }
     {
-        let cut = self.cut;
-        if lists::either(cut.is_empty(), out.len() < 256) {
+        if self.cut.is_empty() || out.len() < 256 {
             return Served {
                 session: self,
                 taken: 0,
                 written: 0,
             };
         }
-        let no = no_line(self.kernel.sound(), store.len());
-        let written = put_answer(out, 0, Answer::Refused(no), self.kernel.runs());
-        self.cut.len = 0;
+        let answer = told(Err(no_line(self.kernel.is_sound(), store.len())));
+        let written = put_answer(out, 0, answer, self.kernel.runs());
+        self.cut.len = 0; // none is left
         Served {
             session: self,
             taken: 0,

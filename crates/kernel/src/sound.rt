@@ -18,19 +18,11 @@ impl Core {
         let x = self.tasks.get(t);
         let p = x.place;
         match p {
-            Place::Free => true,
-            Place::Ready => true,
-            Place::Delayed(_) => true,
-            Place::Waiting(y, _) => {
-                let o = y.object;
-                let want = y.want;
-                match want {
-                    Want::OwnTurn => true,
-                    Want::Bits(m, all, _) => self.objects.get(o).awaits_bits(m, all),
-                }
-            }
-            Place::Suspended => true,
-            Place::Spent => true,
+            Place::Waiting(y, _) => match y.want {
+                Want::Bits(m, all, _) => self.objects.get(y.object).awaits_bits(m, all),
+                Want::OwnTurn => true,
+            },
+            _ => true,
         }
     }
 
@@ -40,10 +32,8 @@ impl Core {
         ensures { result ≡ all_below 16 (awaits_at self.tasks self.objects) }
     {
         let mut ok = true;
-        let mut i = 0usize;
-        while i < n {
-            ok = lists::both(ok, self.await_fine(TaskSlot::of(i as u8)));
-            i += 1;
+        for i in 0..n {
+            ok &= self.await_fine(TaskSlot::of(i as u8));
         }
         ok
     }
@@ -52,7 +42,8 @@ impl Core {
     fn awaits_fine(self) -> bool
         ensures { result ≡ all_below 16 (awaits_at self.tasks self.objects) }
     {
-        let n = lists::bound(self.tasks.wanting());
+        // Said so, the compiler does not see that these are none or all, and leaves the walk a loop.
+        let n = 16usize.min(16 * usize::from(self.tasks.wanting()));
         if n == 0 {
             return true;
         }
@@ -80,22 +71,27 @@ impl Core {
         let rows = self.tasks.fine(self.tick, tallies, held);
         let turns = self.tasks.waits_fine(open, taken, holder);
         let runs = self.tasks.runs_fine(o, self.running, 0 < self.hold);
-        let tidy = lists::both(o.living <= 16, lists::both(walk.numbers, o.zeros()));
-        let pends = lists::either(0 < self.hold, self.pended == 0);
-        let rest = lists::both(runs, lists::both(tidy, pends));
+        let tidy = (o.living <= 16) & (walk.numbers & o.zeros());
+        let pends = (0 < self.hold) | (self.pended == 0);
         // Asked last: here alone the test branches, and by now what it has found is one answer.
         let by = holdings.by;
         let levels = self.tasks.levels_fine(by);
-        let waits = lists::both(turns, self.awaits_fine());
-        let tables = lists::both(rows, lists::both(waits, lists::both(levels, holdings.fine)));
-        lists::both(self.shaped(), lists::both(tables, rest))
+        let waits = turns & self.awaits_fine();
+        self.shaped() & (rows & (waits & (levels & holdings.fine))) & (runs & (tidy & pends))
     }
 }
 
 impl Kernel {
+    // Asked of the kernel where it stands, which a step then writes; what is asked below goes by value, so that sixteen rows are read at once.
+    pub(crate) fn is_sound(&self) -> bool
+        ensures { (result ≡ sound (shown self.now)) × (result ≡ true → self.now ≡ kernel_of (shown self.now)) }
+    {
+        self.core.fine() & self.uses.fine()
+    }
+
     pub fn sound(self) -> bool
         ensures { (result ≡ sound (shown self)) × (result ≡ true → self ≡ kernel_of (shown self)) }
     {
-        lists::both(self.core.fine(), self.uses.fine())
+        self.is_sound()
     }
 }

@@ -7,44 +7,38 @@ ghost use Rattle.rules.specs.Sound.{sound};
 ghost use Rattle.rules.specs.Steps.{new_number, uses_after};
 ghost use Rattle.kernel.specs.Stands.{kernel_of, shown};
 ghost use Rattle.kernel.specs.Does.{Reads, answer_of};
-ghost use Rattle.kernel.specs.Promises.{SoundSteps, Steps};
+ghost use Rattle.kernel.specs.Promises.{told_of, came, SoundSteps, Steps};
 
 use crate::{Core, Kernel, Step};
-use calls::{Answer, Asked, Call, ObjNo, TaskNo, Uses};
+use calls::{Answer, Asked, Call, ObjNo, Refusal, TaskNo, Uses};
 use numbers::{ObjSlot, TaskSlot};
 
 // The number of the slot `n` that a create or make took.
-fn new_number(uses: Uses, a: Asked, n: u8) -> u32
-    ensures { result ≡ new_number uses a n }
+fn new_number(uses: &Uses, a: Asked, n: u8) -> u32
+    ensures { result ≡ new_number uses.now a n }
 {
     if a.number == 1 {
-        let tasks = uses.tasks;
-        return TaskNo::of_slot(tasks, TaskSlot::of(n)).number();
+        return TaskNo::of_slot(&uses.tasks, TaskSlot::of(n)).number();
     }
-    let objects = uses.objects;
-    ObjNo::of_slot(objects, ObjSlot::of(n)).number()
+    ObjNo::of_slot(&uses.objects, ObjSlot::of(n)).number()
 }
 
-// A delete or remove gives its slot up; no other call changes the uses.
-#[tactic(auto, unfolding(rules::specs::Steps::uses_after))]
-fn uses_after(uses: Uses, a: Asked) -> Uses
-    ensures { result ≡ uses_after uses a }
+// A refusal is answered by its number.
+pub(crate) fn told(r: Result<Answer, Refusal>) -> Answer
+    ensures { result ≡ told_of r }
 {
-    if a.number == 2 {
-        return uses.without_task(a.task);
+    match r {
+        Ok(answer) => answer,
+        Err(refusal) => Answer::Refused(refusal.into()),
     }
-    if a.number == 12 {
-        return uses.without_object(a.object);
-    }
-    uses
 }
 
 impl Core {
     // A create or make answers with the number of its slot `n`; any other call waiting, exactly if the caller is now delayed or waits on an object.
-    pub(crate) fn answered(self, a: Asked, caller: TaskSlot, uses: Uses, n: u8) -> Answer
-        ensures { Reads self (answer_of a (new_number uses a n) caller) (said result) }
+    pub(crate) fn answered(&self, a: Asked, caller: TaskSlot, uses: &Uses, n: u8) -> Answer
+        ensures { Reads self.now (answer_of a (new_number uses.now a n) caller) (said result) }
     {
-        if rows::makes(a) {
+        if rows::makes(&a) {
             return Answer::Made(new_number(uses, a, n));
         }
         let x = self.task(caller);
@@ -62,48 +56,69 @@ impl Kernel {
     pub fn runs(self) -> TaskNo
         ensures { result ≡ task_no self.uses self.core.running }
     {
-        let tasks = self.uses.tasks;
-        TaskNo::of_slot(tasks, self.core.running)
+        TaskNo::of_slot(&self.uses.tasks, self.core.running)
+    }
+
+    // A delete or remove gives its slot up; no other call changes the uses.
+    #[tactic(auto, unfolding(rules::specs::Steps::uses_after))]
+    fn give_up(&mut self, a: Asked)
+        ensures { self.new ≡ record { core = self.old.core; uses = uses_after self.old.uses a } }
+    {
+        if a.number == 2 {
+            self.uses.give_up_task(a.task);
+        } else if a.number == 12 {
+            self.uses.give_up_object(a.object);
+        }
     }
 
     // The step of a kernel that is known to be sound: what a session of many calls uses.
-    pub(crate) fn step_sound(mut self, call: Call, item: &[u8], store: &mut [u8]) -> Step
-        requires { (sound (shown self) ≡ true) × (self ≡ kernel_of (shown self)) }
-        ensures { SoundSteps self (asked self.uses call) item.now store.old result store.new }
+    pub(crate) fn step_sound(
+        &mut self,
+        call: Call,
+        item: &[u8],
+        store: &mut [u8],
+    ) -> Result<Answer, Refusal>
+        requires { (sound (shown self.old) ≡ true) × (self.old ≡ kernel_of (shown self.old)) }
+        ensures { SoundSteps self.old (asked self.old.uses call) item.now store.old (came self.new result) store.new }
     {
-        let a = call.asked(self.uses);
+        // Row 2 stands first in the table: a store of another length is turned away, whatever else applies.
+        let Some(store) = store.as_mut_array::<9216>() else {
+            return Err(Refusal::StoreLength);
+        };
+        let a = call.asked(&self.uses);
         let s = self.core.seen(a);
-        let no = s.row(a, item.len(), store.len());
-        if no != 0 {
-            return Step {
-                kernel: self,
-                answer: Answer::Refused(no),
-            };
+        if let Some(refusal) = s.row(&a, item.len(), store.len()) {
+            return Err(refusal);
         }
         let u = self.core.running;
-        let mut next = self.core.served(a, s.new, item, store);
-        let answer = next.answered(a, u, self.uses, s.new);
+        self.core.served(a, s.new, item, store);
+        let answer = self.core.answered(a, u, &self.uses, s.new);
         if crate::loans::may_lend(a) {
-            next = next.worked_out();
+            self.core.worked_out();
         }
-        self.core = next.chosen();
-        self.uses = uses_after(self.uses, a);
-        Step {
-            kernel: self,
-            answer,
+        self.core.chosen();
+        self.give_up(a);
+        Ok(answer)
+    }
+
+    // The step of any kernel.
+    fn step_any(&mut self, call: Call, item: &[u8], store: &mut [u8]) -> Result<Answer, Refusal>
+        ensures { Steps self.old call item.now store.old (came self.new result) store.new }
+    {
+        if self.is_sound() {
+            self.step_sound(call, item, store)
+        } else {
+            Err(Refusal::Unsound)
         }
     }
 
-    pub fn step(self, call: Call, item: &[u8], store: &mut [u8]) -> Step
+    pub fn step(mut self, call: Call, item: &[u8], store: &mut [u8]) -> Step
         ensures { Steps self call item.now store.old result store.new }
     {
-        if self.sound() {
-            self.step_sound(call, item, store)
-        } else {
-            Step {
-                kernel: self,
-                answer: Answer::Refused(1),
-            }
+        let answer = told(self.step_any(call, item, store));
+        Step {
+            kernel: self,
+            answer,
         }
     }
 }

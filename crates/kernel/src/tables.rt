@@ -21,10 +21,12 @@ impl Core {
         ensures { result ≡ core_of fresh }
     {
         let idle = TaskSlot::of(0);
+        let mut order = Order::empty();
+        order.push(idle);
         Core {
             tasks: Tasks::fresh(),
             objects: Objects::fresh(),
-            order: Order::empty().appended(idle),
+            order,
             running: idle,
             tick: 0,
             hold: 0,
@@ -32,58 +34,53 @@ impl Core {
         }
     }
 
-    pub(crate) fn task(self, t: TaskSlot) -> Task
-        ensures { Reads self (λ s. task_at s.tasks t) result }
+    pub(crate) fn task(&self, t: TaskSlot) -> Task
+        ensures { Reads self.now (λ s. task_at s.tasks t) result }
     {
         self.tasks.get(t)
     }
 
-    pub(crate) fn kind(self, o: ObjSlot) -> Kind
-        ensures { Reads self (λ s. kind_at s.objects o) result }
+    pub(crate) fn kind(&self, o: ObjSlot) -> Kind
+        ensures { Reads self.now (λ s. kind_at s.objects o) result }
     {
         self.objects.get(o)
     }
 
-    pub(crate) fn placed(mut self, t: TaskSlot, p: Place, n: u8) -> Core
-        ensures { Does self (λ s. with_task s t (placed (task_at s.tasks t) p n)) result }
+    pub(crate) fn placed(&mut self, t: TaskSlot, p: Place, n: u8)
+        ensures { Does self.old (λ s. with_task s t (placed (task_at s.tasks t) p n)) self.new }
     {
-        self.tasks = self.tasks.placed(t, p, n);
-        self
+        self.tasks.place(t, p, n);
     }
 
-    pub(crate) fn owned(mut self, t: TaskSlot, own: u8) -> Core
-        ensures { Does self (λ s. with_task s t (owned (task_at s.tasks t) own)) result }
+    pub(crate) fn owned(&mut self, t: TaskSlot, own: u8)
+        ensures { Does self.old (λ s. with_task s t (owned (task_at s.tasks t) own)) self.new }
     {
-        self.tasks = self.tasks.owned(t, own);
-        self
+        self.tasks.set_own(t, own);
     }
 
-    pub(crate) fn with_object(mut self, o: ObjSlot, kind: Kind) -> Core
-        ensures { Does self (λ s. with_object s o kind) result }
+    pub(crate) fn with_object(&mut self, o: ObjSlot, kind: Kind)
+        ensures { Does self.old (λ s. with_object s o kind) self.new }
     {
-        self.objects = self.objects.set(o, kind);
-        self
+        self.objects.set(o, kind);
     }
 
     #[tactic(auto, unfolding(crate::specs::Stands::core_of))]
-    pub(crate) fn with_tick(mut self, n: u32) -> Core
-        ensures { Does self (λ s. with_tick s n) result }
+    pub(crate) fn with_tick(&mut self, n: u32)
+        ensures { Does self.old (λ s. with_tick s n) self.new }
     {
         self.tick = n;
-        self
     }
 
     #[tactic(auto, unfolding(crate::specs::Stands::core_of))]
-    pub(crate) fn with_hold(mut self, h: u8, p: u16) -> Core
-        ensures { Does self (λ s. with_hold s h p) result }
+    pub(crate) fn with_hold(&mut self, h: u8, p: u16)
+        ensures { Does self.old (λ s. with_hold s h p) self.new }
     {
         self.hold = h;
         self.pended = p;
-        self
     }
 
-    pub(crate) fn holds(self, t: TaskSlot) -> bool
-        ensures { Reads self (λ s. holds s.objects t) result }
+    pub(crate) fn holds(&self, t: TaskSlot) -> bool
+        ensures { Reads self.now (λ s. holds s.objects t) result }
     {
         self.objects.holds(t)
     }

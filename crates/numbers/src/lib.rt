@@ -2,12 +2,12 @@
 #![tactic(auto)]
 
 ghost use Rattle.std.specs.Prelude.{◌≡◌};
-ghost use Rattle.numbers.specs.Numbers.{task, object, same_task, same_object, is_idle};
+ghost use Rattle.numbers.specs.Numbers.{task, object, is_idle};
 
-#[derive(Clone, Copy)]
+#[derive(Clone, Copy, PartialEq, Eq, Debug)]
 pub struct TaskSlot(pub u8);
 
-#[derive(Clone, Copy)]
+#[derive(Clone, Copy, PartialEq, Eq, Debug)]
 pub struct ObjSlot(pub u8);
 
 impl TaskSlot {
@@ -20,19 +20,13 @@ impl TaskSlot {
     pub fn slot(self) -> usize
         ensures { result ≡ self.0 }
     {
-        self.0 as usize
-    }
-
-    pub fn same(self, t: TaskSlot) -> bool
-        ensures { result ≡ same_task self t }
-    {
-        self.0 == t.0
+        usize::from(self.0)
     }
 
     pub fn is_idle(self) -> bool
         ensures { result ≡ is_idle self }
     {
-        self.0 == 0
+        self == TaskSlot(0)
     }
 }
 
@@ -46,12 +40,6 @@ impl ObjSlot {
     pub fn slot(self) -> usize
         ensures { result ≡ self.0 }
     {
-        self.0 as usize
-    }
-
-    pub fn same(self, o: ObjSlot) -> bool
-        ensures { result ≡ same_object self o }
-    {
-        self.0 == o.0
+        usize::from(self.0)
     }
 }

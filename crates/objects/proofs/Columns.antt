@@ -1,6 +1,6 @@
 -- The columns and the list of objects that they stand for.
 use Prim.Native.Nat.{ℕ, ◌<◌, ◌≤◌}
-use mathlib.Core.Path.{◌≡◌, refl, ap, ◌∙◌}
+use mathlib.Core.Path.{◌≡◌, refl, sym, ap, ◌∙◌}
 use mathlib.Core.Bool.{true, false, ◌&&◌, ◌||◌}
 use mathlib.Core.List.{List, map}
 use native.Mathlib.Omega.{arith}
@@ -16,7 +16,7 @@ use Rattle.lists.proofs.Loops.{values_many, value_at}
 use Rattle.lists.specs.Lists.{up_to, index}
 use Rattle.numbers.specs.declared.TaskSlot.{TaskSlot}
 use Rattle.numbers.specs.Numbers.{task}
-use Rattle.slots.specs.declared.Holder.TheVariants.{Nobody, By}
+use Rattle.slots.specs.Types.{Nobody, By}
 use Rattle.slots.specs.declared.Sort.TheVariants.{Ordinary, Recursive}
 use Rattle.slots.specs.declared.Kind.{Kind}
 use Rattle.slots.specs.declared.Kind.TheVariants.{Unused, Spent as SpentObject, Queue, Mutex, Group}
@@ -113,11 +113,11 @@ row_held os n t h =
     (by_seven (λ s. (leb 6 s && eqb (get_or os.holder n 0) t.0) ≡ held_by t (kind_of (of os n s))) refl refl refl refl refl refl refl
     (λ s l. rw (held_kind os n s l, le-leb 6 s (omega (arith, l)))) (get_or os.state n 0))
 
-pub held_some : (os : Objects) (t : TaskSlot) → Full os → up_to (λ b i. b || (leb 6 (get_or os.state i 0) && eqb (get_or os.holder i 0) t.0)) 16 false ≡ held_in os t
+pub held_some : (os : Objects) (t : TaskSlot) (n : ℕ) → length os.state ≡ n → held_in os t ≡ up_to (λ b i. b || (leb 6 (get_or os.state i 0) && eqb (get_or os.holder i 0) t.0)) n false
 unfolding held_in
-held_some os t f =
-    some_row (λ (x : Object). held_by t x.kind) (λ i. leb 6 (get_or os.state i 0) && eqb (get_or os.holder i 0) t.0) (rows_of os) unused 16 (rows_many os ∙ f.states)
-    (λ i h. row_held os i t (rw (← rows_many os) h))
+held_some os t n w =
+    sym (some_row (λ (x : Object). held_by t x.kind) (λ i. leb 6 (get_or os.state i 0) && eqb (get_or os.holder i 0) t.0) (rows_of os) unused n (rows_many os ∙ w)
+    (λ i h. row_held os i t (rw (← rows_many os) h)))
 
 row_unused : (os : Objects) (n : ℕ) → n < length os.state → takes_object (get_or (rows_of os) n unused).kind ≡ eqb (get_or os.state n 0) 0
 unfolding kind_in kind_of

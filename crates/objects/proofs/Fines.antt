@@ -1,28 +1,27 @@
 -- The tests in numbers are those in words.
-use Prim.Native.Nat.{ℕ, zero, suc, ◌+◌, ◌*◌, ◌<◌, ◌≤◌, min}
+use Prim.Native.Nat.{ℕ, zero, suc, ◌<◌, ◌≤◌}
 use mathlib.Core.Path.{◌≡◌, refl, sym, ap, ◌∙◌}
 use mathlib.Core.Bool.{Bool, true, false, not, ◌&&◌, ◌||◌, or-false}
-use mathlib.Core.List.{List, map}
+use mathlib.Core.List.{List, [], ◌∷◌, map}
 use native.Mathlib.Omega.{arith}
 use lib.Dec.{eqb, ltb, leb}
-use lib.ListN.{length, get_or, set, replicate, get_or-replicate, length-set, length-map, get_or-map}
-use lib.Seq.{ext_get_or}
+use lib.ListN.{length, get_or, replicate, length-map, get_or-map}
+use lib.Seq.{ext_get_or, set_out as set_past}
 use borrow.Author.Tests.{eqb-true, eqb-false, ne_eqb, lt-ltb, ltb-true, le-leb, lt-leb}
 use Rattle.std.proofs.Common.{if◌then◌else◌}
-use Rattle.lists.specs.Lists.{all_below, up_to}
+use Rattle.lists.specs.Lists.{all_below, foldl}
 use Rattle.lists.specs.FourBytes.{of_bytes}
 use Rattle.lists.proofs.Tests.{by_seven}
-use Rattle.lists.proofs.Loops.{Upto, next, ended}
 use Rattle.lists.proofs.Bools.{and_left, and_right, all_below_lem, below_all, all_same}
 use Rattle.numbers.specs.declared.TaskSlot.{TaskSlot}
 use Rattle.slots.specs.declared.Object.{Object}
 use Rattle.slots.specs.Kinds.{unused, holder_of, mark, marks_of}
-use Rattle.slots.proofs.Sweeps.{by_rows, none_counted, Filled, fill_each}
+use Rattle.slots.proofs.Sweeps.{Filled}
 use Rattle.slots.specs.Wants.{all_bits}
 use Rattle.slots.specs.SoundSlots.{awaits_turn, may_wait_on, ring_fine}
 use Rattle.objects.specs.declared.Objects.{Objects}
 use Rattle.objects.specs.Columns.{six, ring, no_ring, in_bytes, known, cells_at, kind_of, kind_in, rows_of, holders_in, canonical}
-use Rattle.objects.specs.Fine.{ranges_fine, fine_at, row_fine, open_at, taken_at, holding_in, Each}
+use Rattle.objects.specs.Fine.{ranges_fine, fine_at, row_fine, marking, open_at, taken_at, Each}
 use Rattle.objects.proofs.Columns.{Full, held_kind, row_at_lem, rows_many}
 
 -- where nobody holds the holder's number is 0, which is in its range
@@ -101,8 +100,8 @@ fine_is : (os : Objects) (n : ℕ) → row_fine (cells_at os n) ≡ fine_at os n
 unfolding kind_in
 fine_is os n = row_is (get_or os.capacity n 0) (get_or os.size n 0) (get_or os.first n 0) (get_or os.count n 0) (get_or os.holder n 0) (get_or os.state n 0)
 
-pub fines_are : (os : Objects) → all_below 16 (λ n. row_fine (cells_at os n)) ≡ all_below 16 (fine_at os)
-fines_are os = all_same 16 (λ n. row_fine (cells_at os n)) (fine_at os) (λ n l. fine_is os n)
+pub fines_are : (os : Objects) (n : ℕ) → n ≡ 16 → all_below n (λ i. row_fine (cells_at os i)) ≡ all_below 16 (fine_at os)
+fines_are os n e = ap (λ (m : ℕ). all_below m (λ i. row_fine (cells_at os i))) e ∙ all_same 16 (λ i. row_fine (cells_at os i)) (fine_at os) (λ i l. fine_is os i)
 
 -- who holds
 holder_is : (os : Objects) (n : ℕ) → (holder_of (kind_in os n)).0 ≡ (if leb 6 (get_or os.state n 0) then get_or os.holder n 0 else 16)
@@ -116,43 +115,22 @@ holder_is os n =
 abbrev pub holding : List ℕ → List ℕ → ℕ → ℕ
 holding states holders i = if leb 6 (get_or states i 0) then get_or holders i 0 else 16
 
--- the marks of the rows, in numbers
-abbrev pub marking : List ℕ → List ℕ → List Bool → ℕ → List Bool
-marking states holders c i = set c (holding states holders i) true
+-- no mark is set past the table
+pub unmarked : (c : List Bool) (t : ℕ) → length c ≤ t → marking c t ≡ c
+unmarked c t h = set_past c t true h
 
-pub record Marked (states holders : List ℕ) (c₀ c : List Bool) (i : ℕ) : Type 0 where
-  pub upto : Upto (marking states holders) c₀ c i
-  pub wide : length c ≡ 16
+marks_by : (c : List Bool) (xs : List Object) → foldl marking c (map (λ (x : Object). (holder_of x.kind).0) xs) ≡ foldl mark c xs
+unfolding foldl
+marks_by c [] = refl
+marks_by c (x ∷ xs) = marks_by (mark c x) xs
 
-pub mark_next : {states holders : List ℕ} {c₀ c r : List Bool} {i : ℕ} → Marked states holders c₀ c i → r ≡ marking states holders c i → Marked states holders c₀ r (i + 1)
-mark_next inv e = record { upto = next inv.upto e; wide = rw (e, length-set) inv.wide }
+pub marks_are : (os : Objects) (by : List ℕ) → by ≡ holders_in os → foldl marking (replicate 16 false) by ≡ marks_of (rows_of os)
+unfolding holders_in marks_of
+marks_are os by e = ap (foldl marking (replicate 16 false)) e ∙ marks_by (replicate 16 false) (rows_of os)
 
-marks_are : (os : Objects) → Full os → up_to (marking os.state os.holder) 16 (replicate 16 false) ≡ marks_of (rows_of os)
-unfolding marks_of
-marks_are os f = by_rows mark (marking os.state os.holder) (rows_of os) unused same (replicate 16 false) 16 (rows_many os ∙ f.states)
-  where
-    same : (c : List Bool) (i : ℕ) → i < length (rows_of os) → marking os.state os.holder c i ≡ mark c (get_or (rows_of os) i unused)
-    same c i h = ap (λ (m : ℕ). set c m true) (sym (holder_is os i) ∙ sym (ap (λ x. (holder_of x).0) (row_at_lem os i (rw (← rows_many os) h))))
-
--- where nobody holds, nothing is marked
-none_marked : (states holders : List ℕ) (n : ℕ) → ((i : ℕ) → i < n → leb 6 (get_or states i 0) ≡ false) → up_to (marking states holders) n (replicate 16 false) ≡ replicate 16 false
-unfolding up_to
-none_marked states holders zero f = refl
-none_marked states holders (suc n) f = ap (λ (c : List Bool). marking states holders c n) (none_marked states holders n (λ i l. f i (omega arith))) ∙ rw (f n (omega arith))
-
-pub marks_end : (os : Objects) → Full os → {c : List Bool} {i : ℕ} → Marked os.state os.holder (replicate 16 false) c i → i ≡ min 16 (16 * holding_in os) → c ≡ marks_of (rows_of os)
-unfolding holding_in up_to
-marks_end os f {c} {i} inv e = go (eqb (holding_in os) 0) refl
-  where
-    go : (b : Bool) → eqb (holding_in os) 0 ≡ b → c ≡ marks_of (rows_of os)
-    go true q =
-        let z : i ≡ 0 = omega (arith, eqb-true (holding_in os) 0 q) in
-        ended inv.upto 0 z
-        ∙ sym (none_marked os.state os.holder 16 (none_counted (taken_at os) 16 (eqb-true (holding_in os) 0 q)))
-        ∙ marks_are os f
-    go false q =
-        let z : i ≡ 16 = omega (arith, eqb-false (holding_in os) 0 q) in
-        ended inv.upto 16 z ∙ marks_are os f
+pub none_marked : foldl marking (replicate 16 false) (replicate 16 16) ≡ replicate 16 false
+unfolding foldl
+none_marked = refl
 
 -- who may wait
 pub wait_is : (os : Objects) (t : TaskSlot) (n : ℕ) → (open_at os n || (taken_at os n && not (eqb (get_or os.holder n 0) t.0))) ≡ awaits_turn t (kind_in os n)
@@ -172,10 +150,6 @@ pub fine_canonical : (os : Objects) → all_below 16 (fine_at os) ≡ true → c
 unfolding canonical
 fine_canonical os h = below_all 16 (λ i. known (cells_at os i)) (λ i l. and_left (known (cells_at os i)) (ranges_fine (kind_in os i)) (all_below_lem 16 (fine_at os) h i l))
 
--- sixteen answers, when a loop has filled them
-pub fill_done : {f : ℕ → Bool} {out : List Bool} {i : ℕ} → Filled f false out i → 16 ≤ i → Each f out
-fill_done inv h = record { each = fill_each inv h }
-
 -- the holders, when a loop has filled them
 pub holders_done : (os : Objects) → Full os → {out : List ℕ} {i : ℕ} → Filled (holding os.state os.holder) 16 out i → 16 ≤ i → out ≡ holders_in os
 unfolding holders_in
@@ -188,16 +162,3 @@ holders_done os f {out} inv h = ext_get_or 16 out (map (λ (x : Object). (holder
     at n l =
         inv.filled n (omega (arith, inv.wide))
         ∙ sym (get_or-map (λ (x : Object). (holder_of x.kind).0) (rows_of os) n unused ∙ ap (λ x. (holder_of x).0) (row_at_lem os n (omega (arith, inv.wide, f.states))) ∙ holder_is os n)
-
--- a walk over as many as there may be: none where nobody holds, else all
-pub holders_end : (os : Objects) → Full os → {out : List ℕ} {i : ℕ} → Filled (holding os.state os.holder) 16 out i → (i ≡ 0 → out ≡ replicate 16 16) → i ≡ min 16 (16 * holding_in os)
-    → out ≡ holders_in os
-unfolding holding_in
-holders_end os f {out} {i} inv z e = go (eqb (holding_in os) 0) refl
-  where
-    go : (b : Bool) → eqb (holding_in os) 0 ≡ b → out ≡ holders_in os
-    go true q =
-        let none = none_counted (taken_at os) 16 (eqb-true (holding_in os) 0 q) in
-        z (omega (arith, eqb-true (holding_in os) 0 q))
-        ∙ holders_done os f {i = 16} (record { wide = refl; filled = λ n l. get_or-replicate 16 n 16 16 l ∙ rw (none n l) }) (omega arith)
-    go false q = holders_done os f inv (omega (arith, eqb-false (holding_in os) 0 q))

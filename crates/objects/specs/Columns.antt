@@ -4,7 +4,7 @@ use Rattle.lists.specs.Lists.{any, index, all_below, values}
 use Rattle.lists.specs.FourBytes.{low_byte, second_byte, third_byte, last_byte, of_bytes}
 use Rattle.numbers.specs.Numbers.{task}
 use Rattle.numbers.specs.declared.TaskSlot.{TaskSlot}
-use Rattle.slots.specs.declared.Holder.TheVariants.{Nobody, By}
+use Rattle.slots.specs.Types.{Nobody, By}
 use Rattle.slots.specs.declared.Sort.{Sort}
 use Rattle.slots.specs.declared.Sort.TheVariants.{Ordinary, Recursive}
 use Rattle.slots.specs.declared.Kind.{Kind}

@@ -1,6 +1,6 @@
 -- What soundness asks of the objects and must know of them.
-use Rattle.std.specs.Prelude.{ℕ, ◌+◌, ◌<◌, ◌≡◌, Bool, true, false, not, ◌&&◌, ◌||◌, List, eqb, ltb, leb, length, get_or, if◌then◌else◌}
-use Rattle.lists.specs.Lists.{all_below, up_to}
+use Rattle.std.specs.Prelude.{ℕ, ◌<◌, ◌≡◌, Bool, true, false, not, ◌&&◌, ◌||◌, List, eqb, ltb, leb, length, get_or, set, if◌then◌else◌}
+use Rattle.lists.specs.Lists.{all_below}
 use Rattle.numbers.specs.declared.TaskSlot.{TaskSlot}
 use Rattle.slots.specs.declared.Kind.{Kind}
 use Rattle.slots.specs.Kinds.{hands, marks_of}
@@ -38,9 +38,9 @@ open_at os n = eqb (get_or os.state n 0) 1 && (eqb (get_or os.count n 0) 0 || eq
 abbrev pub taken_at : Objects → ℕ → Bool
 taken_at os n = leb 6 (get_or os.state n 0)
 
--- how many are held
-unfoldable pub holding_in : Objects → ℕ
-holding_in os = up_to (λ n i. n + (if taken_at os i then 1 else 0)) 16 0
+-- the mark of one who holds, in numbers
+abbrev pub marking : List Bool → ℕ → List Bool
+marking c t = set c t true
 
 -- sixteen answers
 pub record Each (f : ℕ → Bool) (r : List Bool) : Type 0 where

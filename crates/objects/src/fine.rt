@@ -1,41 +1,27 @@
 // What soundness asks of the objects and must know of them, in numbers: no Kind is made, so that the compiler does many rows at once.
-ghost use Rattle.std.specs.Prelude.{◌*◌, min, ◌≡◌, leb, if◌then◌else◌};
-ghost use Rattle.lists.specs.Lists.{all_below};
+// These take the table by value and its columns one by one: read in place behind a reference they are not done at once.
+ghost use Rattle.std.specs.Prelude.{◌≡◌, false, leb, replicate, if◌then◌else◌};
+ghost use Rattle.lists.specs.Lists.{all_below, foldl};
 ghost use Rattle.slots.specs.SoundSlots.{ring_fine};
-ghost use Rattle.objects.specs.Columns.{HoldersAre, ring, six};
-ghost use Rattle.objects.specs.Fine.{count_right, row_fine, fine_at, open_at, taken_at, holding_in, Each, MarksAre, HoldingsAre};
+ghost use Rattle.objects.specs.Columns.{HoldersAre, ring};
+ghost use Rattle.objects.specs.Fine.{marking, count_right, row_fine, fine_at, open_at, taken_at, Each, MarksAre, HoldingsAre};
 
-use crate::{Holdings, Marks, Objects};
+use crate::{Cells, Holdings, Marks, Objects};
 
 fn ring_fine(c: u8, z: u8, f: u8, k: u8) -> bool
     ensures { result ≡ ring_fine (ring c z f k) }
 {
-    let few = lists::both(1 <= c, c <= 64);
-    let small = lists::both(z <= 64, (c as u16) * (z as u16) <= 512);
-    let places = lists::both(f < c, k <= c);
-    lists::both(few, lists::both(small, places))
+    let few = (1 <= c) & (c <= 64);
+    let small = (z <= 64) & (u16::from(c) * u16::from(z) <= 512);
+    let places = (f < c) & (k <= c);
+    few & small & places
 }
 
 // A queue's count is asked with its ring. Only a held recursive mutex has another than 0: the bits of an event group have no fourth byte.
 fn count_right(s: u8, k: u8) -> bool
     ensures { result ≡ count_right s k }
 {
-    if s == 7 {
-        return 1 <= k;
-    }
-    lists::either(s == 1, k == 0)
-}
-
-#[tactic(auto, unfolding(crate::specs::Fine::row_fine))]
-fn row_fine(s: u8, c: u8, z: u8, f: u8, k: u8, h: u8) -> bool
-    ensures { result ≡ row_fine (six s c z f k h) }
-{
-    let none = lists::both(c == 0, lists::both(z == 0, f == 0));
-    let rings = lists::either(lists::either(s == 1, s == 5), none);
-    let holds = lists::either(6 <= s, h == 0);
-    let ranges = lists::both(lists::either(s != 1, ring_fine(c, z, f, k)), h < 16);
-    let counts = lists::both(count_right(s, k), lists::both(holds, ranges));
-    lists::both(s <= 7, lists::both(rings, counts))
+    if s == 7 { 1 <= k } else { (s == 1) | (k == 0) }
 }
 
 // Who holds it; 16 where nobody does.
@@ -45,7 +31,36 @@ fn holder(s: u8, h: u8) -> u8
     if 6 <= s { h } else { 16 }
 }
 
+// For each task slot whether its task is among these.
+#[tactic(auto, using(lists::proofs::Folds::fold_none, lists::proofs::Folds::fold_more, lists::proofs::Folds::fold_all, crate::proofs::Fines::unmarked))]
+fn marked(by: &[u8]) -> [bool; 16]
+    ensures { result ≡ foldl marking (replicate 16 false) by.now }
+{
+    let mut held = [false; 16];
+    for &t in by {
+        if t < 16 {
+            held[usize::from(t)] = true;
+        }
+    }
+    held
+}
+
+impl Cells {
+    #[tactic(auto, unfolding(crate::specs::Fine::row_fine))]
+    fn is_fine(self) -> bool
+        ensures { result ≡ row_fine self }
+    {
+        let s = self.state;
+        let none = (self.capacity == 0) & (self.size == 0) & (self.first == 0);
+        let rings = (s == 1) | (s == 5) | none;
+        let holds = (6 <= s) | (self.holder == 0);
+        let ring = (s != 1) | ring_fine(self.capacity, self.size, self.first, self.count);
+        (s <= 7) & rings & count_right(s, self.count) & holds & ring & (self.holder < 16)
+    }
+}
+
 impl Objects {
+    #[tactic(auto, using(lists::proofs::Turns::all_below_none, lists::proofs::Turns::all_below_more))]
     fn rows_fine(self) -> bool
         ensures { result ≡ all_below 16 (fine_at self) }
     {
@@ -56,69 +71,31 @@ impl Objects {
         let count = self.count;
         let holder = self.holder;
         let mut ok = true;
-        let mut i = 0usize;
-        while i < 16 {
-            let fine = row_fine(
-                state[i],
-                capacity[i],
-                size[i],
-                first[i],
-                count[i],
-                holder[i],
-            );
-            ok = lists::both(ok, fine);
-            i += 1;
+        for i in 0..16 {
+            let cells = Cells {
+                state: state[i],
+                capacity: capacity[i],
+                size: size[i],
+                first: first[i],
+                count: count[i],
+                holder: holder[i],
+            };
+            ok &= cells.is_fine();
         }
         ok
     }
 
-    // How many are held.
-    #[tactic(auto, unfolding(crate::specs::Fine::holding_in))]
-    fn holding(self) -> u8
-        ensures { result ≡ holding_in self }
-    {
-        let state = self.state;
-        let mut n = 0u8;
-        let mut i = 0usize;
-        while i < 16 {
-            n += lists::one_if(6 <= state[i]);
-            i += 1;
-        }
-        n
-    }
-
-    fn marked(self, n: usize) -> Marks
-        requires { n ≡ min 16 (16 * holding_in self) }
-        ensures { MarksAre self result }
-    {
-        let state = self.state;
-        let whom = self.holder;
-        let mut held = [false; 16];
-        let mut by = [16u8; 16];
-        let mut i = 0usize;
-        while i < n {
-            let h = holder(state[i], whom[i]);
-            by[i] = h;
-            let t = h as usize;
-            if t < 16 {
-                held[t] = true;
-            }
-            i += 1;
-        }
-        Marks { held, by }
-    }
-
-    // Who holds: by task slot and by object. Where nobody holds the walk costs nothing.
+    // Who holds: by task slot and by object. Mostly nobody does, and then there is nothing to mark.
     fn marks(self) -> Marks
         ensures { MarksAre self result }
     {
-        let n = lists::bound(self.holding());
-        if n == 0 {
-            let held = [false; 16];
-            let by = [16u8; 16];
-            return Marks { held, by };
-        }
-        self.marked(n)
+        let by = self.holders();
+        let held = if by == [16; 16] {
+            [false; 16]
+        } else {
+            marked(&by)
+        };
+        Marks { held, by }
     }
 
     // The queues that are empty or full.
@@ -129,11 +106,8 @@ impl Objects {
         let capacity = self.capacity;
         let count = self.count;
         let mut out = [false; 16];
-        let mut i = 0usize;
-        while i < 16 {
-            let ends = lists::either(count[i] == 0, count[i] == capacity[i]);
-            out[i] = lists::both(state[i] == 1, ends);
-            i += 1;
+        for i in 0..16 {
+            out[i] = (state[i] == 1) & ((count[i] == 0) | (count[i] == capacity[i]));
         }
         out
     }
@@ -144,10 +118,8 @@ impl Objects {
     {
         let state = self.state;
         let mut out = [false; 16];
-        let mut i = 0usize;
-        while i < 16 {
+        for i in 0..16 {
             out[i] = 6 <= state[i];
-            i += 1;
         }
         out
     }
@@ -159,10 +131,8 @@ impl Objects {
         let state = self.state;
         let by = self.holder;
         let mut out = [16u8; 16];
-        let mut i = 0usize;
-        while i < 16 {
+        for i in 0..16 {
             out[i] = holder(state[i], by[i]);
-            i += 1;
         }
         out
     }
@@ -171,9 +141,7 @@ impl Objects {
     pub fn holdings(self) -> Holdings
         ensures { HoldingsAre self result }
     {
-        let marks = self.marks();
-        let held = marks.held;
-        let by = marks.by;
+        let Marks { held, by } = self.marks();
         let open = self.opens();
         let taken = self.takes();
         let holder = self.holder;

@@ -1,5 +1,5 @@
 -- The code's walk past the first of a line leaves what it should.
-use Prim.Native.Nat.{ℕ, ◌+◌, ◌%◌, ◌<◌, ◌≤◌, min}
+use Prim.Native.Nat.{ℕ, ◌+◌, ◌%◌, ◌<◌, ◌≤◌}
 use mathlib.Core.Path.{◌≡◌, refl, sym, ap, ◌∙◌}
 use mathlib.Core.Bool.{Bool, true, false, ◌&&◌}
 use mathlib.Core.List.{List, [], ◌∷◌, ◌++◌, append_assoc, append-nil}
@@ -7,8 +7,8 @@ use native.Mathlib.Nat.{mod-lt, mod-eq_of_lt}
 use native.Mathlib.Numerals.{add-one}
 use native.Mathlib.Omega.{arith}
 use lib.Dec.{ltb}
-use lib.ListN.{length, get_or, set, take, drop, length-take, drop_of_length-le, get_or-eq_default}
-use lib.Seq.{take-nil, take_all, take-take, get_or-take, drop-cons}
+use lib.ListN.{length, get_or, take, drop, length-take, drop_of_length-le, get_or-eq_default}
+use lib.Seq.{take-nil, take_all, get_or-take, drop-cons}
 use borrow.Author.Tests.{ltb-true, ltb-false, lt-ltb, le-ltb}
 use Rattle.std.proofs.Common.{if◌then◌else◌}
 use Rattle.lists.specs.Lists.{foldl}
@@ -16,50 +16,10 @@ use Rattle.numbers.specs.declared.TaskSlot.{TaskSlot}
 use Rattle.numbers.specs.Numbers.{idle, same_task}
 use Rattle.order.specs.declared.Order.{Order}
 use Rattle.order.specs.Order.{listed, ordered, appended_to, reach}
-use Rattle.order.specs.Turns.{less_those, turned_of, times_turned, head_after, walk, is_next, past_next}
+use Rattle.order.specs.Turns.{less_those, turned_of, times_turned, head_after, walk, past_next}
 use Rattle.order.proofs.Halves.{reach-listed}
 use Rattle.order.proofs.Orders.{snoc, listed-ordered}
 use Rattle.order.proofs.Rolls.{less_none}
-
--- the first n of those that an order lists
-pub first_listed : (o : Order) (n : ℕ) → length o.places ≡ 16 → take (min n (reach o)) o.places ≡ take n (listed o)
-first_listed o n l = go (ltb n (reach o)) refl
-  where
-    go : (b : Bool) → ltb n (reach o) ≡ b → take (min n (reach o)) o.places ≡ take n (listed o)
-    go true e =
-        let h : n < reach o = ltb-true n (reach o) e in
-        let m : min n (reach o) ≡ n = omega arith in
-        rw (m, ← reach-listed o l) (sym (take-take n (reach o) o.places (omega arith)))
-    go false e =
-        let h : reach o ≤ n = ltb-false n (reach o) e in
-        let m : min n (reach o) ≡ reach o = omega arith in
-        let few : length (listed o) ≤ n = rw (← reach-listed o l, length-take) (omega arith) in
-        rw (m, reach-listed o l) (sym (take_all n (listed o) few))
-
--- ── a turn of the walk
-module _ (places : List TaskSlot) (k j : ℕ) (x : TaskSlot) (fits : k ≤ length places) where
-  many : length (take k places) ≡ k
-  many = length-take k places ∙ omega arith
-
-  tested : j < k → is_next (take k places) j x ≡ same_task x (get_or places j idle)
-  tested h = rw (many, lt-ltb j k h, get_or-take k places j idle h)
-
-  -- the next of the line is met
-  pub next_met : (o : Order) → j < k → same_task x (get_or places j idle) ≡ true → walk o (j + 1) ≡ past_next (take k places) (walk o j) x
-  next_met o h e = rw (tested h ∙ e)
-
-  -- another task, or one behind the last of them
-  module _ (out : List TaskSlot) (m : ℕ) (room : m < 16) where
-    kept_on : is_next (take k places) j x ≡ false
-        → walk (record { places = set out m x; living = m + 1 }) j ≡ past_next (take k places) (walk (record { places = out; living = m }) j) x
-    kept_on e = rw (e, lt-ltb m 16 room)
-
-    pub next_not : j < k → same_task x (get_or places j idle) ≡ false
-        → walk (record { places = set out m x; living = m + 1 }) j ≡ past_next (take k places) (walk (record { places = out; living = m }) j) x
-    next_not h e = kept_on (tested h ∙ e)
-
-    pub none_next : k ≤ j → walk (record { places = set out m x; living = m + 1 }) j ≡ past_next (take k places) (walk (record { places = out; living = m }) j) x
-    none_next h = kept_on (rw (many, le-ltb j k h))
 
 -- ── the whole of it
 pub walked : (ks ys xs : List TaskSlot) (j : ℕ) → (foldl (past_next ks) (walk (ordered ys) j) xs).left ≡ ordered (ys ++ less_those xs (drop j ks))

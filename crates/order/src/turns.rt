@@ -1,107 +1,82 @@
 // The turn of a line in one go: the tasks that have had their turn go to the tail, in their order.
-ghost use Rattle.std.specs.Prelude.{◌≡◌, min, take};
+ghost use Rattle.std.specs.Prelude.{◌≡◌, take};
 ghost use Rattle.lists.specs.Lists.{foldl};
-ghost use Rattle.order.specs.Order.{listed, ordered, appended_to, reach};
+ghost use Rattle.order.specs.Order.{listed, ordered, appended_to};
 ghost use Rattle.order.specs.Turns.{less_those, turned_of, times_turned, head_after};
 
 use crate::Order;
 use numbers::TaskSlot;
 
 impl Order {
-    // How many the first `n` of those listed are.
-    fn as_many(self, n: usize) -> usize
-        ensures { result ≡ min n (reach self) }
+    // The first `n` of those listed.
+    fn first(&self, n: usize) -> &[TaskSlot]
+        ensures { result.now ≡ take n (listed self.now) }
     {
-        let all = self.reach();
-        if n < all { n } else { all }
+        let listed = self.listed();
+        &listed[..n.min(listed.len())]
     }
 
-    // Without the first `n` of a line. They stand here as in the line, so the next one to leave is all that a task is compared with.
-    fn but_first(self, line: Order, n: usize) -> Order
-        ensures { result ≡ ordered (less_those (listed self) (take n (listed line))) }
+    // The first `n` of a line leave. They stand here as in the line, so the next one to leave is all that a task is compared with.
+    #[tactic(auto, using(lists::proofs::Folds::fold_none, lists::proofs::Folds::fold_more, lists::proofs::Folds::fold_all))]
+    fn remove_first(&mut self, line: &Order, n: usize)
+        ensures { self.new ≡ ordered (less_those (listed self.old) (take n (listed line.now))) }
     {
-        let places = self.places;
-        let line_places = line.places;
-        let e = self.reach();
-        let k = line.as_many(n);
-        let none = Order::empty();
-        let mut out = none.places;
-        let mut m = none.living as usize;
-        let mut j = 0usize;
-        let mut i = 0usize;
-        while i < e {
-            let x = places[i];
-            let mut next = false;
-            if j < k {
-                next = x.same(line_places[j]);
-            }
-            if next {
+        let all = *self;
+        let leaving = line.first(n);
+        let mut j = 0;
+        *self = Order::empty();
+        for &x in all.listed() {
+            if j < leaving.len() && x == leaving[j] {
                 j += 1;
             } else {
-                out[m] = x;
-                m += 1;
+                self.push(x);
             }
-            i += 1;
-        }
-        Order {
-            places: out,
-            living: m as u8,
         }
     }
 
-    // With the first `n` of a line behind.
-    fn then_first(self, line: Order, n: usize) -> Order
-        ensures { result ≡ foldl appended_to self (take n (listed line)) }
+    // The first `n` of a line come behind.
+    #[tactic(auto, using(lists::proofs::Folds::fold_none, lists::proofs::Folds::fold_more, lists::proofs::Folds::fold_all))]
+    fn push_first(&mut self, line: &Order, n: usize)
+        ensures { self.new ≡ foldl appended_to self.old (take n (listed line.now)) }
     {
-        let line_places = line.places;
-        let k = line.as_many(n);
-        let mut out = self.places;
-        let mut m = self.living as usize;
-        let mut i = 0usize;
-        while i < k {
-            if m < 16 {
-                out[m] = line_places[i];
-                m += 1;
-            }
-            i += 1;
-        }
-        Order {
-            places: out,
-            living: m as u8,
+        for &x in line.first(n) {
+            self.push(x);
         }
     }
 
     // The first `n` of a line go to the tail.
-    fn turned(self, line: Order, n: usize) -> Order
-        ensures { result ≡ turned_of self (take n (listed line)) }
+    #[tactic(auto, using(crate::proofs::Walks::appended_all))]
+    fn turn_first(&mut self, line: &Order, n: usize)
+        ensures { self.new ≡ turned_of self.old (take n (listed line.now)) }
     {
-        self.but_first(line, n).then_first(line, n)
+        self.remove_first(line, n);
+        self.push_first(line, n);
     }
 
     // The head of a line goes to the tail, `n` times over.
-    pub fn turns(self, line: Order, n: usize) -> Order
-        ensures { result ≡ times_turned self (listed line) n }
+    #[tactic(auto, using(crate::proofs::Walks::less_than_round, crate::proofs::Walks::more_rounds, crate::proofs::Walks::none_there))]
+    pub fn turn(&mut self, line: &Order, n: usize)
+        ensures { self.new ≡ times_turned self.old (listed line.now) n }
     {
-        let all = line.reach();
+        let all = line.listed().len();
         if n < all {
-            return self.turned(line, n);
+            self.turn_first(line, n);
+            return;
         }
-        let parted = self.turned(line, all);
-        if all == 0 {
-            return parted;
+        self.turn_first(line, all);
+        if all != 0 {
+            self.turn_first(line, n % all);
         }
-        parted.turned(line, n % all)
     }
 
     // Who heads the line after that; idle where nobody stands in it.
-    pub fn head_after(self, n: usize) -> TaskSlot
-        ensures { result ≡ head_after (listed self) n }
+    pub fn head_after(&self, n: usize) -> TaskSlot
+        ensures { result ≡ head_after (listed self.now) n }
     {
-        let all = self.reach();
-        if all == 0 {
+        let listed = self.listed();
+        if listed.is_empty() {
             return TaskSlot::of(0);
         }
-        let places = self.places;
-        places[n % all]
+        listed[n % listed.len()]
     }
 }

@@ -21,8 +21,8 @@ use Rattle.slots.specs.declared.Place.{Place}
 use Rattle.slots.specs.declared.Place.TheVariants.{Free, Ready, Delayed, Waiting}
 use Rattle.slots.specs.declared.Task.{Task}
 use Rattle.slots.specs.declared.Ring.{Ring}
-use Rattle.slots.specs.declared.Holder.{Holder}
-use Rattle.slots.specs.declared.Holder.TheVariants.{Nobody, By}
+use Rattle.slots.specs.Types.{Holder}
+use Rattle.slots.specs.Types.{Nobody, By}
 use Rattle.slots.specs.declared.Sort.{Sort}
 use Rattle.slots.specs.declared.Kind.{Kind}
 use Rattle.slots.specs.declared.Kind.TheVariants.{Unused, Queue, Mutex, Group}

@@ -10,8 +10,8 @@ use borrow.Author.Tests.{ne_eqb}
 use Rattle.lists.specs.Lists.{foldl, index}
 use Rattle.calls.specs.declared.Call.{Call}
 use Rattle.calls.specs.Door.{task_no}
-use Rattle.journal.specs.declared.Reading.{Reading}
-use Rattle.journal.specs.declared.Reading.TheVariants.{Says, Refused}
+use Rattle.journal.specs.Told.{Reading}
+use Rattle.std.specs.Prelude.{Ok, Err}
 use Rattle.journal.specs.Reader.{read_of, no_call}
 use Rattle.journal.proofs.Newlines.{Ended, reply_ended}
 use Rattle.rules.specs.State.{State}
@@ -85,8 +85,8 @@ module _ (k : State) (s : List ℕ) (n : ℕ) where
       none = ap (λ (m : ℕ). turned_away k m s) e
 
       read : (x : Reading) (item : List ℕ) → step_told k s x item ≡ turned_away k n s
-      read (Says c) item = f c item
-      read (Refused m) item = none
+      read (Ok c) item = f c item
+      read (Err m) item = none
 
       go : (t : Bool) → ltb 256 (length l) ≡ t → step_of_line k s l ≡ turned_away k n s
       go true q = rw q none

@@ -13,10 +13,10 @@ use Rattle.calls.specs.declared.Call.{Call}
 use Rattle.calls.specs.Table.{called}
 use Rattle.fields.specs.Item.{filled}
 use Rattle.journal.specs.declared.Read.{Read}
-use Rattle.journal.specs.declared.Reading.{Reading}
-use Rattle.journal.specs.declared.Reading.TheVariants.{Refused}
+use Rattle.std.specs.Prelude.{Err}
+use Rattle.calls.specs.declared.refusals.Refusal.TheVariants.{NoCall}
 use Rattle.journal.specs.Line.{line_of, HasLine}
-use Rattle.journal.specs.Told.{tells_call, refused_with, reads}
+use Rattle.journal.specs.Told.{tells_call, refused_with, Reading, reads}
 use Rattle.journal.specs.Promise.{IsLine, NoLine}
 use Rattle.journal.specs.Reader.{read_as, read_of, no_call}
 use Rattle.journal.proofs.Fit.{item_long}
@@ -37,7 +37,7 @@ call_line k s c b h =
     (ap (step_read k s) (line_read c b h) ∙ ap (λ (x : List ℕ). step k c x s) item)
 
 refused_read : (k : State) (s : List ℕ) (r : Read) → reads r.answer ≡ refused_with 3 → step_read k s r ≡ turned_away k (no_line k s) s
-refused_read k s r e = ap (λ (x : Reading). step_told k s x (take r.len r.item)) (one_reading r.answer (Refused 3) e)
+refused_read k s r e = ap (λ (x : Reading). step_told k s x (take r.len r.item)) (one_reading r.answer (Err NoCall) e)
 
 -- "3: the line is no call's line", after 1 and 2
 pub no_call_line : (k : State) (s l : List ℕ) → ((c : Call) (b : List ℕ) → HasLine c b → l ≡ line_of c b → ⊥) → step_of_line k s l ≡ turned_away k (no_line k s) s

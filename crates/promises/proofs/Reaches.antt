@@ -4,8 +4,8 @@ use mathlib.Core.Path.{◌≡◌, refl, sym, ap, subst, ◌∙◌}
 use mathlib.Core.List.{List, [], ◌∷◌, flatten}
 use lib.ListN.{take, replicate}
 use Rattle.lists.specs.Lists.{foldl}
-use Rattle.journal.specs.declared.Reading.{Reading}
-use Rattle.journal.specs.declared.Reading.TheVariants.{Says, Refused}
+use Rattle.journal.specs.Told.{Reading}
+use Rattle.std.specs.Prelude.{Ok, Err}
 use Rattle.rules.specs.State.{State}
 use Rattle.rules.specs.Tables.{fresh}
 use Rattle.rules.specs.Sessions.{step_told, read_line, step_of_line}
@@ -25,8 +25,8 @@ unfolding step_of_line foldl trace
 line_reaches k s l u = read (read_line l).answer (take (read_line l).len (read_line l).item)
   where
     read : (x : Reading) (item : List ℕ) → (step_told k s x item).kernel ≡ state_after k (trace step_made k u (said_call s x item))
-    read (Says c) item = refl
-    read (Refused n) item = refl
+    read (Ok c) item = refl
+    read (Err n) item = refl
 
 lines_reach : (k : State) (s : List ℕ) (ls : List (List ℕ)) → (answering k s ls).kernel ≡ after k (calls_of k s ls)
 unfolding answering calls_of foldl trace flatten

@@ -1,8 +1,7 @@
 -- The calls that an input's lines make, and how far a session has come: demand 3 is then one of the program too.
-use Rattle.std.specs.Prelude.{ℕ, ◌≡◌, take, replicate}
+use Rattle.std.specs.Prelude.{ℕ, ◌≡◌, take, replicate, Ok, Err}
 use mathlib.Core.List.{List, [], ◌∷◌, ◌++◌, map, flatten}
-use Rattle.journal.specs.declared.Reading.{Reading}
-use Rattle.journal.specs.declared.Reading.TheVariants.{Says, Refused}
+use Rattle.journal.specs.Told.{Reading}
 use Rattle.rules.specs.State.{State}
 use Rattle.rules.specs.Tables.{fresh}
 use Rattle.rules.specs.Sessions.{read_line, step_of_line}
@@ -12,8 +11,8 @@ use Rattle.promises.specs.Turns.{Turn, after_turns, came_in, at_start}
 
 -- the call that a line says, as it is made: with its item and the store s; none where the line is no call's line
 abbrev pub said_call : List ℕ → Reading → List ℕ → List CallMade
-said_call s (Says c) item = record { call = c; item = item; store = s } ∷ []
-said_call s (Refused n) item = []
+said_call s (Ok c) item = record { call = c; item = item; store = s } ∷ []
+said_call s (Err n) item = []
 
 abbrev pub call_of_line : List ℕ → List ℕ → List CallMade
 call_of_line s l = let r = read_line l in said_call s r.answer (take r.len r.item)

@@ -8,13 +8,12 @@ pub use Rattle.calls.specs.declared.Asked.{Asked}
 pub use Rattle.slots.specs.declared.Want.{Want}
 pub use Rattle.slots.specs.declared.Want.TheVariants.{OwnTurn, Bits}
 pub use Rattle.slots.specs.declared.Wait.{Wait}
-pub use Rattle.slots.specs.declared.Wake.{Wake}
-pub use Rattle.slots.specs.declared.Wake.TheVariants.{Never}
+pub use Rattle.slots.specs.Types.{Wake}
+pub use Rattle.slots.specs.Types.{Never}
 pub use Rattle.slots.specs.declared.Place.{Place}
 pub use Rattle.slots.specs.declared.Place.TheVariants.{Free, Ready, Delayed, Waiting, Suspended, Spent}
 pub use Rattle.slots.specs.declared.Task.{Task}
-pub use Rattle.slots.specs.declared.Holder.{Holder}
-pub use Rattle.slots.specs.declared.Holder.TheVariants.{Nobody, By}
+pub use Rattle.slots.specs.Types.{Holder, Nobody, By}
 pub use Rattle.slots.specs.declared.Sort.{Sort}
 pub use Rattle.slots.specs.declared.Sort.TheVariants.{Ordinary, Recursive}
 pub use Rattle.slots.specs.declared.Kind.{Kind}

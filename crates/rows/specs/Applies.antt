@@ -1,7 +1,9 @@
 -- "What is turned away": the table, a row for each number, in its order. "Of the numbers that apply, the one that stands first in this table is given, and none otherwise."
-use Rattle.std.specs.Prelude.{ℕ, ◌*◌, Bool, false, not, ◌&&◌, ◌||◌, List, [], ◌∷◌, eqb, ltb, leb, if◌then◌else◌}
+use Rattle.std.specs.Prelude.{ℕ, ◌*◌, Bool, false, not, ◌&&◌, ◌||◌, List, [], ◌∷◌, eqb, ltb, leb, if◌then◌else◌, Option, None, Some}
 use Rattle.numbers.specs.declared.TaskSlot.{TaskSlot}
 use Rattle.numbers.specs.Numbers.{same_task, is_idle}
+use Rattle.calls.specs.declared.refusals.Refusal.{Refusal}
+use Rattle.calls.specs.Refusals.{number_of}
 use Rattle.slots.specs.Places.{is_free, is_suspended}
 use Rattle.slots.specs.Wants.{all_bits, holds_of}
 use Rattle.slots.specs.Kinds.{count_in, is_unused, is_queue, is_mutex, is_group, held_by, recursive_by, is_held}
@@ -135,6 +137,11 @@ row n b = record { number = n; applies = b }
 abbrev pub first_row : List Row → ℕ
 first_row [] = 0
 first_row (r ∷ rs) = if r.applies then r.number else first_row rs
+
+-- a refusal's number; 0 where there is none
+abbrev pub number_or_0 : Option Refusal → ℕ
+number_or_0 None = 0
+number_or_0 (Some r) = number_of r
 
 -- "No. | Given exactly when", for a sound kernel; the lengths are the item's and the store's. (3 is the line reader's.)
 unfoldable pub table : Seen → Asked → ℕ → ℕ → List Row

@@ -1,74 +1,49 @@
 // The table: a method for each row, and the first row that applies. A row that speaks of one call looks at the call's number first.
 ghost use Rattle.std.specs.Prelude.{◌≡◌, if◌then◌else◌};
+ghost use Rattle.calls.specs.Refusals.{number_of};
 ghost use Rattle.rows.specs.Applies.{not_so_many, no_such_bits, out_of_range, names_none, size_differs, wrong_size, not_for_idle, not_with_hold, not_his};
 ghost use Rattle.rows.specs.Applies.{his_already, count_full, not_suspended, is_full, is_empty, is_unmet, stops_at, must_wait, no_depth, no_tick};
-ghost use Rattle.rows.specs.Applies.{first_row, table};
+ghost use Rattle.rows.specs.Applies.{first_row, table, number_or_0};
 
 use crate::{Seen, asking};
-use calls::{Asked, Names};
+use calls::{Asked, Names, Refusal};
 use numbers::TaskSlot;
 use slots::Kind;
 
-fn not_so_many(a: Asked) -> bool
-    ensures { result ≡ not_so_many a }
+fn not_so_many(a: &Asked) -> bool
+    ensures { result ≡ not_so_many a.now }
 {
-    if a.number == 18 {
-        return lists::either(a.ticks < 1, 65535 < a.ticks);
-    }
-    false
+    a.number == 18 && (a.ticks < 1 || 65535 < a.ticks)
 }
 
 // Only set, clear and wait, calls 21 to 23, have bits and flags.
-fn no_such_bits(a: Asked) -> bool
-    ensures { result ≡ no_such_bits a }
+fn no_such_bits(a: &Asked) -> bool
+    ensures { result ≡ no_such_bits a.now }
 {
-    if a.number < 21 {
-        return false;
-    }
-    let empty = lists::both(a.number == 23, a.bits == 0);
-    let flags = lists::either(1 < a.all, lists::either(1 < a.clear, empty));
-    lists::either(16777215 < a.bits, flags)
+    21 <= a.number
+        && (16777215 < a.bits || 1 < a.all || 1 < a.clear || (a.number == 23 && a.bits == 0))
 }
 
 #[tactic(auto, unfolding(crate::specs::Applies::out_of_range))]
-fn out_of_range(a: Asked) -> bool
-    ensures { result ≡ out_of_range a }
+fn out_of_range(a: &Asked) -> bool
+    ensures { result ≡ out_of_range a.now }
 {
-    let c = a.capacity;
-    let s = a.size;
-    if 31 < a.priority {
-        return true;
-    }
-    if 4294967295 <= a.ticks {
-        return true;
-    }
-    if not_so_many(a) {
-        return true;
-    }
-    if c < 1 {
-        return true;
-    }
-    if 64 < c {
-        return true;
-    }
-    if 64 < s {
-        return true;
-    }
-    if 512 < c * s {
-        return true;
-    }
-    no_such_bits(a)
+    31 < a.priority
+        || 4294967295 <= a.ticks
+        || not_so_many(a)
+        || a.capacity < 1
+        || 64 < a.capacity
+        || 64 < a.size
+        || 512 < a.capacity * a.size
+        || no_such_bits(a)
 }
 
 fn size_differs(x: Kind, n: usize) -> bool
     ensures { result ≡ size_differs n x }
 {
     match x {
-        Kind::Unused => false,
-        Kind::Spent => false,
-        Kind::Queue(q) => n != q.size as usize,
-        Kind::Mutex(_, _) => false,
-        Kind::Group(_) => false,
+        Kind::Queue(ring) => n != usize::from(ring.size),
+        _ => false,
     }
 }
 
@@ -76,11 +51,8 @@ fn is_full(x: Kind) -> bool
     ensures { result ≡ is_full x }
 {
     match x {
-        Kind::Unused => false,
-        Kind::Spent => false,
-        Kind::Queue(q) => q.count == q.capacity,
-        Kind::Mutex(_, _) => false,
-        Kind::Group(_) => false,
+        Kind::Queue(ring) => ring.count == ring.capacity,
+        _ => false,
     }
 }
 
@@ -88,223 +60,152 @@ fn is_empty(x: Kind) -> bool
     ensures { result ≡ is_empty x }
 {
     match x {
-        Kind::Unused => false,
-        Kind::Spent => false,
-        Kind::Queue(q) => q.count == 0,
-        Kind::Mutex(_, _) => false,
-        Kind::Group(_) => false,
+        Kind::Queue(ring) => ring.count == 0,
+        _ => false,
     }
 }
 
-fn is_unmet(a: Asked, x: Kind) -> bool
-    ensures { result ≡ is_unmet a x }
+fn is_unmet(a: &Asked, x: Kind) -> bool
+    ensures { result ≡ is_unmet a.now x }
 {
     match x {
-        Kind::Unused => false,
-        Kind::Spent => false,
-        Kind::Queue(_) => false,
-        Kind::Mutex(_, _) => false,
-        Kind::Group(b) => {
-            let met = slots::wants::holds_of(b, a.bits, a.all == 1);
-            !met
-        }
+        Kind::Group(bits) => !slots::wants::holds_of(bits, a.bits, a.all == 1),
+        _ => false,
     }
 }
 
-fn stops_at(a: Asked, t: TaskSlot, x: Kind) -> bool
-    ensures { result ≡ stops_at a t x }
+fn stops_at(a: &Asked, t: TaskSlot, x: Kind) -> bool
+    ensures { result ≡ stops_at a.now t x }
 {
-    if a.number == 13 {
-        return is_full(x);
+    match a.number {
+        13 => is_full(x),
+        14 => is_empty(x),
+        15 => x.is_held() && !x.recursive_by(t),
+        23 => is_unmet(a, x),
+        _ => false,
     }
-    if a.number == 14 {
-        return is_empty(x);
-    }
-    if a.number == 23 {
-        return is_unmet(a, x);
-    }
-    if a.number == 15 {
-        if x.is_held() {
-            let again = x.recursive_by(t);
-            return !again;
-        }
-    }
-    false
 }
 
-// This row's number, if it applies; else that of the rows after it.
-fn row_or(n: u32, applies: bool, rest: u32) -> u32
-    ensures { result ≡ if applies then n else rest }
+// This row's refusal, if it applies; else that of the rows after it.
+fn row_or(refusal: Refusal, applies: bool, rest: Option<Refusal>) -> Option<Refusal>
+    ensures { number_or_0 result ≡ if applies then number_of refusal else number_or_0 rest }
 {
-    if applies { n } else { rest }
+    if applies { Some(refusal) } else { rest }
 }
 
 impl Seen {
     #[tactic(auto, unfolding(crate::specs::Applies::names_none))]
-    fn names_none(self, a: Asked) -> bool
-        ensures { result ≡ names_none self a }
+    fn names_none(&self, a: &Asked) -> bool
+        ensures { result ≡ names_none self.now a.now }
     {
-        let names = a.names;
-        let p = self.place;
-        let x = self.kind;
-        match names {
+        match a.names {
             Names::Nothing => false,
-            Names::Task => p.is_free(),
-            Names::Object => x.is_unused(),
-            Names::Queue => !x.is_queue(),
-            Names::Mutex => !x.is_mutex(),
-            Names::Group => !x.is_group(),
+            Names::Task => self.place.is_free(),
+            Names::Object => self.kind.is_unused(),
+            Names::Queue => !self.kind.is_queue(),
+            Names::Mutex => !self.kind.is_mutex(),
+            Names::Group => !self.kind.is_group(),
         }
     }
 
     #[tactic(auto, unfolding(crate::specs::Applies::wrong_size))]
-    fn wrong_size(self, a: Asked, n: usize) -> bool
-        ensures { result ≡ wrong_size self a n }
+    fn wrong_size(&self, a: &Asked, n: usize) -> bool
+        ensures { result ≡ wrong_size self.now a.now n }
     {
-        if a.number == 13 {
-            let x = self.kind;
-            return size_differs(x, n);
-        }
-        false
+        a.number == 13 && size_differs(self.kind, n)
     }
 
     #[tactic(auto, unfolding(crate::specs::Applies::not_for_idle))]
-    fn not_for_idle(self, a: Asked) -> bool
-        ensures { result ≡ not_for_idle self a }
+    fn not_for_idle(&self, a: &Asked) -> bool
+        ensures { result ≡ not_for_idle self.now a.now }
     {
-        let t = a.task;
-        let u = self.running;
-        let of_idle = t.is_idle();
-        if lists::both(asking::stops(a), of_idle) {
-            return true;
-        }
-        if lists::both(a.number == 5, lists::both(of_idle, a.priority != 0)) {
-            return true;
-        }
-        lists::both(asking::blocks(a), u.is_idle())
+        let of_idle = a.task.is_idle();
+        (asking::stops(a) && of_idle)
+            || (a.number == 5 && of_idle && a.priority != 0)
+            || (asking::blocks(a) && self.running.is_idle())
     }
 
     #[tactic(auto, unfolding(crate::specs::Applies::not_with_hold))]
-    fn not_with_hold(self, a: Asked) -> bool
-        ensures { result ≡ not_with_hold self a }
+    fn not_with_hold(&self, a: &Asked) -> bool
+        ensures { result ≡ not_with_hold self.now a.now }
     {
-        if self.hold == 0 {
-            return false;
-        }
-        let t = a.task;
-        let u = self.running;
-        let own = lists::both(asking::stops(a), t.same(u));
-        let waits = lists::either(a.wait != 0, own);
-        let blocked = lists::either(a.number == 7, lists::either(a.number == 18, waits));
-        lists::either(a.number == 6, blocked)
+        0 < self.hold
+            && (matches!(a.number, 6 | 7 | 18)
+                || a.wait != 0
+                || (asking::stops(a) && a.task == self.running))
     }
 
     #[tactic(auto, unfolding(crate::specs::Applies::not_his))]
-    fn not_his(self, a: Asked) -> bool
-        ensures { result ≡ not_his self a }
+    fn not_his(&self, a: &Asked) -> bool
+        ensures { result ≡ not_his self.now a.now }
     {
-        if a.number == 16 {
-            let x = self.kind;
-            let mine = x.held_by(self.running);
-            return !mine;
-        }
-        false
+        a.number == 16 && !self.kind.held_by(self.running)
     }
 
     #[tactic(auto, unfolding(crate::specs::Applies::his_already))]
-    fn his_already(self, a: Asked) -> bool
-        ensures { result ≡ his_already self a }
+    fn his_already(&self, a: &Asked) -> bool
+        ensures { result ≡ his_already self.now a.now }
     {
-        if a.number == 15 {
-            let x = self.kind;
-            let u = self.running;
-            if x.held_by(u) {
-                let again = x.recursive_by(u);
-                return !again;
-            }
-        }
-        false
+        let u = self.running;
+        a.number == 15 && self.kind.held_by(u) && !self.kind.recursive_by(u)
     }
 
     #[tactic(auto, unfolding(crate::specs::Applies::count_full))]
-    fn count_full(self, a: Asked) -> bool
-        ensures { result ≡ count_full self a }
+    fn count_full(&self, a: &Asked) -> bool
+        ensures { result ≡ count_full self.now a.now }
     {
-        if a.number == 15 {
-            let x = self.kind;
-            return lists::both(x.recursive_by(self.running), x.count() == 255);
-        }
-        false
+        a.number == 15 && self.kind.recursive_by(self.running) && self.kind.count() == 255
     }
 
     #[tactic(auto, unfolding(crate::specs::Applies::not_suspended))]
-    fn not_suspended(self, a: Asked) -> bool
-        ensures { result ≡ not_suspended self a }
+    fn not_suspended(&self, a: &Asked) -> bool
+        ensures { result ≡ not_suspended self.now a.now }
     {
-        if a.number == 4 {
-            let p = self.place;
-            let s = p.is_suspended();
-            return !s;
-        }
-        false
+        a.number == 4 && !self.place.is_suspended()
     }
 
     #[tactic(auto, unfolding(crate::specs::Applies::must_wait))]
-    fn must_wait(self, a: Asked) -> bool
-        ensures { result ≡ must_wait self a }
+    fn must_wait(&self, a: &Asked) -> bool
+        ensures { result ≡ must_wait self.now a.now }
     {
-        if a.wait != 0 {
-            return false;
-        }
-        let x = self.kind;
-        stops_at(a, self.running, x)
+        a.wait == 0 && stops_at(a, self.running, self.kind)
     }
 
     #[tactic(auto, unfolding(crate::specs::Applies::no_depth))]
-    fn no_depth(self, a: Asked) -> bool
-        ensures { result ≡ no_depth self a }
+    fn no_depth(&self, a: &Asked) -> bool
+        ensures { result ≡ no_depth self.now a.now }
     {
-        let h = self.hold;
-        if a.number == 8 {
-            return h == 255;
-        }
-        if a.number == 9 {
-            return h == 0;
-        }
-        false
+        (a.number == 8 && self.hold == 255) || (a.number == 9 && self.hold == 0)
     }
 
     #[tactic(auto, unfolding(crate::specs::Applies::no_tick))]
-    fn no_tick(self, a: Asked) -> bool
-        ensures { result ≡ no_tick self a }
+    fn no_tick(&self, a: &Asked) -> bool
+        ensures { result ≡ no_tick self.now a.now }
     {
-        if a.number == 17 {
-            return lists::both(0 < self.hold, self.pended == 65535);
-        }
-        false
+        a.number == 17 && 0 < self.hold && self.pended == 65535
     }
 
-    // The number of the first row that applies, of rows 2 to 18; 0 where none does. They are asked from the last to the first. No row is passed over: which one applies cannot be
-    // foretold, and most calls pass them all.
+    // The first row that applies, of rows 2 to 18. They are asked from the last to the first. No row is passed over: which one applies cannot be foretold, and most calls
+    // pass them all.
     #[tactic(auto, unfolding(crate::specs::Applies::table, crate::specs::Applies::none_free))]
-    pub fn row(self, a: Asked, item: usize, store: usize) -> u32
-        ensures { result ≡ first_row (table self a item store) }
+    pub fn row(&self, a: &Asked, item: usize, store: usize) -> Option<Refusal>
+        ensures { number_or_0 result ≡ first_row (table self.now a.now item store) }
     {
-        let no = row_or(16, self.no_tick(a), 0);
-        let no = row_or(15, self.no_depth(a), no);
-        let no = row_or(14, self.must_wait(a), no);
-        let no = row_or(17, self.circle, no);
-        let no = row_or(13, self.not_suspended(a), no);
-        let no = row_or(18, self.count_full(a), no);
-        let no = row_or(12, self.his_already(a), no);
-        let no = row_or(11, self.not_his(a), no);
-        let no = row_or(10, self.used, no);
-        let no = row_or(9, self.new == 16, no);
-        let no = row_or(8, self.not_with_hold(a), no);
-        let no = row_or(7, self.not_for_idle(a), no);
-        let no = row_or(6, self.wrong_size(a, item), no);
-        let no = row_or(5, self.names_none(a), no);
-        let no = row_or(4, out_of_range(a), no);
-        row_or(2, store != 9216, no)
+        let row = row_or(Refusal::NoTick, self.no_tick(a), None);
+        let row = row_or(Refusal::NoDepth, self.no_depth(a), row);
+        let row = row_or(Refusal::MustWait, self.must_wait(a), row);
+        let row = row_or(Refusal::Circle, self.circle, row);
+        let row = row_or(Refusal::NotSuspended, self.not_suspended(a), row);
+        let row = row_or(Refusal::CountFull, self.count_full(a), row);
+        let row = row_or(Refusal::HisAlready, self.his_already(a), row);
+        let row = row_or(Refusal::NotHis, self.not_his(a), row);
+        let row = row_or(Refusal::InUse, self.used, row);
+        let row = row_or(Refusal::NoneFree, self.new == 16, row);
+        let row = row_or(Refusal::NotWithHold, self.not_with_hold(a), row);
+        let row = row_or(Refusal::NotForIdle, self.not_for_idle(a), row);
+        let row = row_or(Refusal::WrongSize, self.wrong_size(a, item), row);
+        let row = row_or(Refusal::NamesNone, self.names_none(a), row);
+        let row = row_or(Refusal::OutOfRange, out_of_range(a), row);
+        row_or(Refusal::StoreLength, store != 9216, row)
     }
 }

@@ -4,23 +4,21 @@ ghost use Rattle.rows.specs.Asking.{is, makes, stops, waits};
 
 use calls::Asked;
 
-pub fn makes(a: Asked) -> bool
-    ensures { result ≡ makes a }
+pub fn makes(a: &Asked) -> bool
+    ensures { result ≡ makes a.now }
 {
-    let later = lists::either(a.number == 19, a.number == 20);
-    let object = lists::either(a.number == 10, lists::either(a.number == 11, later));
-    lists::either(a.number == 1, object)
+    matches!(a.number, 1 | 10 | 11 | 19 | 20)
 }
 
-pub(crate) fn stops(a: Asked) -> bool
-    ensures { result ≡ stops a }
+pub(crate) fn stops(a: &Asked) -> bool
+    ensures { result ≡ stops a.now }
 {
-    lists::either(a.number == 2, a.number == 3)
+    matches!(a.number, 2 | 3)
 }
 
 // What idle may not do: delay, take, or any wait.
-pub(crate) fn blocks(a: Asked) -> bool
-    ensures { result ≡ (is 6 a || (is 15 a || waits a)) }
+pub(crate) fn blocks(a: &Asked) -> bool
+    ensures { result ≡ (is 6 a.now || (is 15 a.now || waits a.now)) }
 {
-    lists::either(a.number == 6, lists::either(a.number == 15, a.wait != 0))
+    matches!(a.number, 6 | 15) || a.wait != 0
 }

@@ -10,7 +10,7 @@ use slots::{Kind, Place};
 
 // What the rows look at: the task and the object that the call names; the slot that a create or make takes, 0 for any other call; whether what is to be deleted
 // or removed is in use, and whether a take closes a circle; the caller, the hold and the pended ticks.
-#[derive(Clone, Copy)]
+#[derive(Clone, Copy, PartialEq, Eq, Debug)]
 pub struct Seen {
     pub place: Place,
     pub kind: Kind,

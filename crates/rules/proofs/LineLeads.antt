@@ -7,11 +7,12 @@ use native.Mathlib.Omega.{arith}
 use lib.Dec.{eqb, ltb, leb}
 use borrow.Author.Tests.{ltb-true, ltb-false, lt-ltb, le-ltb, lt-leb, le-leb, eq-eqb, ne_eqb}
 use Rattle.std.proofs.Common.{if◌then◌else◌}
+use Rattle.std.specs.Prelude.{Option, None}
 use Rattle.lists.specs.Lists.{foldl, kept, head, is_none}
 use Rattle.lists.proofs.Tests.{kept-kept}
 use Rattle.order.specs.Order.{listed}
-use Rattle.slots.specs.Leads.{is_who, better, leads}
-use Rattle.rules.specs.Types.{TaskSlot, Task, Who, all_ready, Lead, Open, Best, State}
+use Rattle.slots.specs.Leads.{is_who, best, better, leads}
+use Rattle.rules.specs.Types.{TaskSlot, Task, Who, all_ready, Lead, State}
 use Rattle.slots.specs.Values.{task_at}
 use Rattle.rules.specs.Lines.{line, those, level, highest, leader, first}
 use Rattle.rules.specs.Sound.{no_higher}
@@ -43,12 +44,12 @@ module _ (ts : List Task) where
       go (u ∷ m) true e ih = ih
 
   module _ (w : Who) where
-    abbrev step : Lead → TaskSlot → Lead
+    abbrev step : Option Lead → TaskSlot → Option Lead
     step b t = better w b t (task_at ts t)
 
     -- the best so far stays so, unless one of the rest has a higher priority
     from_best : (b : TaskSlot) (q : ℕ) (l : List TaskSlot)
-        → leads (foldl step (Best b q) l) ≡ (if ltb q (highest ts (those ts w l)) then leader ts (those ts w l) else b ∷ [])
+        → leads (foldl step (best b q) l) ≡ (if ltb q (highest ts (those ts w l)) then leader ts (those ts w l) else b ∷ [])
     unfolding foldl those kept highest better
     from_best b q [] = rw (le-ltb q 0 (omega arith))
     from_best b q (t ∷ l) = go (is_who w (task_at ts t).place) (ltb q (level ts t)) refl (ltb (level ts t) h) refl (ltb q h) refl (from_best b q l) (from_best t (level ts t) l)
@@ -60,9 +61,9 @@ module _ (ts : List Task) where
         h = highest ts rest
 
         go : (c : Bool) (d : Bool) → ltb q (level ts t) ≡ d → (e : Bool) → ltb (level ts t) h ≡ e → (f : Bool) → ltb q h ≡ f
-            → leads (foldl step (Best b q) l) ≡ (if ltb q h then leader ts rest else b ∷ [])
-            → leads (foldl step (Best t (level ts t)) l) ≡ (if ltb (level ts t) h then leader ts rest else t ∷ [])
-            → leads (foldl step (if c then (if d then Best t (level ts t) else Best b q) else Best b q) l)
+            → leads (foldl step (best b q) l) ≡ (if ltb q h then leader ts rest else b ∷ [])
+            → leads (foldl step (best t (level ts t)) l) ≡ (if ltb (level ts t) h then leader ts rest else t ∷ [])
+            → leads (foldl step (if c then (if d then best t (level ts t) else best b q) else best b q) l)
             ≡ (if ltb q (highest ts (if c then t ∷ rest else rest)) then leader ts (if c then t ∷ rest else rest) else b ∷ [])
         go false d p e r f s i j = i
         go true true p true r f s i j =
@@ -72,14 +73,14 @@ module _ (ts : List Task) where
         go true false p false r f s i j =
             i ∙ rw (le-ltb q h (omega (arith, ltb-false q (level ts t) p, ltb-false (level ts t) h r)), r, p)
 
-    pub finds : (l : List TaskSlot) → leads (foldl step Open l) ≡ leader ts (those ts w l)
+    pub finds : (l : List TaskSlot) → leads (foldl step None l) ≡ leader ts (those ts w l)
     unfolding foldl those kept better leader
     finds [] = refl
     finds (t ∷ l) = go (is_who w (task_at ts t).place) (finds l) (from_best t (level ts t) l)
       where
-        go : (c : Bool) → leads (foldl step Open l) ≡ leader ts (those ts w l)
-            → leads (foldl step (Best t (level ts t)) l) ≡ (if ltb (level ts t) (highest ts (those ts w l)) then leader ts (those ts w l) else t ∷ [])
-            → leads (foldl step (if c then Best t (level ts t) else Open) l) ≡ leader ts (if c then t ∷ those ts w l else those ts w l)
+        go : (c : Bool) → leads (foldl step None l) ≡ leader ts (those ts w l)
+            → leads (foldl step (best t (level ts t)) l) ≡ (if ltb (level ts t) (highest ts (those ts w l)) then leader ts (those ts w l) else t ∷ [])
+            → leads (foldl step (if c then best t (level ts t) else None) l) ≡ leader ts (if c then t ∷ those ts w l else those ts w l)
         go true i j = j ∙ sym (leader_cons t (those ts w l))
         go false i j = i
 

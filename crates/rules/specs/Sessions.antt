@@ -1,10 +1,9 @@
 -- A session: bytes come in blocks, cut anywhere; each line that ends among them is answered with one line.
-use Rattle.std.specs.Prelude.{ℕ, ◌+◌, Bool, ◌&&◌, List, [], ◌∷◌, ◌++◌, eqb, ltb, length, take, if◌then◌else◌}
+use Rattle.std.specs.Prelude.{ℕ, ◌+◌, Bool, ◌&&◌, List, [], ◌∷◌, ◌++◌, eqb, ltb, length, take, if◌then◌else◌, Ok, Err}
 use Rattle.calls.specs.Door.{task_no}
 use Rattle.cuts.specs.Keeping.{with_byte, ended, is_blank}
 use Rattle.journal.specs.declared.Read.{Read}
-use Rattle.journal.specs.declared.Reading.{Reading}
-use Rattle.journal.specs.declared.Reading.TheVariants.{Says, Refused}
+use Rattle.journal.specs.Told.{Reading}
 use Rattle.journal.specs.Reader.{read_of, no_call}
 use Rattle.journal.specs.Reply.{reply}
 use Rattle.rules.specs.Types.{State, Cut}
@@ -20,8 +19,8 @@ no_line k s = no_line_of (sound k) (length s)
 
 -- what the reader made of a line: the step of its call, or a refusal
 abbrev pub step_told : State → List ℕ → Reading → List ℕ → Stepped
-step_told k s (Says c) item = step k c item s
-step_told k s (Refused n) item = turned_away k (no_line k s) s
+step_told k s (Ok c) item = step k c item s
+step_told k s (Err n) item = turned_away k (no_line k s) s
 
 abbrev pub step_read : State → List ℕ → Read → Stepped
 step_read k s r = step_told k s r.answer (take r.len r.item)

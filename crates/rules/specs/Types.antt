@@ -12,8 +12,7 @@ pub use Rattle.calls.specs.declared.Asked.{Asked}
 pub use Rattle.rows.specs.declared.Seen.{Seen}
 pub use Rattle.cuts.specs.declared.Cut.{Cut}
 pub use Rattle.order.specs.declared.Order.{Order}
-pub use Rattle.slots.specs.declared.Wake.{Wake}
-pub use Rattle.slots.specs.declared.Wake.TheVariants.{Never, At}
+pub use Rattle.slots.specs.Types.{Wake, Never, At}
 pub use Rattle.slots.specs.declared.Want.{Want}
 pub use Rattle.slots.specs.declared.Want.TheVariants.{OwnTurn, Bits}
 pub use Rattle.slots.specs.declared.Wait.{Wait}
@@ -21,8 +20,7 @@ pub use Rattle.slots.specs.declared.Place.{Place}
 pub use Rattle.slots.specs.declared.Place.TheVariants.{Free, Ready, Delayed, Waiting, Suspended, Spent}
 pub use Rattle.slots.specs.declared.Task.{Task}
 pub use Rattle.slots.specs.declared.Ring.{Ring}
-pub use Rattle.slots.specs.declared.Holder.{Holder}
-pub use Rattle.slots.specs.declared.Holder.TheVariants.{Nobody, By}
+pub use Rattle.slots.specs.Types.{Holder, Nobody, By}
 pub use Rattle.slots.specs.declared.Sort.{Sort}
 pub use Rattle.slots.specs.declared.Sort.TheVariants.{Ordinary, Recursive}
 pub use Rattle.slots.specs.declared.Kind.{Kind}
@@ -30,5 +28,4 @@ pub use Rattle.slots.specs.declared.Kind.TheVariants.{Unused, Spent as SpentObje
 pub use Rattle.slots.specs.declared.Object.{Object}
 pub use Rattle.slots.specs.Who.{Who, all_ready, waiters_of, those_satisfied_on}
 pub use Rattle.slots.specs.declared.Lead.{Lead}
-pub use Rattle.slots.specs.declared.Lead.TheVariants.{Open, Best}
 pub use Rattle.rules.specs.State.{State, Outlet, to_waiter, to_queue, to_caller}

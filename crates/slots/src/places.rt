@@ -9,68 +9,39 @@ use crate::{Place, Want};
 pub fn ahead(now: u32, w: u32) -> u32
     ensures { result ≡ ahead now w }
 {
-    let distance = std::num::wrapping_sub_u32(w, now);
-    std::num::wrapping_sub_u32(distance, 1)
+    w.wrapping_sub(now).wrapping_sub(1)
 }
 
 impl Place {
     pub fn is_free(self) -> bool
         ensures { result ≡ is_free self }
     {
-        match self {
-            Place::Free => true,
-            Place::Ready => false,
-            Place::Delayed(_) => false,
-            Place::Waiting(_, _) => false,
-            Place::Suspended => false,
-            Place::Spent => true,
-        }
+        matches!(self, Place::Free | Place::Spent)
     }
 
     pub fn is_ready(self) -> bool
         ensures { result ≡ is_ready self }
     {
-        match self {
-            Place::Free => false,
-            Place::Ready => true,
-            Place::Delayed(_) => false,
-            Place::Waiting(_, _) => false,
-            Place::Suspended => false,
-            Place::Spent => false,
-        }
+        matches!(self, Place::Ready)
     }
 
     pub fn is_suspended(self) -> bool
         ensures { result ≡ is_suspended self }
     {
-        match self {
-            Place::Free => false,
-            Place::Ready => false,
-            Place::Delayed(_) => false,
-            Place::Waiting(_, _) => false,
-            Place::Suspended => true,
-            Place::Spent => false,
-        }
+        matches!(self, Place::Suspended)
     }
 
     pub fn is_blocked(self) -> bool
         ensures { result ≡ is_blocked self }
     {
-        match self {
-            Place::Free => false,
-            Place::Ready => false,
-            Place::Delayed(_) => true,
-            Place::Waiting(_, _) => true,
-            Place::Suspended => false,
-            Place::Spent => false,
-        }
+        matches!(self, Place::Delayed(_) | Place::Waiting(_, _))
     }
 
     // The order lists it.
     pub fn is_listed(self) -> bool
         ensures { result ≡ is_listed self }
     {
-        lists::either(self.is_ready(), self.is_blocked())
+        self.is_ready() || self.is_blocked()
     }
 
     // What it waits for; its turn, if it does not wait.
@@ -78,12 +49,8 @@ impl Place {
         ensures { result ≡ want_in self }
     {
         match self {
-            Place::Free => Want::OwnTurn,
-            Place::Ready => Want::OwnTurn,
-            Place::Delayed(_) => Want::OwnTurn,
-            Place::Waiting(x, _) => x.want,
-            Place::Suspended => Want::OwnTurn,
-            Place::Spent => Want::OwnTurn,
+            Place::Waiting(wait, _) => wait.want,
+            _ => Want::OwnTurn,
         }
     }
 }

@@ -17,8 +17,7 @@ pub fn holds_of(bits: u32, mask: u32, all: bool) -> bool
 pub fn cleared(bits: u32, mask: u32) -> u32
     ensures { result ≡ cleared bits mask }
 {
-    let hit = bits & mask;
-    bits - hit
+    bits - (bits & mask)
 }
 
 impl Want {
@@ -36,8 +35,8 @@ impl Want {
         ensures { result ≡ clears self }
     {
         match self {
-            Want::OwnTurn => 0,
-            Want::Bits(m, _, clear) => { if clear { m } else { 0 } }
+            Want::Bits(m, _, true) => m,
+            _ => 0,
         }
     }
 }
@@ -48,15 +47,11 @@ impl Kind {
         ensures { result ≡ awaits_bits m all self }
     {
         match self {
-            Kind::Unused => false,
-            Kind::Spent => false,
-            Kind::Queue(_) => false,
-            Kind::Mutex(_, _) => false,
-            Kind::Group(b) => {
-                let met = holds_of(b, m, all);
-                let mask = lists::both(1 <= m, m <= 16777215);
-                lists::both(mask, !met)
+            Kind::Group(bits) => {
+                let mask = 1 <= m && m <= 16777215;
+                mask && !holds_of(bits, m, all)
             }
+            _ => false,
         }
     }
 }

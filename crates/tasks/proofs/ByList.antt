@@ -17,20 +17,19 @@ use Rattle.order.specs.declared.Order.{Order}
 use Rattle.heights.specs.Heights.{occupied, largest}
 use Rattle.chains.specs.Chains.{within, largest_own}
 use Rattle.chains.specs.Columns.{says}
-use Rattle.slots.specs.declared.Wake.TheVariants.{Never, At}
+use Rattle.slots.specs.Types.{Never, At}
 use Rattle.slots.specs.declared.Place.{Place}
 use Rattle.slots.specs.declared.Place.TheVariants.{Free, Ready, Delayed, Waiting, Suspended, Spent}
 use Rattle.slots.specs.declared.Task.{Task}
 use Rattle.slots.specs.Who.{Who}
-use Rattle.slots.specs.declared.Lead.TheVariants.{Open}
+use Rattle.std.specs.Prelude.{None}
 use Rattle.slots.specs.Places.{is_ready, takes_task, waits_on, waited_on, wakes_at, away}
 use Rattle.slots.specs.Values.{free_task, levelled, task_at, in_line}
 use Rattle.slots.specs.Leads.{better}
-use Rattle.tasks.specs.declared.Woken.{Woken}
 use Rattle.tasks.specs.Numbering.{cells_of}
 use Rattle.tasks.specs.Columns.{wake_cell, tasks_of, free_in, put, levelled_at, row_at}
 use Rattle.tasks.specs.Walks.{lead_in, line_in, top_in, lines_in, waited_in}
-use Rattle.tasks.specs.Dues.{until_in, wake_now, wait_ends, woken, ready_of, tailed, wake_in, wakes_in}
+use Rattle.tasks.specs.Dues.{until_in, wake_now, wait_ends, Woken, woken, ready_of, tailed, wake_in, wakes_in}
 use Rattle.tasks.specs.Loans.{levels_in, reaches_in, fronted, level_in, worked_in}
 use Rattle.tasks.proofs.Columns.{row_of, rows_of_lem, put_of, levelled_of}
 use Rattle.tasks.proofs.Heads.{none_passes}
@@ -49,7 +48,7 @@ pub task_of : (xs : List Task) (t : TaskSlot) → row_at (tasks_of xs) t.0 ≡ t
 unfolding task_at
 task_of xs t = row_of xs t.0
 
-pub lead_of : (xs : List Task) (w : Who) (l : List TaskSlot) → lead_in (tasks_of xs) w l ≡ foldl (λ b t. better w b t (task_at xs t)) Open l
+pub lead_of : (xs : List Task) (w : Who) (l : List TaskSlot) → lead_in (tasks_of xs) w l ≡ foldl (λ b t. better w b t (task_at xs t)) None l
 unfolding lead_in
 lead_of xs w l = simp task_of
 

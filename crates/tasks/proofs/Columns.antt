@@ -8,7 +8,7 @@ use lib.ListN.{length, get_or, set, length-map, get_or-map, get_or-eq_default}
 use lib.Seq.{set_out, map-set_same}
 use Rattle.slots.proofs.Sweeps.{map-set, values_of}
 use Rattle.lists.proofs.Loops.{values_many, value_at}
-use Rattle.slots.specs.declared.Wake.TheVariants.{Never, At}
+use Rattle.slots.specs.Types.{Never, At}
 use Rattle.slots.specs.declared.Place.{Place}
 use Rattle.slots.specs.declared.Place.TheVariants.{Free, Ready, Delayed, Waiting, Suspended, Spent}
 use Rattle.slots.specs.declared.Task.{Task}

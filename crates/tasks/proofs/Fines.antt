@@ -1,17 +1,16 @@
 -- What soundness asks, in numbers and in words.
-use Prim.Native.Nat.{ℕ, zero, suc, ◌*◌, ◌<◌, ◌≤◌, min}
+use Prim.Native.Nat.{ℕ, zero, suc, ◌<◌}
 use mathlib.Core.Path.{◌≡◌, refl, sym, ap, ◌∙◌}
 use mathlib.Core.Bool.{Bool, true, false, not, ◌&&◌, ◌||◌, and-true}
 use mathlib.Core.List.{List}
 use native.Mathlib.Omega.{arith}
 use lib.Dec.{eqb, ltb, leb}
 use lib.ListN.{get_or}
-use borrow.Author.Tests.{ne_eqb, eqb-true, eqb-false, lt-ltb, le-ltb}
+use borrow.Author.Tests.{ne_eqb}
 use Rattle.std.proofs.Common.{if◌then◌else◌}
 use Rattle.lists.specs.Lists.{all_below, up_to}
-use Rattle.lists.proofs.Bools.{and_left, and_right, and_intro, and_on, and_off, all_below_lem, below_all, all_same}
+use Rattle.lists.proofs.Bools.{and_left, and_right, and_intro, all_below_lem, below_all, all_same}
 use Rattle.lists.proofs.Tests.{by_six}
-use Rattle.lists.proofs.Loops.{Held}
 use Rattle.numbers.specs.Numbers.{task}
 use Rattle.slots.specs.declared.Want.{Want}
 use Rattle.slots.specs.declared.Want.TheVariants.{OwnTurn, Bits}
@@ -145,22 +144,6 @@ abbrev pub wait_number : List ℕ → List ℕ → List ℕ → List Bool → Li
 wait_number states objects flags opens takes holder i =
     if waits_state (get_or states i 0) && eqb (get_or flags i 0) 0 then ltb (get_or objects i 0) 16 && may_wait_on opens takes holder (task i) (get_or objects i 0) else true
 
-module _ (states objects flags : List ℕ) (opens takes : List Bool) (holder : List ℕ) (i : ℕ) (ok : Bool) where
-  abbrev turns : Bool
-  turns = waits_state (get_or states i 0) && eqb (get_or flags i 0) 0
-
-  abbrev wait : Bool
-  wait = wait_number states objects flags opens takes holder i
-
-  pub wait_fits : (o : ℕ) → o ≡ get_or objects i 0 → turns ≡ true → o < 16 → (ok && may_wait_on opens takes holder (task i) o) ≡ (ok && wait)
-  wait_fits o same e l = rw (e, ← same, lt-ltb o 16 l)
-
-  pub wait_past : (o : ℕ) → o ≡ get_or objects i 0 → turns ≡ true → 16 ≤ o → false ≡ (ok && wait)
-  wait_past o same e l = and_off ok wait (rw (e, ← same, le-ltb o 16 l))
-
-  pub wait_not : turns ≡ false → ok ≡ (ok && wait)
-  wait_not e = and_on ok wait (rw e)
-
 module _ (ts : Tasks) (opens takes : List Bool) (holder : List ℕ) where
   abbrev asks : ℕ → ℕ → Bool
   asks i o = ltb o 16 && may_wait_on opens takes holder (task i) o
@@ -189,22 +172,13 @@ module _ (ts : Tasks) (opens takes : List Bool) (holder : List ℕ) where
       turn_asked i (get_or ts.object i 0) (get_or ts.wants.mask i 0) (get_or ts.wants.flags i 0) (waits_state (get_or ts.state i 0))
       ∙ sym (wait_is i (get_or ts.state i 0) (get_or ts.object i 0) (get_or ts.wake i 0) (want_at ts.wants i))
 
-  waits_are : all_below 16 want_number ≡ all_below 16 (waits_at ts opens takes holder)
+  pub waits_are : all_below 16 want_number ≡ all_below 16 (waits_at ts opens takes holder)
   waits_are = all_same 16 want_number (waits_at ts opens takes holder) (λ i l. waits_is i)
 
   -- where nobody waits, nothing is asked
   none_waits : (i : ℕ) → waits_state (get_or ts.state i 0) ≡ false → want_number i ≡ true
   none_waits i e = rw e
 
-  pub waits_end : {ok : Bool} {i : ℕ} → Held want_number true ok i → i ≡ min 16 (16 * waiting_in ts) → ok ≡ all_below 16 (waits_at ts opens takes holder)
-  unfolding waiting_in all_below
-  waits_end {ok} {i} inv e = go (eqb (waiting_in ts) 0) refl
-    where
-      go : (b : Bool) → eqb (waiting_in ts) 0 ≡ b → ok ≡ all_below 16 (waits_at ts opens takes holder)
-      go true q =
-          let z : i ≡ 0 = omega (arith, eqb-true (waiting_in ts) 0 q) in
-          inv.so ∙ rw z (sym (below_all 16 want_number
-          (λ j l. none_waits j (none_counted (λ k. waits_state (get_or ts.state k 0)) 16 (eqb-true (waiting_in ts) 0 q) j l)))) ∙ waits_are
-      go false q =
-          let z : i ≡ 16 = omega (arith, eqb-false (waiting_in ts) 0 q) in
-          inv.so ∙ rw z waits_are
+  pub none_asked : waiting_in ts ≡ 0 → all_below 16 (waits_at ts opens takes holder) ≡ true
+  unfolding waiting_in
+  none_asked e = sym waits_are ∙ below_all 16 want_number (λ j l. none_waits j (none_counted (λ k. waits_state (get_or ts.state k 0)) 16 e j l))

@@ -1,28 +1,31 @@
 -- What need not be walked: nobody waits. And who heads a line.
-use Prim.Native.Nat.{ℕ, zero, suc, ◌<◌, ◌≤◌}
+use Prim.Native.Nat.{ℕ, zero, suc, ◌<◌}
 use mathlib.Core.Path.{◌≡◌, refl, sym, ap, ◌∙◌}
-use mathlib.Core.Bool.{Bool, true, false, ◌&&◌, false≢true}
+use mathlib.Core.Bool.{Bool, true, false, ◌&&◌}
 use mathlib.Core.List.{List, [], ◌∷◌}
 use native.Mathlib.Omega.{arith}
 use lib.Dec.{eqb, ltb}
 use lib.ListN.{length, get_or}
-use borrow.Author.Tests.{eqb-true, ne_eqb, ltb-true, ltb-false, lt-ltb}
-use Rattle.lists.specs.Lists.{foldl, any, head}
+use borrow.Author.Tests.{eqb-true, ltb-true, ltb-false}
+use Rattle.lists.specs.Lists.{foldl, any, kept}
 use Rattle.lists.proofs.Bools.{or_off, and_left}
-use Rattle.lists.proofs.Tests.{kept-head}
 use Rattle.numbers.specs.declared.TaskSlot.{TaskSlot}
 use Rattle.numbers.specs.declared.ObjSlot.{ObjSlot}
-use Rattle.numbers.specs.Numbers.{same_task, task}
 use Rattle.slots.specs.declared.Task.{Task}
 use Rattle.slots.specs.Who.{waiters_of}
 use Rattle.slots.specs.declared.Lead.{Lead}
-use Rattle.slots.specs.declared.Lead.TheVariants.{Open}
-use Rattle.slots.specs.Places.{is_ready, waits_on}
+use Rattle.std.proofs.Common.{Option, Some, None, cond, if◌then◌else◌}
+use Rattle.std.specs.List.{find}
+use Rattle.std.specs.Option.{unwrap_or, option_eq}
+use Rattle.order.specs.Order.{ordered, appended_to}
+use Rattle.order.proofs.Orders.{fold_kept}
+use Rattle.slots.specs.Places.{waits_on}
 use Rattle.slots.specs.Leads.{better}
 use Rattle.slots.specs.Values.{free_task, in_line}
+use Rattle.tasks.proofs.StateTests.{row_line}
 use Rattle.tasks.specs.declared.Tasks.{Tasks}
 use Rattle.tasks.specs.Columns.{row_at, rows_of}
-use Rattle.tasks.specs.Walks.{lead_in, line_in, head_or, ready_at, waited_in}
+use Rattle.tasks.specs.Walks.{lead_in, line_in, head_or, ready_at, level_at, waited_in}
 use Rattle.tasks.specs.Fine.{headed, heads_in}
 use Rattle.tasks.proofs.Columns.{Full, past_row, row_at_lem, rows_many}
 
@@ -54,55 +57,54 @@ module _ (ts : Tasks) (full : Full ts) where
         every_slot ts full (λ x. waits_on o x.place ≡ false) refl n
         (λ l. rw (← row_at_lem ts n l) (none_passes (λ (x : Task). waits_on o x.place) (rows_of ts) free_task none n (rw (rows_many ts) l)))
 
-    pub none_waited : (l : List TaskSlot) → Open ≡ lead_in ts (waiters_of o) l
+    pub none_waited : (l : List TaskSlot) → None ≡ lead_in ts (waiters_of o) l
     unfolding lead_in foldl better
     none_waited [] = refl
-    none_waited (t ∷ l) = none_waited l ∙ ap (λ (b : Lead). foldl (λ c u. better (waiters_of o) c u (row_at ts u.0)) b l) (sym (rw (not_waits t.0)))
+    none_waited (t ∷ l) = none_waited l ∙ ap (λ (b : Option Lead). foldl (λ c u. better (waiters_of o) c u (row_at ts u.0)) b l) (sym (rw (not_waits t.0)))
 
 -- ── the heads of lines
--- a slot past the table is not ready
-in_table : (ts : Tasks) → Full ts → (u : TaskSlot) → ready_at ts u ≡ true → ltb u.0 16 ≡ true
-in_table ts full u =
-    every_slot ts full (λ y. is_ready y.place ≡ true → ltb u.0 16 ≡ true) (λ e. absurd (false≢true e)) u.0 (λ l e. lt-ltb u.0 16 (omega arith))
-
-line_head : (ts : Tasks) (l : List TaskSlot) (p : ℕ) (t : TaskSlot) (r : List TaskSlot) → line_in ts p l ≡ t ∷ r → ready_at ts t ≡ true
+-- a line is gathered from the order
+pub line_gathered : (ts : Tasks) (p : ℕ) (l : List TaskSlot) → ordered (line_in ts p l) ≡ foldl (λ o t. if in_line p (row_at ts t.0) then appended_to o t else o) (ordered []) l
 unfolding line_in
-line_head ts l p t r e = and_left (ready_at ts t) _ (kept-head (λ y. in_line p (row_at ts y.0)) l t (ap head e))
+line_gathered ts p l = sym (fold_kept (λ t. in_line p (row_at ts t.0)) [] l)
 
--- who stands first in a line, where 16 says that nobody does
-module _ (ts : Tasks) (l : List TaskSlot) (p : ℕ) (t u : TaskSlot) (e : t ≡ head_or (line_in ts p l) (task 16)) where
-  pub head_leads : t.0 < 16 → t ≡ head_or (line_in ts p l) u
-  head_leads h = go (line_in ts p l) e
+-- a search that looks into columns
+pub found_in : (ts : Tasks) (p : ℕ) (l : List TaskSlot) → find (λ t. eqb (get_or ts.state t.0 0) 1 && eqb (get_or ts.effective t.0 0) p) l ≡ find (λ t. in_line p (row_at ts t.0)) l
+found_in ts p l = ap (λ (f : TaskSlot → Bool). find f l) (λ i t. sym (row_line ts t.0 p) i)
+
+-- who stands first in a line
+pub head_found : (ts : Tasks) (p : ℕ) (l : List TaskSlot) (u : TaskSlot) → head_or (line_in ts p l) u ≡ unwrap_or (find (λ t. in_line p (row_at ts t.0)) l) u
+unfolding line_in kept
+head_found ts p [] u = refl
+head_found ts p (t ∷ l) u = go (in_line p (row_at ts t.0)) (head_found ts p l u)
+  where
+    r : List TaskSlot
+    r = kept (λ x. in_line p (row_at ts x.0)) l
+
+    go : (b : Bool) → head_or r u ≡ unwrap_or (find (λ x. in_line p (row_at ts x.0)) l) u
+        → head_or (cond b (t ∷ r) r) u ≡ unwrap_or (cond b (Some t) (find (λ x. in_line p (row_at ts x.0)) l)) u
+    go true e = refl
+    go false e = e
+
+-- the task u heads its line
+module _ (ts : Tasks) (u : TaskSlot) where
+  abbrev is_u : Option TaskSlot → Bool
+  is_u t = option_eq (λ (a b : TaskSlot). eqb a.0 b.0) t (Some u)
+
+  headed_is : (p : ℕ) (l : List TaskSlot) → is_u (find (λ t. in_line p (row_at ts t.0)) l) ≡ (ready_at ts u && headed (line_in ts p l) u)
+  unfolding line_in kept
+  headed_is p [] = sym (and_never (ready_at ts u) false refl)
+  headed_is p (t ∷ l) = go (in_line p (row_at ts t.0)) refl (find (λ x. in_line p (row_at ts x.0)) l) (kept (λ x. in_line p (row_at ts x.0)) l) (headed_is p l)
     where
-      go : (k : List TaskSlot) → t ≡ head_or k (task 16) → t ≡ head_or k u
-      go [] f = absurd (omega (arith, ap (λ (x : TaskSlot). x.0) f))
-      go (x ∷ k) f = f
+      it : (c : Bool) → eqb t.0 u.0 ≡ c → in_line p (row_at ts t.0) ≡ true → c ≡ (ready_at ts u && c)
+      it false e q = sym (and_never (ready_at ts u) false refl)
+      it true e q = let y : ready_at ts u ≡ true = rw (eqb-true t.0 u.0 e) at (and_left (ready_at ts t) _ q) in rw y
 
-  pub none_leads : Full ts → 16 ≤ t.0 → u ≡ head_or (line_in ts p l) u
-  none_leads full h = go (line_in ts p l) refl e
-    where
-      go : (k : List TaskSlot) → line_in ts p l ≡ k → t ≡ head_or k (task 16) → u ≡ head_or k u
-      go [] q f = refl
-      go (x ∷ k) q f = absurd (omega (arith, ltb-true x.0 16 (in_table ts full x (line_head ts l p x k q)), ap (λ (y : TaskSlot). y.0) f))
+      go : (b : Bool) → in_line p (row_at ts t.0) ≡ b → (f : Option TaskSlot) (r : List TaskSlot) → is_u f ≡ (ready_at ts u && headed r u)
+          → is_u (cond b (Some t) f) ≡ (ready_at ts u && headed (cond b (t ∷ r) r) u)
+      go true q f r e = it (eqb t.0 u.0) refl q
+      go false q f r e = e
 
-module _ (ts : Tasks) (full : Full ts) (l : List TaskSlot) (u : TaskSlot) where
-  abbrev x : Task
-  x = row_at ts u.0
-
-  pub heads_is : (ltb u.0 16 && same_task (head_or (line_in ts x.effective l) (task 16)) u) ≡ heads_in ts l u
+  pub heads_is : (l : List TaskSlot) → is_u (find (λ t. in_line (level_at ts u) (row_at ts t.0)) l) ≡ heads_in ts l u
   unfolding heads_in
-  heads_is = go (line_in ts x.effective l) refl
-    where
-      go : (k : List TaskSlot) → line_in ts x.effective l ≡ k → (ltb u.0 16 && same_task (head_or k (task 16)) u) ≡ (is_ready x.place && headed k u)
-      go [] q = nobody (ltb u.0 16) refl ∙ sym (and_never (is_ready x.place) false refl)
-        where
-          nobody : (c : Bool) → ltb u.0 16 ≡ c → (c && eqb 16 u.0) ≡ false
-          nobody true f = ne_eqb 16 u.0 (λ e. omega (arith, ltb-true u.0 16 f))
-          nobody false f = refl
-      go (t ∷ k) q = somebody (eqb t.0 u.0) refl
-        where
-          somebody : (c : Bool) → eqb t.0 u.0 ≡ c → (ltb u.0 16 && c) ≡ (is_ready x.place && c)
-          somebody false f = and_never (ltb u.0 16) false refl ∙ sym (and_never (is_ready x.place) false refl)
-          somebody true f =
-              let r : is_ready x.place ≡ true = rw (eqb-true t.0 u.0 f) at (line_head ts l x.effective t k q) in
-              rw (r, in_table ts full u r)
+  heads_is l = headed_is (level_at ts u) l

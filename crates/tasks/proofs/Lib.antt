@@ -3,6 +3,7 @@ pub mod Columns
 pub mod Lengths
 pub mod StateTests
 pub mod WalkTurns
+pub mod Wakes
 pub mod Heads
 pub mod Fines
 pub mod Worked

@@ -6,8 +6,9 @@ use native.Mathlib.Omega.{arith}
 use lib.Dec.{eqb}
 use lib.ListN.{get_or}
 use borrow.Author.Tests.{ne_eqb}
-use Rattle.std.proofs.Common.{if◌then◌else◌}
+use Rattle.std.proofs.Common.{if◌then◌else◌, Option, Some, None}
 use Rattle.lists.proofs.Tests.{by_six}
+use Rattle.numbers.specs.declared.ObjSlot.{ObjSlot}
 use Rattle.slots.specs.declared.Want.{Want}
 use Rattle.slots.specs.declared.Place.TheVariants.{Suspended}
 use Rattle.slots.specs.Who.{Who, all_ready, waiters_of, those_satisfied_on}
@@ -19,7 +20,7 @@ use Rattle.tasks.specs.declared.Tasks.{Tasks}
 use Rattle.tasks.specs.Masks.{want_at}
 use Rattle.tasks.specs.Numbering.{cells, place_of}
 use Rattle.tasks.specs.Columns.{row_at}
-use Rattle.tasks.specs.Walks.{is_meant}
+use Rattle.tasks.specs.Walks.{is_meant, who_on}
 use Rattle.tasks.specs.Dues.{timed, wait_ends}
 use Rattle.tasks.specs.Known.{waits_state}
 
@@ -96,6 +97,16 @@ module _ (ts : Tasks) (i : ℕ) where
   pub row_meant : (who : Who) → is_who who (row_at ts i).place ≡ is_meant who s o v
   unfolding row_at
   row_meant who = meant_is who s o w v
+
+  pub row_ready : is_ready (row_at ts i).place ≡ eqb s 1
+  row_ready = row_meant all_ready
+
+  -- it waits on x, and where there are bits, they satisfy it
+  pub row_waits : (x : ObjSlot) (bits : Option ℕ) → bits ≡ None → is_who (who_on x bits) (row_at ts i).place ≡ (waits_state s && eqb o x.0)
+  row_waits x bits e = rw e (row_meant (waiters_of x))
+
+  pub row_satisfied : (x : ObjSlot) (bits : Option ℕ) (b : ℕ) → bits ≡ Some b → is_who (who_on x bits) (row_at ts i).place ≡ ((waits_state s && eqb o x.0) && satisfied b v)
+  row_satisfied x bits b e = rw e (row_meant (those_satisfied_on x b))
 
   pub row_takes : takes_task (row_at ts i).place ≡ eqb s 0
   unfolding row_at

@@ -1,38 +1,37 @@
 -- The effective priorities: what the columns give is what the chains say, and a turn of the walk that sets them.
-use Prim.Native.Nat.{ℕ, zero, suc, ◌*◌, ◌<◌, ◌≤◌, min}
+use Prim.Native.Nat.{ℕ, zero, suc, ◌<◌, ◌≤◌}
 use mathlib.Core.Path.{◌≡◌, refl, sym, ap, ◌∙◌}
-use mathlib.Core.Bool.{Bool, true, false}
+use mathlib.Core.Bool.{Bool, true, false, ◌&&◌}
 use mathlib.Core.List.{List}
 use native.Mathlib.Omega.{arith}
 use lib.Dec.{eqb, ltb}
-use lib.ListN.{length, get_or, set, replicate, get_or-replicate}
+use lib.ListN.{length, get_or}
 use lib.Seq.{ext_get_or}
-use borrow.Author.Tests.{eqb-true, eqb-false, eq-eqb, ne_eqb, ltb-true, ltb-false}
+use lib.Pointwise.{pointwise, bytes_decides}
+use borrow.Author.Tests.{eqb-true, eq-eqb, ne_eqb, ltb-true, ltb-false}
 use Rattle.std.proofs.Common.{if◌then◌else◌}
 use Rattle.lists.specs.Lists.{up_to, values, all_below}
-use Rattle.lists.proofs.Bools.{all_below_lem, below_all}
-use Rattle.chains.specs.Chains.{ends, largest_own}
+use Rattle.lists.proofs.Bools.{all_below_lem, below_all, same_test}
+use Rattle.chains.specs.Chains.{within, ends, largest_own}
+use Rattle.chains.specs.declared.AllLent.{AllLent}
 use Rattle.chains.specs.Columns.{says, next_by, levels_to, levels_by, ended_to}
 use Rattle.chains.proofs.Largest.{largest_same, largest_own_lem}
 use Rattle.chains.proofs.Raised.{levels_length, levels_at}
 use Rattle.chains.proofs.Says.{says_at}
 use Rattle.numbers.specs.declared.TaskSlot.{TaskSlot}
-use Rattle.numbers.specs.Numbers.{task, same_task}
+use Rattle.numbers.specs.Numbers.{task}
 use Rattle.order.specs.declared.Order.{Order}
-use Rattle.slots.specs.Who.{all_ready}
 use Rattle.slots.specs.Places.{waited_on}
 use Rattle.slots.proofs.Sweeps.{none_counted, Filled, fill_values}
 use Rattle.lists.proofs.Loops.{values_many, value_at}
 use Rattle.tasks.specs.declared.Tasks.{Tasks}
-use Rattle.tasks.specs.declared.Wants.{Wants}
-use Rattle.tasks.specs.Columns.{row_at, levelled_at}
-use Rattle.tasks.specs.Dues.{woken, tailed}
+use Rattle.tasks.specs.Columns.{row_at, rows_of, levelled_at}
+use Rattle.tasks.specs.Dues.{woken}
 use Rattle.tasks.specs.Known.{waits_state}
 use Rattle.tasks.specs.Fine.{waiting_in}
-use Rattle.tasks.specs.Loans.{next_in, levels_in, ended_in, fronted, level_in, ontos_in}
-use Rattle.tasks.proofs.Columns.{Full, past_row}
-use Rattle.tasks.proofs.StateTests.{row_meant, row_onto}
-use Rattle.tasks.proofs.WalkTurns.{columns}
+use Rattle.tasks.specs.Loans.{next_in, levels_in, ended_in, reaches_in, moved, level_in, worked_in, ontos_in, OntosAre, LevelsAre, Worked}
+use Rattle.tasks.proofs.Columns.{Full, past_row, rows_many}
+use Rattle.tasks.proofs.StateTests.{row_ready, row_onto}
 
 module _ (ts : Tasks) (full : Full ts) (by : List ℕ) where
   abbrev onto : ℕ → ℕ
@@ -62,6 +61,9 @@ module _ (ts : Tasks) (full : Full ts) (by : List ℕ) where
       ∙ largest_same (λ s. get_or ts.own s 0) (λ s. (row_at ts s).own) (next_by (values onto 16) by) (next_in ts by) (λ s l. refl)
       (λ s. ap (λ f. f s) next_is) u)
 
+  many : length (rows_of ts) ≡ 16
+  many = rows_many ts ∙ full.states
+
   -- where nobody waits on an object each level is the task's own
   module _ (none : waiting_in ts ≡ 0) where
     no_onto : (s : ℕ) → onto s ≡ 16
@@ -84,67 +86,60 @@ module _ (ts : Tasks) (full : Full ts) (by : List ℕ) where
     unfolding ended_in ends
     none_ended = sym (below_all 16 _ (λ s l. ap (ends (next_in ts by) 16) (ap (says by) (no_onto s))))
 
-    none_onto : replicate 16 16 ≡ ontos_in ts
-    none_onto = ext_get_or 16 (replicate 16 16) (values onto 16) (sym (values_many onto 16)) (λ n h. at n (omega arith))
-      where
-        at : (n : ℕ) → n < 16 → get_or (replicate 16 16) n 16 ≡ get_or (values onto 16) n 16
-        at n l = get_or-replicate 16 n 16 16 l ∙ sym (value_at onto 16 n 16 l ∙ no_onto n)
+    none_lent : LevelsAre ts by (record { levels = ts.own; ended = true })
+    none_lent = record { many = many; said = levels_own; ended = none_ended }
 
-  -- a walk over as many as there may be: none where nobody waits, else all
-  module _ (n : ℕ) (e : n ≡ min 16 (16 * waiting_in ts)) where
-    pub ontos_end : {out : List ℕ} {i : ℕ} → i ≡ n → Filled (λ j. if waits_state (get_or ts.state j 0) then get_or ts.object j 0 else 16) 0 out i → (i ≡ 0 → out ≡ replicate 16 16) → out ≡ ontos_in ts
-    ontos_end {out} {i} m inv z = go (eqb (waiting_in ts) 0) refl
-      where
-        go : (b : Bool) → eqb (waiting_in ts) 0 ≡ b → out ≡ ontos_in ts
-        go true q = let w = eqb-true (waiting_in ts) 0 q in z (omega (arith, w, e, m)) ∙ none_onto w
-        go false q =
-            fill_values inv (omega (arith, eqb-false (waiting_in ts) 0 q, e, m)) ∙ ap (λ (f : ℕ → ℕ). values f 16) (λ j x. sym (row_onto ts x) j)
+  pub all_own : (n : ℕ) → n ≡ waiting_in ts → n ≡ 0 → LevelsAre ts by (record { levels = ts.own; ended = true })
+  all_own n e z = none_lent (sym e ∙ z)
 
-    -- where there is none to walk
-    pub walks_none : n ≡ 0 → (ts.own ≡ levels_in ts by) × (true ≡ ended_in ts by)
-    walks_none z = let w : waiting_in ts ≡ 0 = omega (arith, e) in (levels_own w, none_ended w)
+  -- where somebody does, all sixteen are walked
+  pub all_lent : (onto : List ℕ) (r : AllLent) → OntosAre ts onto → (r.levels ≡ levels_to ts.own onto by 16) × (r.ended ≡ ended_to onto by 16) → LevelsAre ts by r
+  unfolding levels_by ended_in
+  all_lent onto r o s =
+      record {
+        many = many;
+        said = s.0 ∙ rw o.said levels_are;
+        ended = s.1 ∙ rw o.said (ap (λ (f : ℕ → ℕ). all_below 16 (λ s. ends f 16 (f s))) next_is);
+      }
 
-    walked : (P : ℕ → Type 0) → (waiting_in ts ≡ 0 → P 0) → P 16 → P (min n 16)
-    walked P none all = go (eqb (waiting_in ts) 0) refl
-      where
-        go : (b : Bool) → eqb (waiting_in ts) 0 ≡ b → P (min n 16)
-        go true q = let w = eqb-true (waiting_in ts) 0 q in let z : min n 16 ≡ 0 = omega (arith, w, e) in rw z (none w)
-        go false q = let z : min n 16 ≡ 16 = omega (arith, eqb-false (waiting_in ts) 0 q, e) in rw z all
+  pub reaches_is : (h u : ℕ) → (ltb u 16 && within (next_by (ontos_in ts) by) 16 h u) ≡ reaches_in ts by h u
+  unfolding reaches_in
+  reaches_is h u = ap (λ (next : ℕ → ℕ). ltb u 16 && within next 16 h u) next_is
 
-    pub levels_end : levels_to ts.own (ontos_in ts) by (min n 16) ≡ levels_in ts by
-    unfolding levels_by up_to
-    levels_end = walked (λ m. levels_to ts.own (ontos_in ts) by m ≡ levels_in ts by) levels_own levels_are
+-- the walk that fills a column with the objects waited on
+pub ontos_end : (ts : Tasks) (out : List ℕ) (i : ℕ) → 16 ≤ i → Filled (λ j. if waits_state (get_or ts.state j 0) then get_or ts.object j 0 else 16) 0 out i → OntosAre ts out
+ontos_end ts out i h inv = record { said = fill_values inv h ∙ ap (λ (f : ℕ → ℕ). values f 16) (λ j x. sym (row_onto ts x) j) }
 
-    pub ended_end : ended_to (ontos_in ts) by (min n 16) ≡ ended_in ts by
-    unfolding ended_in all_below
-    ended_end = walked (λ m. ended_to (ontos_in ts) by m ≡ ended_in ts by) none_ended (ap (λ (f : ℕ → ℕ). all_below 16 (λ s. ends f 16 (f s))) next_is)
-
--- one turn of the walk: a row at its level, one that is ready and one that is not
-pub levelled_alike : {s o w own e e' out : List ℕ} {x : Wants} {p p' : Order} → e ≡ e' → p ≡ p' → woken (columns s o w x own e out) p ≡ woken (columns s o w x own e' out) p'
-levelled_alike {s} {o} {w} {own} {out = out} {x = x} a b = λ i. woken (columns s o w x own (a i) out) (b i)
-
-differs : (ts : Tasks) (ls : List ℕ) (i : ℕ) → (get_or ts.effective i 0 ≡ get_or ls i 0 → ⊥) → eqb (row_at ts i).effective (get_or ls i 0) ≡ false
+-- a column of levels, compared with the rows'
+pub at_levels_is : (ts : Tasks) (ls : List ℕ) → Full ts → length ls ≡ 16 → pointwise eqb ts.effective ls ≡ all_below 16 (λ n. eqb (row_at ts n).effective (get_or ls n 0))
 unfolding row_at
-differs ts ls i n = ne_eqb (get_or ts.effective i 0) (get_or ls i 0) n
+at_levels_is ts ls full long = same_test _ _ to from
+  where
+    to : pointwise eqb ts.effective ls ≡ true → all_below 16 (λ n. eqb (get_or ts.effective n 0) (get_or ls n 0)) ≡ true
+    to e = below_all 16 _ (λ n l. eq-eqb _ _ (ap (λ (xs : List ℕ). get_or xs n 0) ((bytes_decides ts.effective ls).0 e)))
 
+    from : all_below 16 (λ n. eqb (get_or ts.effective n 0) (get_or ls n 0)) ≡ true → pointwise eqb ts.effective ls ≡ true
+    from e = (bytes_decides ts.effective ls).1 (ext_get_or 0 ts.effective ls (full.effectives ∙ sym long) (λ n l. eqb-true _ _ (all_below_lem 16 _ e n (rw (← full.effectives) l))))
+
+-- one turn of the walk that sets them: a row at its level, one that is ready and one that is not
 module _ (r : TaskSlot) (ls : List ℕ) (ts : Tasks) (o : Order) (i : ℕ) where
   pub level_keeps : get_or ts.effective i 0 ≡ get_or ls i 0 → woken ts o ≡ level_in r ls (woken ts o) i
   unfolding level_in row_at
   level_keeps e = rw (eq-eqb (get_or ts.effective i 0) (get_or ls i 0) e)
 
+  differs : (get_or ts.effective i 0 ≡ get_or ls i 0 → ⊥) → eqb (row_at ts i).effective (get_or ls i 0) ≡ false
+  unfolding row_at
+  differs n = ne_eqb (get_or ts.effective i 0) (get_or ls i 0) n
+
   set_level : (b : Bool) → (get_or ts.effective i 0 ≡ get_or ls i 0 → ⊥) → eqb (get_or ts.state i 0) 1 ≡ b
-      → woken (levelled_at ts i (get_or ls i 0)) (if b then (if same_task (task i) r then fronted o (task i) else tailed o (task i)) else o) ≡ level_in r ls (woken ts o) i
+      → woken (levelled_at ts i (get_or ls i 0)) (if b then moved o (task i) r else o) ≡ level_in r ls (woken ts o) i
   unfolding level_in
-  set_level b n s = rw (differs ts ls i n, row_meant ts i all_ready ∙ s)
+  set_level b n s = rw (differs n, row_ready ts i ∙ s)
 
-  pub level_moves : {p : Order} → (get_or ts.effective i 0 ≡ get_or ls i 0 → ⊥) → get_or ts.state i 0 ≡ 1 → p ≡ (if same_task (task i) r then fronted o (task i) else tailed o (task i))
-      → woken (columns ts.state ts.object ts.wake ts.wants ts.own (set ts.effective i (get_or ls i 0)) ts.outcome) p ≡ level_in r ls (woken ts o) i
-  unfolding levelled_at
-  level_moves n s q = rw q (set_level true n (eq-eqb (get_or ts.state i 0) 1 s))
+  pub level_moves : (get_or ts.effective i 0 ≡ get_or ls i 0 → ⊥) → get_or ts.state i 0 ≡ 1 → woken (levelled_at ts i (get_or ls i 0)) (moved o (task i) r) ≡ level_in r ls (woken ts o) i
+  level_moves n s = set_level true n (eq-eqb (get_or ts.state i 0) 1 s)
 
-  pub level_stays : (get_or ts.effective i 0 ≡ get_or ls i 0 → ⊥) → (get_or ts.state i 0 ≡ 1 → ⊥)
-      → woken (columns ts.state ts.object ts.wake ts.wants ts.own (set ts.effective i (get_or ls i 0)) ts.outcome) o ≡ level_in r ls (woken ts o) i
-  unfolding levelled_at
+  pub level_stays : (get_or ts.effective i 0 ≡ get_or ls i 0 → ⊥) → (get_or ts.state i 0 ≡ 1 → ⊥) → woken (levelled_at ts i (get_or ls i 0)) o ≡ level_in r ls (woken ts o) i
   level_stays n s = set_level false n (ne_eqb (get_or ts.state i 0) 1 s)
 
 -- where each is at its level nothing changes
@@ -154,5 +149,7 @@ module _ (r : TaskSlot) (ls : List ℕ) (ts : Tasks) (o : Order) where
   none_changes zero at = refl
   none_changes (suc m) at = rw (← none_changes m (λ n l. at n (omega arith)), at m (omega arith))
 
-  pub none_levelled : all_below 16 (λ n. eqb (row_at ts n).effective (get_or ls n 0)) ≡ true → woken ts o ≡ up_to (level_in r ls) 16 (woken ts o)
-  none_levelled e = none_changes 16 (all_below_lem 16 (λ n. eqb (row_at ts n).effective (get_or ls n 0)) e)
+  pub none_levelled : (by : List ℕ) (lent : AllLent) → LevelsAre ts by lent → lent.levels ≡ ls → true ≡ all_below 16 (λ n. eqb (row_at ts n).effective (get_or ls n 0)) → Worked ts o by r (woken ts o)
+  unfolding worked_in
+  none_levelled by lent L q e =
+      record { many = L.many; said = none_changes 16 (all_below_lem 16 (λ n. eqb (row_at ts n).effective (get_or ls n 0)) (sym e)) ∙ ap (λ (l : List ℕ). up_to (level_in r l) 16 (woken ts o)) (sym q ∙ L.said) }

@@ -1,5 +1,5 @@
 -- The wake ticks: how long until the next, and the wakes of one tick.
-use Rattle.std.specs.Prelude.{ℕ, min, Bool, ◌&&◌, ◌||◌, List, [], ◌∷◌, ◌++◌, eqb, if◌then◌else◌}
+use Rattle.std.specs.Prelude.{ℕ, min, Bool, ◌&&◌, ◌||◌, List, [], ◌∷◌, ◌++◌, Option, Some, None, eqb, if◌then◌else◌}
 use Rattle.lists.specs.Lists.{foldl, any}
 use Rattle.numbers.specs.declared.TaskSlot.{TaskSlot}
 use Rattle.order.specs.declared.Order.{Order}
@@ -10,12 +10,19 @@ use Rattle.slots.specs.declared.Task.{Task}
 use Rattle.slots.specs.Places.{is_waiting, wakes_at, outcome_due, away}
 use Rattle.slots.specs.Values.{placed}
 use Rattle.tasks.specs.declared.Tasks.{Tasks}
-use Rattle.tasks.specs.declared.Woken.{Woken}
 use Rattle.tasks.specs.Columns.{row_at, rows_of, put}
 
 -- the states that have a wake tick: delayed, and waiting but not for ever
 abbrev pub timed : ℕ → Bool
 timed s = eqb s 2 || eqb s 3
+
+-- with which outcome a row in this state is made ready when it is due
+abbrev pub ended_of : ℕ → Option ℕ
+ended_of s = if eqb s 2 then Some 1 else if eqb s 3 then Some 2 else None
+
+-- the same of the task t, where it is due now
+abbrev pub due_in : ℕ → Tasks → TaskSlot → Option ℕ
+due_in now ts t = if wakes_at now (row_at ts t.0).place then Some (outcome_due (row_at ts t.0).place) else None
 
 -- how many ticks pass before the one on which a task is next due; 4,294,967,295 where none has a wake tick
 unfoldable pub until_in : ℕ → Tasks → ℕ
@@ -28,6 +35,11 @@ wake_now ts now = any (λ w. eqb w now) ts.wake
 -- a wait, and no mere delay, ends
 abbrev pub wait_ends : ℕ → Place → Bool
 wait_ends now p = is_waiting p && wakes_at now p
+
+-- a table and an order: what the wakes of a tick leave, and what is left where effective priorities are worked out
+pub record Woken : Type 0 where
+  pub tasks : Tasks
+  pub order : Order
 
 abbrev pub woken : Tasks → Order → Woken
 woken ts o = record { tasks = ts; order = o }

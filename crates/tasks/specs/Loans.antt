@@ -10,9 +10,8 @@ use Rattle.order.specs.declared.Order.{Order}
 use Rattle.order.specs.Order.{listed, ordered, without}
 use Rattle.slots.specs.Places.{is_ready, waited_on}
 use Rattle.tasks.specs.declared.Tasks.{Tasks}
-use Rattle.tasks.specs.declared.Woken.{Woken}
 use Rattle.tasks.specs.Columns.{row_at, rows_of, levelled_at}
-use Rattle.tasks.specs.Dues.{woken, tailed}
+use Rattle.tasks.specs.Dues.{Woken, woken, tailed}
 
 -- whom the row s waits for, where `by` has the holder of each object
 abbrev pub next_in : Tasks → List ℕ → ℕ → ℕ
@@ -33,13 +32,17 @@ reaches_in ts by h u = ltb u 16 && within (next_in ts by) 16 h u
 abbrev pub fronted : Order → TaskSlot → Order
 fronted o t = ordered (t ∷ without t (listed o))
 
+-- whose level has changed goes to the tail of its new line, and the running task r to the front
+abbrev pub moved : Order → TaskSlot → TaskSlot → Order
+moved o t r = if same_task t r then fronted o t else tailed o t
+
 -- the row n gets its level: where that is another, a ready task goes to the tail of its new line, and the running task r to the front
 unfoldable pub level_in : TaskSlot → List ℕ → Woken → ℕ → Woken
 level_in r ls w n =
     if eqb (row_at w.tasks n).effective (get_or ls n 0)
     then w
     else woken (levelled_at w.tasks n (get_or ls n 0))
-    (if is_ready (row_at w.tasks n).place then (if same_task (task n) r then fronted w.order (task n) else tailed w.order (task n)) else w.order)
+    (if is_ready (row_at w.tasks n).place then moved w.order (task n) r else w.order)
 
 -- all sixteen, from the lowest slot on
 unfoldable pub worked_in : TaskSlot → List ℕ → Woken → Woken

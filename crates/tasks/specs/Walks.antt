@@ -1,5 +1,5 @@
 -- What the walks of an order and of the rows find, in the words of the rules; and what they test in numbers.
-use Rattle.std.specs.Prelude.{ℕ, Bool, ◌&&◌, ◌||◌, List, [], ◌∷◌, eqb}
+use Rattle.std.specs.Prelude.{ℕ, Bool, ◌&&◌, ◌||◌, List, [], ◌∷◌, eqb, Option, Some, None}
 use Rattle.lists.specs.Lists.{foldl, any, kept}
 use Rattle.numbers.specs.declared.TaskSlot.{TaskSlot}
 use Rattle.numbers.specs.declared.ObjSlot.{ObjSlot}
@@ -9,7 +9,6 @@ use Rattle.slots.specs.declared.Want.{Want}
 use Rattle.slots.specs.declared.Task.{Task}
 use Rattle.slots.specs.Who.{Who, all_ready, waiters_of, those_satisfied_on}
 use Rattle.slots.specs.declared.Lead.{Lead}
-use Rattle.slots.specs.declared.Lead.TheVariants.{Open}
 use Rattle.slots.specs.Places.{is_ready, waits_on}
 use Rattle.slots.specs.Wants.{satisfied}
 use Rattle.slots.specs.Leads.{better}
@@ -17,9 +16,14 @@ use Rattle.slots.specs.Values.{in_line}
 use Rattle.tasks.specs.declared.Tasks.{Tasks}
 use Rattle.tasks.specs.Columns.{row_at, rows_of}
 
+-- those who wait on an object; where there are bits, those of them that the bits satisfy
+abbrev pub who_on : ObjSlot → Option ℕ → Who
+who_on x None = waiters_of x
+who_on x (Some b) = those_satisfied_on x b
+
 -- the best of those meant, among those that `l` lists
-unfoldable pub lead_in : Tasks → Who → List TaskSlot → Lead
-lead_in ts w l = foldl (λ b t. better w b t (row_at ts t.0)) Open l
+unfoldable pub lead_in : Tasks → Who → List TaskSlot → Option Lead
+lead_in ts w l = foldl (λ b t. better w b t (row_at ts t.0)) None l
 
 -- the line of priority p, of those that `l` lists; who stands first in it, u where nobody does
 unfoldable pub line_in : Tasks → ℕ → List TaskSlot → List TaskSlot

@@ -1,14 +1,13 @@
 // The effective priorities, worked out by the chains of waits.
-ghost use Rattle.std.specs.Prelude.{◌*◌, min, ◌≡◌, ◌&&◌, eqb, get_or, if◌then◌else◌};
+ghost use Rattle.std.specs.Prelude.{◌<◌, ◌≡◌, ◌&&◌, eqb, get_or, if◌then◌else◌};
 ghost use Rattle.lists.specs.Lists.{all_below, up_to};
-ghost use Rattle.numbers.specs.Numbers.{same_task};
 ghost use Rattle.tasks.specs.Columns.{row_at};
-ghost use Rattle.tasks.specs.Dues.{woken, tailed};
-ghost use Rattle.tasks.specs.Fine.{waiting_in};
+ghost use Rattle.tasks.specs.Dues.{woken};
 ghost use Rattle.tasks.specs.Known.{waits_state};
-ghost use Rattle.tasks.specs.Loans.{levels_in, ended_in, reaches_in, fronted, level_in, OntosAre, LevelsAre, Worked};
+ghost use Rattle.tasks.specs.Loans.{levels_in, ended_in, reaches_in, moved, level_in, OntosAre, LevelsAre, Worked};
 
-use crate::{Tasks, Woken};
+use crate::Tasks;
+use crate::fine::waits;
 use chains::AllLent;
 use numbers::TaskSlot;
 use order::Order;
@@ -17,141 +16,112 @@ use order::Order;
 fn onto(state: u8, object: u8) -> u8
     ensures { result ≡ if waits_state state then object else 16 }
 {
-    if crate::fine::waits(state) {
-        object
-    } else {
-        16
-    }
+    if waits(state) { object } else { 16 }
 }
 
 // Whose level has changed goes to the tail of its new line; the running task `r` goes to the front.
-fn moved(o: Order, t: TaskSlot, r: TaskSlot) -> Order
-    ensures { result ≡ if same_task t r then fronted o t else tailed o t }
+fn move_in(order: &mut Order, t: TaskSlot, r: TaskSlot)
+    ensures { order.new ≡ moved order.old t r }
 {
-    if t.same(r) {
-        o.to_front(t)
+    if t == r {
+        order.to_front(t);
     } else {
-        o.to_tail(t)
+        order.to_tail(t);
     }
 }
 
 impl Tasks {
-    // Where nobody waits the walk is empty.
-    fn ontos(self, n: usize) -> [u8; 16]
-        requires { n ≡ min 16 (16 * waiting_in self) }
+    // The object that each row waits on.
+    #[tactic(auto, using(crate::proofs::Worked::ontos_end))]
+    fn ontos(self) -> [u8; 16]
         ensures { OntosAre self result }
     {
         let state = self.state;
         let object = self.object;
-        let mut out = [16u8; 16];
-        let mut i = 0usize;
-        while i < n {
+        let mut out = [16; 16];
+        for i in 0..16 {
             out[i] = onto(state[i], object[i]);
-            i += 1;
         }
         out
     }
 
-    // The level of each task, where `by` has the holder of each object, and whether every chain ends. Where nobody waits on an object each has its own.
-    fn levels(self, by: [u8; 16], n: usize) -> AllLent
-        requires { n ≡ min 16 (16 * waiting_in self) }
+    // The level of each task, where `by` has the holder of each object, and whether every chain ends. Where nobody waits on an object each has its own, and there is no
+    // chain to go along.
+    fn levels(self, by: [u8; 16]) -> AllLent
         ensures { LevelsAre self by result }
     {
         let own = self.own;
-        chains::levels(own, self.ontos(n), by, n)
+        if self.waiting() == 0 {
+            return AllLent {
+                levels: own,
+                ended: true,
+            };
+        }
+        chains::levels(own, self.ontos(), by, 16)
     }
 
-    #[tactic(auto, unfolding(crate::specs::Columns::row_at))]
+    // Each task is at its level.
+    #[tactic(auto, using(crate::proofs::Worked::at_levels_is, crate::proofs::Lengths::full_of))]
     fn at_levels(self, levels: [u8; 16]) -> bool
         ensures { result ≡ all_below 16 (λ n. eqb (row_at self n).effective (get_or levels n 0)) }
     {
-        let effective = self.effective;
-        let mut ok = true;
-        let mut i = 0usize;
-        while i < 16 {
-            ok = lists::both(ok, effective[i] == levels[i]);
-            i += 1;
-        }
-        ok
+        self.effective == levels
     }
 
-    fn lent_fine(self, by: [u8; 16], n: usize) -> bool
-        requires { n ≡ min 16 (16 * waiting_in self) }
-        ensures { result ≡ (ended_in self by && all_below 16 (λ n. eqb (row_at self n).effective (get_or (levels_in self by) n 0))) }
-    {
-        let lent = self.levels(by, n);
-        let each = lent.levels;
-        lists::both(lent.ended, self.at_levels(each))
-    }
-
-    // Each task is at its level, and no chain leads back to where it began. Where nobody waits there is no chain to go along.
+    // Each task is at its level, and no chain leads back to where it began.
     pub fn levels_fine(self, by: [u8; 16]) -> bool
         ensures { result ≡ (ended_in self by && all_below 16 (λ n. eqb (row_at self n).effective (get_or (levels_in self by) n 0))) }
     {
-        let own = self.own;
-        let n = lists::bound(self.waiting());
-        if n == 0 {
-            return self.at_levels(own);
+        // Asked here, so that where nobody waits nothing is called.
+        if self.waiting() == 0 {
+            return self.at_levels(self.own);
         }
-        self.lent_fine(by, n)
+        let lent = self.levels(by);
+        lent.ended & self.at_levels(lent.levels)
     }
 
     // Whether the chain from the task h leads to u.
+    #[tactic(auto, using(crate::proofs::Worked::reaches_is, crate::proofs::Lengths::full_of))]
     pub fn reaches(self, by: [u8; 16], h: TaskSlot, u: TaskSlot) -> bool
         ensures { result ≡ reaches_in self by h.0 u.0 }
     {
-        let n = lists::bound(self.waiting());
-        chains::reaches(self.ontos(n), by, h.0, u.slot())
+        chains::reaches(self.ontos(), by, h.0, u.slot())
     }
 
-    fn levelled(self, o: Order, levels: [u8; 16], r: TaskSlot) -> Woken
-        ensures { result ≡ up_to (level_in r levels) 16 (woken self o) }
+    // The row `n` gets its level.
+    #[tactic(auto, using(crate::proofs::Worked::level_keeps, crate::proofs::Worked::level_moves, crate::proofs::Worked::level_stays), unfolding(crate::specs::Columns::levelled_at))]
+    fn set_level(&mut self, order: &mut Order, levels: &[u8; 16], n: u8, r: TaskSlot)
+        requires { n < 16 }
+        ensures { woken self.new order.new ≡ level_in r levels.now (woken self.old order.old) n }
     {
-        let state = self.state;
-        let object = self.object;
-        let wake = self.wake;
-        let wants = self.wants;
-        let own = self.own;
-        let mut effective = self.effective;
-        let outcome = self.outcome;
-        let mut order = o;
-        let mut i = 0usize;
-        while i < 16 {
-            if effective[i] != levels[i] {
-                effective[i] = levels[i];
-                if state[i] == 1 {
-                    order = moved(order, TaskSlot::of(i as u8), r);
-                }
-            }
-            i += 1;
+        let i = usize::from(n);
+        if self.effective[i] == levels[i] {
+            return;
         }
-        let tasks = Tasks {
-            state,
-            object,
-            wake,
-            wants,
-            own,
-            effective,
-            outcome,
-        };
-        Woken { tasks, order }
+        self.effective[i] = levels[i];
+        if self.state[i] == 1 {
+            move_in(order, TaskSlot::of(n), r);
+        }
     }
 
-    // Every task at its level. Where each is at it already there is nothing to walk.
-    #[tactic(auto, unfolding(crate::specs::Loans::worked_in))]
-    pub fn worked_out(self, o: Order, by: [u8; 16], r: TaskSlot) -> Woken
-        ensures { Worked self o by r result }
+    // All sixteen, from the lowest slot on.
+    #[tactic(auto, using(lists::proofs::Turns::up_to_none, lists::proofs::Turns::up_to_more))]
+    fn set_levels(&mut self, order: &mut Order, levels: [u8; 16], r: TaskSlot)
+        ensures { woken self.new order.new ≡ up_to (level_in r levels) 16 (woken self.old order.old) }
     {
-        let n = lists::bound(self.waiting());
-        let lent = self.levels(by, n);
-        let levels = lent.levels;
-        if self.at_levels(levels) {
-            Woken {
-                tasks: self,
-                order: o,
-            }
-        } else {
-            self.levelled(o, levels, r)
+        for n in 0..16 {
+            self.set_level(order, &levels, n, r);
+        }
+    }
+
+    // Every task gets its level. Where each is at it already there is nothing to walk.
+    #[tactic(auto, unfolding(crate::specs::Loans::worked_in))]
+    pub fn work_out(&mut self, order: &mut Order, by: [u8; 16], r: TaskSlot)
+        ensures { Worked self.old order.old by r (woken self.new order.new) }
+    {
+        let levels = self.levels(by).levels;
+        if !self.at_levels(levels) {
+            self.set_levels(order, levels, r);
         }
     }
 }

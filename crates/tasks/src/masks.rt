@@ -9,38 +9,30 @@ use slots::Want;
 fn flagged(all: bool, clear: bool) -> u8
     ensures { result ≡ flagged all clear }
 {
-    if clear {
-        if all { 4 } else { 3 }
-    } else {
-        if all { 2 } else { 1 }
+    match (all, clear) {
+        (false, false) => 1,
+        (true, false) => 2,
+        (false, true) => 3,
+        (true, true) => 4,
     }
 }
 
-fn flags(w: Want) -> u8
-    ensures { result ≡ flags_of w }
+fn numbers(w: Want) -> (u32, u8)
+    ensures mask { result.0 ≡ mask_of w }
+    ensures flags { result.1 ≡ flags_of w }
 {
     match w {
-        Want::OwnTurn => 0,
-        Want::Bits(_, all, clear) => flagged(all, clear),
-    }
-}
-
-fn mask(w: Want) -> u32
-    ensures { result ≡ mask_of w }
-{
-    match w {
-        Want::OwnTurn => 0,
-        Want::Bits(m, _, _) => m,
+        Want::OwnTurn => (0, 0),
+        Want::Bits(mask, all, clear) => (mask, flagged(all, clear)),
     }
 }
 
 fn want(mask: u32, flags: u8) -> Want
     ensures { result ≡ want_of mask flags }
 {
-    if flags == 0 {
-        Want::OwnTurn
-    } else {
-        Want::Bits(mask, lists::either(flags == 2, flags == 4), 3 <= flags)
+    match flags {
+        0 => Want::OwnTurn,
+        _ => Want::Bits(mask, flags == 2 || flags == 4, 3 <= flags),
     }
 }
 
@@ -50,19 +42,17 @@ impl Wants {
         ensures { result ≡ wants_of (replicate 16 OwnTurn) }
     {
         Wants {
-            mask: [0u32; 16],
-            flags: [0u8; 16],
+            mask: [0; 16],
+            flags: [0; 16],
         }
     }
 
     #[tactic(auto, unfolding(crate::specs::Masks::want_at))]
-    pub(crate) fn get(self, i: usize) -> Want
-        ensures { result ≡ want_at self i }
+    pub(crate) fn get(&self, i: usize) -> Want
+        ensures { result ≡ want_at self.now i }
     {
-        let masks = self.mask;
-        let all = self.flags;
         if i < 16 {
-            want(masks[i], all[i])
+            want(self.mask[i], self.flags[i])
         } else {
             Want::OwnTurn
         }
@@ -70,18 +60,11 @@ impl Wants {
 
     // What is stored past the table is lost.
     #[tactic(auto, unfolding(crate::specs::Masks::want_put))]
-    pub(crate) fn set(self, i: usize, w: Want) -> Wants
-        ensures { result ≡ want_put self i w }
+    pub(crate) fn set(&mut self, i: usize, w: Want)
+        ensures { self.new ≡ want_put self.old i w }
     {
-        let mut masks = self.mask;
-        let mut all = self.flags;
         if i < 16 {
-            masks[i] = mask(w);
-            all[i] = flags(w);
-        }
-        Wants {
-            mask: masks,
-            flags: all,
+            (self.mask[i], self.flags[i]) = numbers(w);
         }
     }
 }

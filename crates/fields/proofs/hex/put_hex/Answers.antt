@@ -1,8 +1,9 @@
+use native.Mathlib.Omega.{arith}
 use Rattle.fields.proofs.Stores.{begin, turn}
 use Rattle.fields.proofs.hex.put_hex.Goals as goal
 
-pub loop-i-init : goal.loop-i-init
-loop-i-init c = begin
+pub loop-b-init : goal.loop-b-init
+loop-b-init c = begin
 
-pub loop-i-preserved : goal.loop-i-preserved
-loop-i-preserved c = turn c.loop-i.invariant c.loop-i-test.true c.put_byte-next.ensures
+pub loop-b-preserved : goal.loop-b-preserved
+loop-b-preserved c = turn c.loop-b.invariant (omega arith) c.put_byte-next.ensures

@@ -1,14 +1,27 @@
 use Prim.Native.Nat.{suc, ◌+◌, ◌-◌}
-use mathlib.Core.Path.{◌≡◌, ◌∙◌}
+use mathlib.Core.Path.{◌≡◌, refl, sym, ◌∙◌}
 use native.Mathlib.Omega.{arith}
-use borrow.Author.Rules.{rules}
+use lib.ListN.{length, length-set}
+use Rattle.journal.specs.Reader.{nums}
 use Rattle.journal.proofs.ReadSteps.{nums_more}
+use Rattle.journal.proofs.Parts.{nums_missed}
 use Rattle.journal.proofs.reader.read_numbers.Goals as goal
 
-pub loop-i-preserved : goal.loop-i-preserved
-loop-i-preserved c =
-    let a = c.args in
-    let l = c.loop-i in
-    let e : a.count - l.i ≡ suc (a.count - (l.i + 1)) = omega arith in
-    let f : a.from + l.i + 1 ≡ a.from + (l.i + 1) = omega arith in
-    (search rules, rw f at (rw e at l.invariant.1 ∙ nums_more _ _ _ _ _ _ _ c.after_tab.ensures c.number_at-f.ensures))
+pub returns-in_err-number : goal.returns-in_err-number
+returns-in_err-number c =
+    let l = c.loop-value in
+    let e : length l.values - l.value-index ≡ suc (length l.values - (l.value-index + 1)) = omega arith in
+    rw (c.from_residual.ensures, l.invariant, e) (nums_missed c.args.line.now _ _ _ _ c.in_err-number.ensures)
+
+pub loop-value-preserved : goal.loop-value-preserved
+loop-value-preserved c =
+    let l = c.loop-value in
+    let e : length l.values - l.value-index ≡ suc (length l.values - (l.value-index + 1)) = omega arith in
+    rw length-set ((rw e at l.invariant) ∙ nums_more c.args.line.now _ _ _ _ _ _ refl c.in_ok-number.ensures)
+
+pub returns : goal.returns
+unfolding nums
+returns c =
+    let l = c.loop-value in
+    let e : length l.values - l.value-index ≡ 0 = omega arith in
+    sym (rw e at l.invariant)

@@ -1,11 +1,8 @@
-use Prim.Native.Nat.{◌+◌, ◌-◌, ◌≤◌}
+use Prim.Native.Nat.{◌-◌}
 use mathlib.Core.Path.{◌≡◌}
+use lib.ListN.{length}
 use Rattle.journal.specs.Reader.{nums}
 use Rattle.journal.proofs.reader.read_numbers.Given as goal
 
-abbrev pub invariant-loop-i : goal.invariant-loop-i
-invariant-loop-i l =
-    (l.i ≤ l.count) × (nums l.line l.count l.from l.initial.values l.initial.next ≡ nums l.line (l.count - l.i) (l.from + l.i) l.values l.next)
-
-abbrev pub decreases-loop-i : goal.decreases-loop-i
-decreases-loop-i l = l.count - l.i
+abbrev pub invariant-loop-value : goal.invariant-loop-value
+invariant-loop-value l = nums l.line (length l.fn.values) 0 l.fn.values l.fn.at ≡ nums l.line (length l.values - l.value-index) l.value-index l.values l.next

@@ -1,19 +1,22 @@
-use Prim.Native.Nat.{◌+◌, ◌≤◌}
+use Prim.Native.Nat.{◌+◌, ◌-◌}
+use mathlib.Core.Path.{◌≡◌, ap}
 use native.Mathlib.Omega.{arith}
+use lib.ListN.{length-take}
+use Rattle.std.proofs.Common.{Some}
+use Rattle.calls.specs.Shapes.{Shape, shape_told}
 use Rattle.calls.proofs.CallAgain.{shape_small}
 use Rattle.journal.proofs.LineStores.{frame_wrote}
 use Rattle.journal.proofs.writer.put_frame.Goals as goal
 
-pub put_numbers-sent-requires : goal.put_numbers-sent-requires
-put_numbers-sent-requires c =
-    let h : c.of-shape.result.before + c.of-shape.result.after ≤ 5 = rw c.of-shape.ensures (shape_small c.args.f.number) in
-    omega arith
-
-pub put_numbers-end-requires : goal.put_numbers-end-requires
-put_numbers-end-requires c = rw c.of-shape.ensures (shape_small c.args.f.number)
+pub slice_bounds-put_numbers-end : goal.slice_bounds-put_numbers-end
+slice_bounds-put_numbers-end c =
+    let a = c.args in
+    omega (arith, shape_small a.f.number, ap (λ (s : Shape). s.before + s.after) c.requires, length-take a.shape.before a.f.words)
 
 pub returns : goal.returns
 returns c =
     let a = c.args in
-    frame_wrote a.f.number a.f.words a.item.now c.of-shape.result c.of-shape.ensures c.put_number-first.ensures
-    c.put_numbers-sent.ensures c.put_sent-last.ensures c.put_numbers-end.ensures c.put.ensures
+    let s = a.shape in
+    let e : s.before + s.after - s.before ≡ s.after = omega arith in
+    frame_wrote a.f.number a.f.words a.item.now (shape_told (Some s)) c.requires (rw c.from.ensures at c.put_number-first.ensures)
+    c.put_numbers-sent.ensures c.put_sent-last.ensures (rw e at c.put_numbers-end.ensures) c.put.ensures

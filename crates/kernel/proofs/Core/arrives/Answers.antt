@@ -10,4 +10,4 @@ unfolding arrives to_tail core_of task_at
 returns c =
     λ s h.
     let a = c.args in
-    rw (c.placed-tasks.ensures, c.to_tail-order.ensures, h, placed_of s.tasks a.t.0 a.p a.n)
+    rw (c.place.ensures, c.to_tail.ensures, h, placed_of s.tasks a.t.0 a.p a.n)

@@ -11,4 +11,4 @@ pub returns : goal.returns
 unfolding created to_tail core_of
 returns c =
     let of = c.of-t in
-    λ s h. rw (c.set-self.ensures, c.to_tail-self.ensures, c.ready_at.ensures, of.ensures, c.requires s h, h, put_of s.tasks (task (free_slot s.tasks)).0 (ready_at c.args.p))
+    λ s h. rw (c.set.ensures, c.to_tail.ensures, c.ready_at.ensures, of.ensures, c.requires s h, h, put_of s.tasks (task (free_slot s.tasks)).0 (ready_at c.args.p))

@@ -12,4 +12,4 @@ unfolding delayed
 returns-else-n-eq0 c =
     λ s h.
     rw (ne_eqb c.args.n 0 c.if-n-eq0.false)
-    (c.arrives.ensures s h ∙ rw (c.wrapping_add_u32.ensures.value, same_tick _ s h, same_running _ s h))
+    (c.arrives.ensures s h ∙ rw (same_tick _ s h, same_running _ s h))

@@ -10,4 +10,4 @@ pub returns : goal.returns
 unfolding deleted leaves core_of
 returns c =
     let o = c.args in
-    λ s h. rw (c.set-self.ensures, c.without-self.ensures, h, c.gone_task.ensures, put_of s.tasks o.t.0 (if o.last then spent_task else free_task))
+    λ s h. rw (c.set.ensures, c.remove.ensures, h, c.gone_task.ensures, put_of s.tasks o.t.0 (if o.last then spent_task else free_task))

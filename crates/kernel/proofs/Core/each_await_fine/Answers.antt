@@ -9,7 +9,7 @@ loop-i-init c = (all_begin refl, omega arith, omega (arith, c.requires))
 pub loop-i-preserved : goal.loop-i-preserved
 loop-i-preserved c =
     let l = c.loop-i in
-    (all_turn l.invariant.0 (c.both-ok.ensures ∙ rw (c.await_fine.ensures, c.of.ensures)), search rules, l.invariant.2)
+    (all_turn l.invariant.0 (rw (c.await_fine-ok.ensures, c.of.ensures)), search rules, l.invariant.2)
 
 pub returns : goal.returns
 returns c =

@@ -8,4 +8,4 @@ unfolding core_of task_at
 returns c =
     λ s h.
     let a = c.args in
-    rw (c.owned-self.ensures, h, owned_of s.tasks a.t.0 a.own)
+    rw (c.set_own.ensures, h, owned_of s.tasks a.t.0 a.own)

@@ -8,4 +8,4 @@ unfolding core_of task_at
 returns c =
     λ s h.
     let a = c.args in
-    rw (c.placed-self.ensures, h, placed_of s.tasks a.t.0 a.p a.n)
+    rw (c.place.ensures, h, placed_of s.tasks a.t.0 a.p a.n)

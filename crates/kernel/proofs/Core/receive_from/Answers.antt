@@ -11,5 +11,5 @@ returns c =
       λ s h. rw some (c.refilled.ensures.0 s h ∙ rw (c.one_less-rest.ensures, who s h)),
       λ s h. rw some
           (c.refilled.ensures.1
-          ∙ rw (c.to_slip.ensures, c.of_ring-item.ensures, c.one_less-rest.ensures, who s h, same_running _ s h)),
+          ∙ rw (c.to_slip.ensures, c.from.ensures, c.of_ring-item.ensures, c.one_less-rest.ensures, who s h, same_running _ s h)),
     )

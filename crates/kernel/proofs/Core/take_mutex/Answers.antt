@@ -1,25 +1,22 @@
-use Rattle.std.proofs.Common.{sym, ap, ◌∙◌}
-use Rattle.slots.specs.Kinds.{is_by}
-use Rattle.rules.proofs.MutexCases.{takes_again, takes_waiting, takes_unheld}
+use Rattle.std.proofs.Common.{Some, sym, refl, ap, ◌∙◌}
+use Rattle.numbers.specs.Numbers.{same_task}
+use Rattle.rules.proofs.MutexCases.{takes_again, takes_waiting}
 use Rattle.kernel.proofs.Stands.{same_running}
 use Rattle.kernel.proofs.Core.take_mutex.Goals as goal
 
-pub returns-then-is_by : goal.returns-then-is_by
-returns-then-is_by c =
+pub returns-in-Some : goal.returns-in-Some
+returns-in-Some c =
     λ s h.
-    let his = sym c.is_by.ensures ∙ c.if-is_by.true in
-    c.with_object.ensures s h ∙ rw (c.counting.ensures, c.count.ensures)
-    (rw (takes_again s c.args.o c.args.m c.args.w c.args.h (ap (λ t. is_by t c.args.h) (sym (same_running _ s h)) ∙ his)))
+    let t = c.in-Some.t in
+    c.with_object.ensures s h ∙ rw (c.counting.ensures, c.count.ensures, c.in-Some.is)
+    (rw (takes_again s c.args.o c.args.m c.args.w (Some t) (ap (λ u. same_task t u) (sym (same_running _ s h)) ∙ rw (← c.in-Some.t-is) (sym c.eq.ensures ∙ c.if-eq.true))))
 
-pub returns-then-is_taken : goal.returns-then-is_taken
-returns-then-is_taken c =
+pub returns-in-Some-2 : goal.returns-in-Some-2
+returns-in-Some-2 c =
     λ s h.
-    let not_his = sym c.is_by.ensures ∙ c.if-is_by.false in
-    let taken = sym c.is_taken.ensures ∙ c.if-is_taken.true in
-    rw (takes_waiting s c.args.o c.args.m c.args.w c.args.h (ap (λ t. is_by t c.args.h) (sym (same_running _ s h)) ∙ not_his) taken) (c.wait_for.ensures s h)
+    let t = c.in-Some.t in
+    rw (c.in-Some.is, takes_waiting s c.args.o c.args.m c.args.w (Some t) (ap (λ u. same_task t u) (sym (same_running _ s h)) ∙ rw (← c.in-Some.t-is) (sym c.eq.ensures ∙ c.if-eq.false)) refl)
+    (c.wait_for.ensures s h)
 
-pub returns : goal.returns
-returns c =
-    λ s h.
-    let free = sym c.is_taken.ensures ∙ c.if-is_taken.false in
-    c.with_object-2.ensures s h ∙ rw (takes_unheld s c.args.o c.args.m c.args.w c.args.h free, c.counting-2.ensures, same_running _ s h)
+pub returns-in-None : goal.returns-in-None
+returns-in-None c = λ s h. rw c.in-None.is (c.with_object-in-None.ensures s h ∙ rw (c.counting-in-None.ensures, same_running _ s h))

@@ -5,7 +5,7 @@ use Rattle.kernel.proofs.TickTurns.{unheld_turning, less_held, then_passes}
 use Rattle.kernel.proofs.Core.time_passes.Goals as goal
 
 pub returns-then-self-gt1 : goal.returns-then-self-gt1
-returns-then-self-gt1 c = less_held c.args.self c.args.a.ticks (is 18 c.args.a) c.requires.0 c.if-self-gt1.true c.with_hold.ensures
+returns-then-self-gt1 c = less_held c.args.self.now c.args.a.ticks (is 18 c.args.a) c.requires.0 c.if-self-gt1.true c.with_hold.ensures
 
 pub ticks-requires : goal.ticks-requires
 ticks-requires c = (
@@ -15,5 +15,5 @@ ticks-requires c = (
 
 pub returns : goal.returns
 returns c =
-    then_passes c.args.self c.args.a.ticks (is 18 c.args.a) c.requires.0 c.requires.1 c.if-self-gt1.false c.with_hold-2.ensures
-    (rw (← c.so_many.ensures) c.ticks.ensures)
+    then_passes c.args.self.now c.args.a.ticks (is 18 c.args.a) c.requires.0 c.requires.1 c.if-self-gt1.false c.with_hold-2.ensures
+    (rw (← c.so_many-n.ensures) c.ticks.ensures)

@@ -8,4 +8,4 @@ pub returns : goal.returns
 returns c =
     λ s h.
     let y = c.task-y.ensures s h ∙ ap (task_at s.tasks) (same_running _ s h) in
-    turned_many c.args.self s h (turning_of c.requires.0 s h) c.args.n c.requires.1 _ y _ c.line-line.ensures _ c.turns-order.ensures _ c.head_after-running.ensures
+    turned_many c.args.self.now s h (turning_of c.requires.0 s h) c.args.n c.requires.1 _ y _ c.line-line.ensures _ c.turn.ensures _ c.head_after-self.ensures

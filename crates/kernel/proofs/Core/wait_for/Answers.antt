@@ -5,4 +5,4 @@ use Rattle.kernel.proofs.Core.wait_for.Goals as goal
 
 pub returns : goal.returns
 unfolding wait_for
-returns c = λ s h. c.arrives.ensures s h ∙ rw (c.wake_of.ensures, same_tick _ s h, same_running _ s h)
+returns c = λ s h. c.arrives.ensures s h ∙ rw (c.wake_of-wake.ensures, same_tick _ s h, same_running _ s h)

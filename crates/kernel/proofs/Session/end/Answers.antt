@@ -1,19 +1,18 @@
+use Rattle.std.proofs.Common.{subst}
+use Rattle.calls.specs.declared.Answer.{Answer}
+use Rattle.fields.specs.Wrote.{Wrote}
+use Rattle.journal.specs.Reply.{reply_of}
 use Rattle.kernel.proofs.SessionRuns.{none_left, last_told}
 use Rattle.kernel.proofs.Session.end.Goals as goal
 
-pub returns-then-either : goal.returns-then-either
-returns-then-either c =
-    let args = c.args in
-    none_left args.self.kernel args.store.now args.self.cut args.out.now c.is_empty.result c.either.result
-    c.is_empty.ensures c.either.ensures c.if-either.true
+pub returns-then-is_empty : goal.returns-then-is_empty
+returns-then-is_empty c =
+    let a = c.args in
+    none_left a.self.kernel a.store.now a.self.cut a.out.now c.is_empty.result c.is_empty.ensures c.then-is_empty.either
 
 pub returns : goal.returns
 returns c =
-    let is_empty = c.is_empty in
-    let either = c.either in
-    let sound = c.sound in
-    let no_line = c.no_line-no in
     let put_answer = c.put_answer-written in
     let a = c.args in
-    last_told a.self.kernel a.store.now a.self.cut a.out.now is_empty.result either.result sound.result no_line.result put_answer.result put_answer.new.line
-    is_empty.ensures either.ensures c.if-either.false sound.ensures.0 no_line.ensures (rw (← c.runs.ensures) put_answer.ensures)
+    last_told a.self.kernel a.store.now a.self.cut a.out.now c.is_empty.result c.is_sound.result c.no_line.result put_answer.result put_answer.new.line
+    c.is_empty.ensures c.if-is_empty.false c.if-out-lt256.false c.is_sound.ensures.0 c.no_line.ensures (rw (← c.runs.ensures) (subst (λ (x : Answer). Wrote a.out.now 0 (reply_of x c.runs.result) put_answer.result put_answer.new.line) c.told-answer.ensures put_answer.ensures))

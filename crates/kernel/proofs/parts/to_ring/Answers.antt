@@ -9,4 +9,4 @@ returns c =
     let a = c.args in
     let from = 512 * c.slot-from.result in
     part_put a.store.now from (from + 512) (omega arith) (omega arith) c.put_at.new.part a.item.now a.q.size c.begins-at.result
-    (item_at a.o a.q a.i) (omega arith) (omega arith) c.put_at.ensures
+    (item_at a.o a.q a.i) (omega arith) (omega arith) (rw c.from-n.ensures at c.put_at.ensures)

@@ -8,4 +8,4 @@ pub returns : goal.returns
 returns c =
     let os = c.args.self in
     let f : Full os = search rules in
-    record { many = rows_many os ∙ f.states; said = holders_done os f c.loop-i.invariant.0 (search rules) }
+    record { many = rows_many os ∙ f.states; said = holders_done os f c.loop-i.invariant (search rules) }

@@ -1,10 +1,6 @@
-use Prim.Native.Nat.{◌-◌, ◌≤◌}
 use Rattle.slots.proofs.Sweeps.{Filled}
 use Rattle.objects.proofs.Fines.{holding}
 use Rattle.objects.proofs.Objects.holders.Given as goal
 
 abbrev pub invariant-loop-i : goal.invariant-loop-i
-invariant-loop-i l = Filled (holding l.state l.by) 16 l.out l.i × (l.i ≤ 16)
-
-abbrev pub decreases-loop-i : goal.decreases-loop-i
-decreases-loop-i l = 16 - l.i
+invariant-loop-i l = Filled (holding l.state l.by) 16 l.out l.i

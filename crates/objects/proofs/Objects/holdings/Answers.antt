@@ -7,7 +7,7 @@ use Rattle.objects.proofs.Objects.holdings.Goals as goal
 
 pub returns : goal.returns
 returns c =
-    let marks = c.marks-marks in
+    let marks = c.marks in
     let os = c.args.self in
     let f : Full os = search (c.well_formed.0.1.1.1.1.1, c.well_formed, rules) in
     record {

@@ -1,16 +1,12 @@
-use borrow.Author.Rules.{rules}
-use Prim.Native.Nat.{◌*◌, min}
-use mathlib.Core.Path.{◌≡◌, refl, sym, ◌∙◌}
-use Rattle.lists.proofs.Loops.{start}
-use Rattle.objects.proofs.Columns.{Full}
-use Rattle.objects.proofs.Fines.{marks_end, holders_end}
-use Rattle.objects.specs.Fine.{holding_in}
-use Rattle.slots.proofs.Sweeps.{fill_begin}
+use Rattle.std.proofs.Common.{◌≡◌, ◌∙◌, sym, replicate}
+use Rattle.std.specs.Cmp.Lexicographic.{same_text}
+use Rattle.objects.proofs.Fines.{marks_are, none_marked}
 use Rattle.objects.proofs.Objects.marks.Goals as goal
 
-pub returns-then-n-eq0 : goal.returns-then-n-eq0
-returns-then-n-eq0 c =
-    let os = c.args.self in
-    let f : Full os = search rules in
-    let q : 0 ≡ min 16 (16 * holding_in os) = sym c.if-n-eq0.true ∙ c.bound-n.ensures ∙ rw c.holding.ensures in
-    record { marks = marks_end os f (record { upto = start; wide = refl }) q; by = holders_end os f (fill_begin refl) (λ e. refl) q }
+pub returns-then-eq : goal.returns-then-eq
+returns-then-eq c =
+    let none : c.holders-by.result ≡ replicate 16 16 = same_text c.holders-by.result (replicate 16 16) c.if-eq.ensures in
+    record { marks = sym none_marked ∙ (rw (← none) (marks_are c.args.self c.holders-by.result c.holders-by.ensures.said)); by = c.holders-by.ensures.said }
+
+pub returns-else-eq : goal.returns-else-eq
+returns-else-eq c = record { marks = c.marked-held.ensures ∙ marks_are c.args.self c.holders-by.result c.holders-by.ensures.said; by = c.holders-by.ensures.said }

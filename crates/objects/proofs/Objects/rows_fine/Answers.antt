@@ -1,15 +1,6 @@
-use borrow.Author.Rules.{rules}
-use Rattle.lists.proofs.Loops.{all_begin, all_turn, all_done}
+use Rattle.std.proofs.Common.{◌∙◌, arith}
 use Rattle.objects.proofs.Fines.{fines_are}
-use mathlib.Core.Path.{refl, ◌∙◌}
-use native.Mathlib.Omega.{arith}
 use Rattle.objects.proofs.Objects.rows_fine.Goals as goal
 
-pub loop-i-init : goal.loop-i-init
-loop-i-init c = (all_begin refl, search rules)
-
-pub loop-i-preserved : goal.loop-i-preserved
-loop-i-preserved c = (all_turn c.loop-i.invariant.0 (c.both-ok.ensures ∙ rw c.row_fine-fine.ensures), search rules)
-
 pub returns : goal.returns
-returns c = all_done c.loop-i.invariant.0 16 (omega arith) ∙ fines_are c.args.self
+returns c = c.loop-i.invariant ∙ fines_are c.args.self _ (omega arith)

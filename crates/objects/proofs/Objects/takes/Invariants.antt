@@ -1,4 +1,3 @@
-use Prim.Native.Nat.{◌-◌, ◌≤◌}
 use Rattle.slots.proofs.Sweeps.{Filled}
 use lib.Dec.{leb}
 use lib.ListN.{get_or}
@@ -6,7 +5,4 @@ use mathlib.Core.Bool.{false}
 use Rattle.objects.proofs.Objects.takes.Given as goal
 
 abbrev pub invariant-loop-i : goal.invariant-loop-i
-invariant-loop-i l = Filled (λ j. leb 6 (get_or l.state j 0)) false l.out l.i × (l.i ≤ 16)
-
-abbrev pub decreases-loop-i : goal.decreases-loop-i
-decreases-loop-i l = 16 - l.i
+invariant-loop-i l = Filled (λ j. leb 6 (get_or l.state j 0)) false l.out l.i

@@ -1,4 +1,3 @@
-use Prim.Native.Nat.{◌-◌, ◌≤◌}
 use Rattle.lists.proofs.Loops.{Held}
 use Rattle.numbers.specs.Numbers.{idle}
 use lib.Dec.{eqb, ltb}
@@ -7,7 +6,4 @@ use mathlib.Core.Bool.{true, ◌||◌}
 use Rattle.order.proofs.Order.zeros.Given as goal
 
 abbrev pub invariant-loop-i : goal.invariant-loop-i
-invariant-loop-i l = Held (λ j. ltb j l.initial.i || eqb (get_or l.places j idle).0 0) true l.ok l.i × (l.initial.i ≤ l.i) × (l.i ≤ 16)
-
-abbrev pub decreases-loop-i : goal.decreases-loop-i
-decreases-loop-i l = 16 - l.i
+invariant-loop-i l = Held (λ j. ltb j l.initial.i || eqb (get_or l.self.places j idle).0 0) true l.ok l.i

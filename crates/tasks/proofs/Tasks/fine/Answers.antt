@@ -17,5 +17,5 @@ returns c =
     let idle = idle_alone (get_or a.holds 0 false) (row_at ts 0) in
     let rows = all_below 16 (rows_fine ts a.stands a.holds) in
     let wakes = all_below 16 (wakes_fine ts a.tick) in
-    let e : c.both.result ≡ (idle && (rows && wakes)) = c.both.ensures ∙ rw (c.wakes_fine.ensures, c.rows_fine-rows.ensures) (and_assoc idle rows wakes) in
+    let e : (c.rows_fine.result && c.wakes_fine.result) ≡ (idle && (rows && wakes)) = rw (c.wakes_fine.ensures, c.rows_fine.ensures) (and_assoc idle rows wakes) in
     record { many = rows_many ts ∙ f.states; said = e; whole = λ h. fine_whole ts f a.tick a.stands a.holds idle (sym e ∙ h) }

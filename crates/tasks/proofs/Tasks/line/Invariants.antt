@@ -1,11 +1,9 @@
-use Prim.Native.Nat.{◌-◌, ◌≤◌}
-use Rattle.lists.proofs.Loops.{Rest}
-use Rattle.tasks.proofs.WalkTurns.{line_step}
+use Rattle.std.proofs.Common.{◌≡◌, [], take, if◌then◌else◌}
+use Rattle.lists.specs.Lists.{foldl}
+use Rattle.order.specs.Order.{ordered, appended_to}
+use Rattle.slots.specs.Values.{in_line}
+use Rattle.tasks.specs.Columns.{row_at}
 use Rattle.tasks.proofs.Tasks.line.Given as goal
 
-abbrev pub invariant-loop-i : goal.invariant-loop-i
-invariant-loop-i l =
-    Rest (line_step l.p l.state l.effective) l.n l.places l.n (record { places = l.initial.out; living = l.initial.m }) (record { places = l.out; living = l.m }) l.i × (l.m ≤ l.i) × (l.n ≤ 16)
-
-abbrev pub decreases-loop-i : goal.decreases-loop-i
-decreases-loop-i l = l.n - l.i
+abbrev pub invariant-loop-t : goal.invariant-loop-t
+invariant-loop-t l = l.line ≡ foldl (λ o t. if in_line l.p (row_at l.self t.0) then appended_to o t else o) (ordered []) (take l.t-index l.t-items)

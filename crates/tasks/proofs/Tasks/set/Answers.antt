@@ -4,8 +4,8 @@ use mathlib.Core.Path.{sym}
 use native.Mathlib.Omega.{arith}
 use Rattle.tasks.proofs.Tasks.set.Goals as goal
 
-pub returns : goal.returns
-returns c =
+pub returns-else-i-lt16 : goal.returns-else-i-lt16
+returns-else-i-lt16 c =
     let a = c.args in
-    let f : Full a.self = search full_of in
-    sym (lost_row a.self f a.t.0 (omega (arith, c.slot-i.ensures)) a.x)
+    let f : Full a.self.now = search full_of in
+    sym (lost_row a.self.now f a.t.0 (omega arith) a.x)

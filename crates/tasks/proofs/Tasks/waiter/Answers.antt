@@ -1,12 +1,12 @@
+use Rattle.std.proofs.Common.{sym, ◌∙◌}
 use Rattle.order.specs.Order.{listed}
 use Rattle.tasks.proofs.Columns.{Full}
 use Rattle.tasks.proofs.Lengths.{full_of}
 use Rattle.tasks.proofs.Heads.{none_waited}
-use mathlib.Core.Path.{sym, ◌∙◌}
 use Rattle.tasks.proofs.Tasks.waiter.Goals as goal
 
-pub returns-else-waited : goal.returns-else-waited
-returns-else-waited c =
-    let ts = c.args.self in
-    let f : Full ts = search full_of in
-    none_waited ts f c.args.x (sym c.waited.ensures ∙ c.if-waited.false) (listed c.args.o)
+pub returns-else-waits_on : goal.returns-else-waits_on
+returns-else-waits_on c =
+    let a = c.args in
+    let f : Full a.self = search full_of in
+    none_waited a.self f a.x (sym c.waits_on.ensures ∙ c.if-waits_on.false) (listed a.o)

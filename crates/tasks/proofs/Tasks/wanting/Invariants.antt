@@ -1,12 +1,6 @@
-use Prim.Native.Nat.{◌+◌, ◌-◌, ◌≤◌}
-use Rattle.lists.proofs.Loops.{Upto}
-use Rattle.std.proofs.Common.{if◌then◌else◌}
-use lib.Dec.{eqb}
-use lib.ListN.{get_or}
+use Rattle.std.proofs.Common.{◌≡◌, ◌+◌, ◌≤◌, eqb, get_or, if◌then◌else◌}
+use Rattle.lists.specs.Lists.{up_to}
 use Rattle.tasks.proofs.Tasks.wanting.Given as goal
 
 abbrev pub invariant-loop-i : goal.invariant-loop-i
-invariant-loop-i l = Upto (λ m j. m + (if eqb (get_or l.all j 0) 0 then 0 else 1)) 0 l.n l.i × (l.i ≤ 16) × (l.n ≤ l.i)
-
-abbrev pub decreases-loop-i : goal.decreases-loop-i
-decreases-loop-i l = 16 - l.i
+invariant-loop-i l = (l.n ≡ up_to (λ m j. m + (if eqb (get_or l.flags j 0) 0 then 0 else 1)) l.i 0) × (l.n ≤ l.i)
