@@ -58,8 +58,7 @@ fn new_object(a: Asked) -> Kind
     requires { (a.capacity ≤ 64) × (a.size ≤ 64) }
     ensures { result ≡ new_object a }
 {
-    let number = a.number;
-    match number {
+    match a.number {
         10 => Kind::Queue(Ring {
             capacity: a.capacity as u8,
             size: a.size as u8,
@@ -94,8 +93,7 @@ impl Core {
         ensures { Does self.old (λ s. suspended s t) self.new }
     {
         let x = self.task(t);
-        let p = x.place;
-        if p.is_listed() {
+        if x.place.is_listed() {
             self.placed(t, Place::Suspended, x.broken_off().outcome);
             self.leaves(t);
         }

@@ -36,9 +36,7 @@ impl Core {
     fn clears(&self, t: TaskSlot) -> u32
         ensures { Reads self.now (λ s. clears (want_in (task_at s.tasks t).place)) result }
     {
-        let x = self.task(t);
-        let p = x.place;
-        p.want().clears()
+        self.task(t).place.want().clears()
     }
 
     // Everyone on `o` that the bits satisfy is woken, the first waiter first, and has them in its slip; the answer is what the woken ask to have cleared.
@@ -120,8 +118,7 @@ impl Core {
         requires { Firm self.old × (21 ≤ a.number) × (a.number ≤ 23) }
         ensures { Does self.old (λ s. effect s a) self.new × Reads self.old (λ s. stored s a [] store.old) store.new }
     {
-        let number = a.number;
-        match number {
+        match a.number {
             21 => self.set_on(a.object, a.bits, store),
             22 => self.clear_on(a.object, a.bits),
             _ => self.await_on(a, store),

@@ -86,16 +86,13 @@ impl Core {
         requires { Firm self.now }
         ensures { Reads self.now (λ s. seen s a) result }
     {
-        let x = self.task(a.task);
-        let place = x.place;
-        let running = self.running;
         Seen {
-            place,
+            place: self.task(a.task).place,
             kind: self.kind(a.object),
             new: self.new_slot(a),
             used: self.used(a),
             circle: self.closes_circle(a),
-            running,
+            running: self.running,
             hold: self.hold,
             pended: self.pended,
         }

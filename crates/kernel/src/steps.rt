@@ -41,9 +41,7 @@ impl Core {
         if rows::makes(&a) {
             return Answer::Made(new_number(uses, a, n));
         }
-        let x = self.task(caller);
-        let p = x.place;
-        if p.is_blocked() {
+        if self.task(caller).place.is_blocked() {
             Answer::Waiting
         } else {
             Answer::Done

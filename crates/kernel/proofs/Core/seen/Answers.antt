@@ -5,7 +5,7 @@ pub returns : goal.returns
 returns c =
     λ s h.
     rw (
-      c.task-x.ensures s h,
+      c.task.ensures s h,
       c.kind.ensures s h,
       c.new_slot.ensures s h,
       c.used.ensures s h,
