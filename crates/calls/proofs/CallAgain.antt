@@ -13,14 +13,15 @@ use Rattle.lists.specs.Lists.{any, index, every, all_below}
 use Rattle.lists.proofs.Bools.{at, all_below_lem, or_second}
 use Rattle.calls.specs.Types.{Call, Create, Delete, Suspend, Resume, SetPriority, Delay, Yield, Hold, Release, MakeQueue, MakeMutex, Remove, Send, Receive, Take, Give, Tick, Advance, MakeRecursive}
 use Rattle.calls.specs.Types.{MakeGroup, SetBits, ClearBits, Await}
-use Rattle.calls.specs.Types.{Shape}
+use Rattle.calls.specs.Types.{Uses, Names, Shape, Frame, Asked}
 use Rattle.calls.specs.Table.{called, word, entries, call_of}
 use Rattle.std.specs.Option.{IsSome}
 use Rattle.std.specs.declared.option.Option.{Option}
 use Rattle.std.specs.declared.option.Option.TheVariants.{None, Some}
 use Rattle.calls.specs.declared.Shape.{Shape as Laid}
 use Rattle.calls.specs.Shapes.{unknown, shape_told}
-use Rattle.calls.specs.Words.{fields_of, is_bytes, numbers_in, no_words, frame_of, shapes, shape_of}
+use Rattle.calls.specs.Behind.{asked}
+use Rattle.calls.specs.Words.{fields_of, is_bytes, numbers_in, no_words, frame_of, shapes, shape_of, asked_by}
 use Rattle.lists.proofs.Tests.{below_or}
 
 -- five words
@@ -134,3 +135,35 @@ frame_five c = length-sets no_words 0 (numbers_in (fields_of c))
 pub has_shape : (s : Option Laid) → (shape_told s).known ≡ true → IsSome s
 has_shape None e = absurd (false≢true e)
 has_shape (Some s) e = refl
+
+-- ---- what holds of every row holds of every call
+
+module _ {A : Type 0} (f g : Call → A)
+    (same : (a b c d e : ℕ) → map f (entries (a ∷ b ∷ c ∷ d ∷ e ∷ [])) ≡ map g (entries (a ∷ b ∷ c ∷ d ∷ e ∷ []))) where
+  all_rows : (c : Call) → f c ≡ g c
+  unfolding call_of
+  all_rows c =
+      let n = (frame_of c).number in
+      let ws = (frame_of c).words in
+      let all : map f (entries ws) ≡ map g (entries ws) = same (word ws 0) (word ws 1) (word ws 2) (word ws 3) (word ws 4) in
+      let none : f Tick ≡ g Tick = ap (λ (l : List A). get_or l 0 (f Tick)) all in
+      ap f (sym (call_again c).call)
+      ∙ sym (get_or-map f (entries ws) n Tick)
+      ∙ ap (λ (l : List A). get_or l n (f Tick)) all
+      ∙ ap (get_or (map g (entries ws)) n) none
+      ∙ get_or-map g (entries ws) n Tick
+      ∙ ap g (call_again c).call
+
+module _ (us : Uses) where
+  abbrev asked_in : Frame → Asked
+  asked_in f = asked_by us f.names f.number f.words
+
+  asked_frame : (c : Call) → asked_in (frame_of c) ≡ asked us c
+  unfolding asked
+  asked_frame = all_rows (λ c. asked_in (frame_of c)) (asked us) (λ a b c d e. refl)
+
+  -- by what the code found in the frame
+  pub asked_by_lem : (c : Call) (f : Frame) (m : Names) → f ≡ frame_of c → f.names ≡ m
+      → asked_by us m f.number f.words ≡ asked us c
+  asked_by_lem c f m e h =
+      ap (λ (n : Names). asked_by us n f.number f.words) (sym h) ∙ ap asked_in e ∙ asked_frame c

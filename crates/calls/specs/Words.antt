@@ -1,11 +1,13 @@
 -- A call in words: its number, what it names, and the numbers among its arguments, of which no call has more than five. All of it is read
 -- off the table.
-use Rattle.std.specs.Prelude.{ℕ, ◌-◌, ◌≤◌, Bool, true, false, List, [], ◌∷◌, map, length, get_or}
+use Rattle.std.specs.Prelude.{ℕ, ◌-◌, ◌≤◌, Bool, true, false, List, [], ◌∷◌, map, length, get_or, eqb, if◌then◌else◌}
 use Rattle.std.proofs.lemmas.List.Edits.{sets}
 use Rattle.lists.specs.Lists.{any, index}
-use Rattle.calls.specs.Types.{Call, Names, Shape, Frame}
-use Rattle.calls.specs.Table.{Argument, a_task, an_object, a_queue, a_mutex, a_group, a_priority, some_ticks, a_capacity, a_size, a_wait, some_bits, an_all, a_clear, an_item, called, calls}
-use Rattle.calls.specs.Behind.{names_of}
+use Rattle.calls.specs.Types.{Call, Uses, Names, Nothing, ATask, AnObject, AQueue, AMutex, AGroup, Shape, Frame, Asked}
+use Rattle.calls.specs.Table.{Argument, a_task, an_object, a_queue, a_mutex, a_group, a_priority, some_ticks, a_capacity, a_size, a_wait, some_bits, an_all, a_clear, an_item, called, word, calls}
+use Rattle.calls.specs.Named.{task_of, object_of}
+use Rattle.calls.specs.Door.{last_in, task_slot, obj_slot}
+use Rattle.calls.specs.Behind.{names_of, nothing, on_task, on_object, on_group}
 use Rattle.calls.specs.Shapes.{shaped, unknown}
 
 -- what stands for an argument: a number, or the item's bytes
@@ -76,3 +78,24 @@ shapes = unknown ∷ map (λ c. shape_in (fields_of c)) (calls no_words)
 
 unfoldable pub shape_of : ℕ → Shape
 shape_of n = get_or shapes n unknown
+
+-- ---- behind the door
+
+-- a call that names nothing, of its first two words
+abbrev pub unnamed : ℕ → ℕ → ℕ → Asked
+unnamed n a b =
+    if eqb n 1 then nothing 1 a 0 1 0
+    else if eqb n 6 then nothing 6 0 a 1 0
+    else if eqb n 18 then nothing 18 0 a 1 0
+    else if eqb n 10 then nothing 10 0 0 a b
+    else nothing n 0 0 1 0
+
+-- what a word is follows from what the call names
+abbrev pub asked_by : Uses → Names → ℕ → List ℕ → Asked
+asked_by us Nothing n ws = unnamed n (word ws 0) (word ws 1)
+asked_by us ATask n ws = let t = task_slot us (task_of (word ws 0)) in on_task n t (last_in us.tasks t.0) (word ws 1)
+asked_by us AnObject n ws = let o = obj_slot us (object_of (word ws 0)) in on_object n AnObject o (last_in us.objects o.0) (word ws 1)
+asked_by us AQueue n ws = let o = obj_slot us (object_of (word ws 0)) in on_object n AQueue o (last_in us.objects o.0) (word ws 1)
+asked_by us AMutex n ws = let o = obj_slot us (object_of (word ws 0)) in on_object n AMutex o (last_in us.objects o.0) (word ws 1)
+asked_by us AGroup n ws =
+    let o = obj_slot us (object_of (word ws 0)) in on_group n o (last_in us.objects o.0) (word ws 1) (word ws 2) (word ws 3) (word ws 4)

@@ -9,7 +9,7 @@ use lib.ListN.{length, drop, set, length-drop}
 use lib.Seq.{drop-drop}
 use borrow.Author.Tests.{eqb-true, lt-ltb, le-ltb}
 use Rattle.cuts.specs.declared.Cut.{Cut}
-use Rattle.std.proofs.Common.{if◌then◌else◌, Option, Some, None}
+use Rattle.std.proofs.Common.{if◌then◌else◌, Result, Ok, Err}
 use Rattle.cuts.specs.Keeping.{cut_of, with_byte, Gathered, gathered, Gathers}
 
 -- ---- one byte
@@ -74,23 +74,23 @@ left block (b ∷ l) i c d = go (eqb b 10) refl (left block l (i + 1) (with_byte
 
 -- ---- the same of what is told of it
 
-pub told_newline : {g : Gathered} {n : ℕ} {after : Cut} → Gathers g (Some n) after → g ≡ record { next = n; cut = after; newline = true }
-told_newline {g} {n} {after} h = go g.newline refl h.newline
+pub told_newline : {g : Gathered} {n : ℕ} {after : Cut} → Gathers g (Ok n) after → g ≡ record { next = n; cut = after; newline = true }
+told_newline {g} {n} {after} h = go g.newline refl h.next
   where
-    go : (t : Bool) → g.newline ≡ t → Some n ≡ (if t then Some g.next else None) → g ≡ record { next = n; cut = after; newline = true }
+    go : (t : Bool) → g.newline ≡ t → Ok n ≡ (if t then Ok g.next else Err g.next) → g ≡ record { next = n; cut = after; newline = true }
     go true e f = let m : n ≡ g.next = cc in sym (λ i. record { next = m i; cut = h.cut i; newline = sym e i })
     go false e f = absurd (cc)
 
-pub told_none : {g : Gathered} {after : Cut} → Gathers g None after → g ≡ record { next = g.next; cut = after; newline = false }
-told_none {g} {after} h = go g.newline refl h.newline
+pub told_ended : {g : Gathered} {n : ℕ} {after : Cut} → Gathers g (Err n) after → g ≡ record { next = n; cut = after; newline = false }
+told_ended {g} {n} {after} h = go g.newline refl h.next
   where
-    go : (t : Bool) → g.newline ≡ t → None ≡ (if t then Some g.next else None) → g ≡ record { next = g.next; cut = after; newline = false }
+    go : (t : Bool) → g.newline ≡ t → Err n ≡ (if t then Ok g.next else Err g.next) → g ≡ record { next = n; cut = after; newline = false }
     go true e f = absurd (cc)
-    go false e f = sym (λ i. record { next = g.next; cut = h.cut i; newline = sym e i })
+    go false e f = let m : n ≡ g.next = cc in sym (λ i. record { next = m i; cut = h.cut i; newline = sym e i })
 
 module _ (block : List ℕ) (i : ℕ) (c after : Cut) where
   -- at a newline
-  module _ (n : ℕ) (g : Gathers (gathered i c (drop i block)) (Some n) after) where
+  module _ (n : ℕ) (g : Gathers (gathered i c (drop i block)) (Ok n) after) where
     lies : Left block i record { next = n; cut = after; newline = true }
     lies = rw (← told_newline g) (left block (drop i block) i c refl)
 
@@ -101,11 +101,18 @@ module _ (block : List ℕ) (i : ℕ) (c after : Cut) where
     further = lies.within refl
 
   -- where there is none, the block has ended
-  pub used_up : Gathers (gathered i c (drop i block)) None after → i ≤ length block → (gathered i c (drop i block)).next ≡ length block
-  used_up g h = (left block (drop i block) i c refl).last (ap (λ (x : Gathered). x.newline) (told_none g)) h
+  module _ (n : ℕ) (g : Gathers (gathered i c (drop i block)) (Err n) after) where
+    spent : Left block i record { next = n; cut = after; newline = false }
+    spent = rw (← told_ended g) (left block (drop i block) i c refl)
+
+    pub used_up : drop n block ≡ []
+    used_up = spent.none refl
+
+    pub at_the_end : i ≤ length block → n ≡ length block
+    at_the_end = spent.last refl
 
 -- ---- no second result
 
 -- nor does another fit the promise of `keep`, which is an equation
-pub gathers_one : {g : Gathered} {r q : Option ℕ} {a b : Cut} → Gathers g r a → Gathers g q b → (r ≡ q) × (a ≡ b)
-gathers_one f h = (f.newline ∙ sym h.newline, f.cut ∙ sym h.cut)
+pub gathers_one : {g : Gathered} {r q : Result ℕ ℕ} {a b : Cut} → Gathers g r a → Gathers g q b → (r ≡ q) × (a ≡ b)
+gathers_one f h = (f.next ∙ sym h.next, f.cut ∙ sym h.cut)

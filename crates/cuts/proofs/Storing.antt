@@ -7,16 +7,16 @@ use native.Mathlib.Numerals.{add-one}
 use native.Mathlib.Nat.{add-zero}
 use native.Mathlib.Omega.{arith}
 use lib.Dec.{eqb, ltb}
-use lib.ListN.{length, take, drop, set, length-take, length-drop, take-append-drop}
-use lib.Seq.{sets, sets-eq, take-nil, take_all, drop-drop}
+use lib.ListN.{length, take, drop, set, length-take, length-drop, take-append-drop, drop_of_length-le}
+use lib.Seq.{sets, sets-eq, take-nil, take_all, drop-drop, drop-length}
 use borrow.Author.Tests.{ltb-true, ltb-false, lt-ltb, le-ltb}
 use Rattle.lists.proofs.Loops.{fold_append}
 use Rattle.std.proofs.Common.{if◌then◌else◌}
 use Rattle.lists.specs.Lists.{foldl, index}
 use Rattle.lists.proofs.Loops.{index_is, index_within, index_or}
-use Rattle.std.proofs.Common.{cond, Option, Some, None, append_assoc}
+use Rattle.std.proofs.Common.{cond, Option, Some, None, Result, Ok, Err, append_assoc}
 use Rattle.std.specs.List.{position}
-use Rattle.std.specs.Option.{unwrap_or, option_map}
+use Rattle.std.specs.Option.{unwrap_or, is_some}
 use borrow.Rule.Slice.PartMut.{put_mid}
 use Rattle.cuts.specs.declared.Cut.{Cut}
 use Rattle.cuts.specs.Keeping.{cut_of, with_byte, is_newline, newline_from, Gathered, gathered, Gathers}
@@ -94,6 +94,17 @@ extended bytes more after len from n to wide f e a t = rw (mid, t) (go (ltb n (l
     go true k = some_in more bytes len from n (ltb-true n (length more) k) f (omega (arith, ltb-true n (length more) k))
     go false k = all_in more bytes len from n (omega (arith, ltb-false n (length more) k)) f (omega arith)
 
+-- what a block has from a place on, however far that lies
+pub drop_min : (l : List ℕ) (i : ℕ) → drop (min i (length l)) l ≡ drop i l
+drop_min l i = go (ltb i (length l)) refl
+  where
+    go : (t : Bool) → ltb i (length l) ≡ t → drop (min i (length l)) l ≡ drop i l
+    go true h = let z : min i (length l) ≡ i = omega (arith, ltb-true i (length l) h) in ap (λ (n : ℕ). drop n l) z
+    go false h =
+        let w : length l ≤ i = ltb-false i (length l) h in
+        let z : min i (length l) ≡ length l = omega (arith, w) in
+        ap (λ (n : ℕ). drop n l) z ∙ drop-length l ∙ sym (drop_of_length-le l w)
+
 -- ---- both
 
 -- the place is inside of the block where it is inside of what was left
@@ -130,19 +141,28 @@ two_steps (b ∷ l) i c = go (eqb b 10) refl (two_steps l (i + 1) (with_byte c b
     go true e h = rw (gathered_newline i c b l e) (at_once i c b l e)
     go false e h = rw (gathered_other i c b l e) (one_later i c b l (gathered (i + 1) (with_byte c b) l) e h)
 
-gathered_at : (l : List ℕ) (i : ℕ) (c : Cut) → Gathers (gathered i c l) (option_map (λ n. i + n) (position is_newline l)) (foldl with_byte c (take (unwrap_or (position is_newline l) (length l)) l))
+told_at : Bool → ℕ → Result ℕ ℕ
+told_at b n = if b then Ok n else Err n
+
+gathered_at : (l : List ℕ) (i : ℕ) (c : Cut) → Gathers (gathered i c l) (told_at (is_some (position is_newline l)) (i + unwrap_or (position is_newline l) (length l))) (foldl with_byte c (take (unwrap_or (position is_newline l) (length l)) l))
+unfolding told_at
 gathered_at l i c =
     let t = two_steps l i c in
+    let n : i + unwrap_or (position is_newline l) (length l) ≡ (gathered i c l).next = ap (λ n. i + n) (index_or is_newline l) ∙ t.next in
     record {
-      newline = rw index_is (go (ltb (index is_newline l) (length l)) ∙ ap (λ (b : Bool). if b then Some (newline_from i l) else None) t.newline ∙ ap (λ (n : ℕ). if (gathered i c l).newline then Some n else None) t.next);
+      next = ap (λ (b : Bool). told_at b (i + unwrap_or (position is_newline l) (length l))) (found ∙ t.newline) ∙ ap (told_at (gathered i c l).newline) n;
       cut = ap (λ n. foldl with_byte c (take n l)) (index_or is_newline l) ∙ t.cut;
     }
   where
-    go : (b : Bool) → option_map (λ n. i + n) (cond b (Some (index is_newline l)) None) ≡ (if b then Some (newline_from i l) else None)
+    go : (b : Bool) → is_some (cond b (Some (index is_newline l)) None) ≡ b
     go true = refl
     go false = refl
 
+    found : is_some (position is_newline l) ≡ ltb (index is_newline l) (length l)
+    found = rw index_is (go (ltb (index is_newline l) (length l)))
+
 -- the code's steps: the rest of the block, the place of its newline, how many bytes stand before it
-pub gathers : (block rest : List ℕ) (i : ℕ) (c : Cut) (found r : Option ℕ) (m : ℕ) (after : Cut) → rest ≡ drop i block → found ≡ position is_newline rest
-    → m ≡ unwrap_or found (length rest) → after ≡ foldl with_byte c (take m rest) → r ≡ option_map (λ n. i + n) found → Gathers (gathered i c (drop i block)) r after
-gathers block rest i c found r m after d e f g h = rw (h, g, f, e, d) (gathered_at (drop i block) i c)
+pub gathers : (block rest : List ℕ) (i : ℕ) (c : Cut) (found : Option ℕ) (m : ℕ) (b : Bool) (after : Cut) → rest ≡ drop i block → found ≡ position is_newline rest
+    → m ≡ unwrap_or found (length rest) → after ≡ foldl with_byte c (take m rest) → is_some found ≡ b → Gathers (gathered i c (drop i block)) (if b then Ok (i + m) else Err (i + m)) after
+unfolding told_at
+gathers block rest i c found m b after d e f g k = rw (← k, g, f, e, d) (gathered_at (drop i block) i c)

@@ -1,5 +1,5 @@
 -- What there is of a line, byte by byte.
-use Rattle.std.specs.Prelude.{ℕ, ◌+◌, ◌≡◌, Bool, true, false, Option, Some, None, List, [], ◌∷◌, eqb, ltb, set, replicate, if◌then◌else◌}
+use Rattle.std.specs.Prelude.{ℕ, ◌+◌, ◌≡◌, Bool, true, false, Result, Ok, Err, List, [], ◌∷◌, eqb, ltb, set, replicate, if◌then◌else◌}
 use Rattle.lists.specs.Lists.{index}
 use Rattle.cuts.specs.declared.Cut.{Cut}
 
@@ -40,7 +40,7 @@ unfoldable pub gathered : ℕ → Cut → List ℕ → Gathered
 gathered i c [] = record { next = i; cut = c; newline = false }
 gathered i c (b ∷ l) = if eqb b 10 then record { next = i; cut = c; newline = true } else gathered (i + 1) (with_byte c b) l
 
--- what is told of it: the place of the newline, or none; and what there is of the line then
-pub record Gathers (g : Gathered) (r : Option ℕ) (after : Cut) : Type 0 where
-  pub newline : r ≡ (if g.newline then Some g.next else None)
+-- what is told of it: the place of the newline or, where there is none, the place where the block ended; and what there is of the line then
+pub record Gathers (g : Gathered) (r : Result ℕ ℕ) (after : Cut) : Type 0 where
+  pub next : r ≡ (if g.newline then Ok g.next else Err g.next)
   pub cut : after ≡ g.cut

@@ -20,6 +20,14 @@ fn newline(block: &[u8]) -> Option<usize>
     block.iter().position(|&b| b == b'\n')
 }
 
+// What a block has from `at` on; nothing past its end.
+#[tactic(auto, using(crate::proofs::Storing::drop_min))]
+fn rest(block: &[u8], at: usize) -> &[u8]
+    ensures { result.now ≡ drop at block.now }
+{
+    &block[at.min(block.len())..]
+}
+
 impl Cut {
     #[tactic(auto, unfolding(crate::specs::Keeping::no_byte))]
     pub fn none() -> Cut
@@ -60,13 +68,18 @@ impl Cut {
         self.len = if n < more.len() { 257 } else { self.len + n };
     }
 
-    // The bytes of a block from `at` on are kept as far as its next newline; the newline's place, or none where the block has ended.
-    pub fn gather(&mut self, block: &[u8], at: usize) -> Option<usize>
+    // The bytes of a block from `at` on are kept as far as its next newline: the newline's place, or, as an `Err`, the place where the block ended.
+    pub fn gather(&mut self, block: &[u8], at: usize) -> Result<usize, usize>
         ensures { Gathers (gathered at self.old (drop at block.now)) result self.new }
     {
-        let rest = block.get(at..)?;
+        let rest = rest(block, at);
         let found = newline(rest);
-        self.extend(&rest[..found.unwrap_or(rest.len())]);
-        Some(at + found?)
+        let n = found.unwrap_or(rest.len());
+        self.extend(&rest[..n]);
+        if found.is_some() {
+            Ok(at + n)
+        } else {
+            Err(at + n)
+        }
     }
 }

@@ -22,7 +22,7 @@ use Rattle.journal.proofs.LineStores.{reply_short}
 use Rattle.journal.proofs.Theorems.{read_is, len_within}
 use Rattle.cuts.specs.declared.Cut.{Cut}
 use Rattle.cuts.specs.Keeping.{cut_of, with_byte, ended, is_blank, Gathered, gathered, Gathers}
-use Rattle.cuts.proofs.Gathering.{gathered_newline, gathered_other, one_on, Left, left, told_newline, told_none}
+use Rattle.cuts.proofs.Gathering.{gathered_newline, gathered_other, one_on, Left, left, told_newline, told_ended}
 use Rattle.rules.specs.State.{State}
 use Rattle.rules.specs.Sound.{sound}
 use Rattle.rules.specs.Refusals.{later_row, refusal}
@@ -241,7 +241,7 @@ gathers_to {lent = lent} {block = block} {k = k} {s = s} {c = c} {at = at} w = r
 
 -- a newline stands there
 pub gathers_on : {k₀ : Kernel} {whole : Run} {lent block : List ℕ} {fine : Bool} {k : Kernel} {s : List ℕ} {c after : Cut} {at next written : ℕ} {out : List ℕ}
-    → Going k₀ whole lent block fine k s c at written out → Gathers (gathered at c (drop at block)) (Some next) after
+    → Going k₀ whole lent block fine k s c at written out → Gathers (gathered at c (drop at block)) (Ok next) after
     → Going k₀ whole lent block fine k s after next written out
 gathers_on {k₀} {whole} {lent} {block} {fine} {k} {s} {written = written} {out = out} w g =
     subst (λ (x : Gathered). Going k₀ whole lent block fine k s x.cut x.next written out) (told_newline g) (gathers_to w)
@@ -352,15 +352,14 @@ module _ {k₀ : Kernel} {whole : Run} {lent block : List ℕ} {fine : Bool} {k 
     }
 
 -- the block has ended before the next newline
-pub ends_there : {k₀ : Kernel} {whole : Run} {lent block : List ℕ} {fine : Bool} {k : Kernel} {s : List ℕ} {c after : Cut} {at written : ℕ} {out : List ℕ}
-    → Going k₀ whole lent block fine k s c at written out → Gathers (gathered at c (drop at block)) None after
-    → Ran (standing k₀ whole.kernel) whole lent (served_to k after (length block) written) s out
-ends_there {k₀} {whole} {lent} {block} {k = k} {s = s} {c = c} {after = after} {at = at} {written = written} {out = out} w g =
+pub ends_there : {k₀ : Kernel} {whole : Run} {lent block : List ℕ} {fine : Bool} {k : Kernel} {s : List ℕ} {c after : Cut} {at end written : ℕ} {out : List ℕ}
+    → Going k₀ whole lent block fine k s c at written out → Gathers (gathered at c (drop at block)) (Err end) after
+    → Ran (standing k₀ whole.kernel) whole lent (served_to k after end written) s out
+ends_there {k₀} {whole} {lent} {block} {k = k} {s = s} {c = c} {at = at} {written = written} {out = out} w g =
     let l = left block (drop at block) at c refl in
-    let e = ap (λ (x : Gathered). x.newline) (told_none g) in
-    subst (λ (x : Cut). Ran (standing k₀ whole.kernel) whole lent (served_to k x (length block) written) s out) (sym g.cut)
-    (subst (λ (n : ℕ). Ran (standing k₀ whole.kernel) whole lent (served_to k (gathered at c (drop at block)).cut n written) s out) (l.last e w.reached)
-    (ended_here (gathers_to w) (l.none e)))
+    let e = told_ended g in
+    subst (λ (x : Gathered). Ran (standing k₀ whole.kernel) whole lent (served_to k x.cut x.next written) s out) e
+    (ended_here (gathers_to w) (l.none (ap (λ (x : Gathered). x.newline) e)))
 
 -- ---- the end of the input
 

@@ -81,12 +81,15 @@ impl Session {
         let mut at = 0usize;
         let mut written = 0usize;
         loop {
-            let Some(next) = self.cut.gather(block, at) else {
-                return Served {
-                    session: self,
-                    taken: block.len(),
-                    written,
-                };
+            let next = match self.cut.gather(block, at) {
+                Ok(next) => next,
+                Err(taken) => {
+                    return Served {
+                        session: self,
+                        taken,
+                        written,
+                    };
+                }
             };
             if out.len() - written < 256 {
                 return Served {

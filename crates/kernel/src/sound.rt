@@ -42,8 +42,7 @@ impl Core {
     fn awaits_fine(self) -> bool
         ensures { result ≡ all_below 16 (awaits_at self.tasks self.objects) }
     {
-        // Said so, the compiler does not see that these are none or all, and leaves the walk a loop.
-        let n = 16usize.min(16 * usize::from(self.tasks.wanting()));
+        let n = lists::bound(self.tasks.wanting());
         if n == 0 {
             return true;
         }
@@ -63,6 +62,9 @@ impl Core {
         let o = self.order;
         let walk = o.tallied();
         let tallies = walk.tallies;
+        let runs = self.tasks.runs_fine(o, self.running, 0 < self.hold);
+        let tidy = (o.living <= 16) & (walk.numbers & o.zeros());
+        let pends = (0 < self.hold) | (self.pended == 0);
         let holdings = self.objects.holdings();
         let held = holdings.held;
         let open = holdings.open;
@@ -70,9 +72,6 @@ impl Core {
         let holder = holdings.holder;
         let rows = self.tasks.fine(self.tick, tallies, held);
         let turns = self.tasks.waits_fine(open, taken, holder);
-        let runs = self.tasks.runs_fine(o, self.running, 0 < self.hold);
-        let tidy = (o.living <= 16) & (walk.numbers & o.zeros());
-        let pends = (0 < self.hold) | (self.pended == 0);
         // Asked last: here alone the test branches, and by now what it has found is one answer.
         let by = holdings.by;
         let levels = self.tasks.levels_fine(by);
@@ -82,16 +81,17 @@ impl Core {
 }
 
 impl Kernel {
-    // Asked of the kernel where it stands, which a step then writes; what is asked below goes by value, so that sixteen rows are read at once.
-    pub(crate) fn is_sound(&self) -> bool
-        ensures { (result ≡ sound (shown self.now)) × (result ≡ true → self.now ≡ kernel_of (shown self.now)) }
+    // By value, as all that is asked below, so that sixteen rows are read at once.
+    pub fn sound(self) -> bool
+        ensures { (result ≡ sound (shown self)) × (result ≡ true → self ≡ kernel_of (shown self)) }
     {
         self.core.fine() & self.uses.fine()
     }
 
-    pub fn sound(self) -> bool
-        ensures { (result ≡ sound (shown self)) × (result ≡ true → self ≡ kernel_of (shown self)) }
+    // The same of the kernel where it stands, which a step then writes.
+    pub(crate) fn is_sound(&self) -> bool
+        ensures { (result ≡ sound (shown self.now)) × (result ≡ true → self.now ≡ kernel_of (shown self.now)) }
     {
-        self.is_sound()
+        self.sound()
     }
 }

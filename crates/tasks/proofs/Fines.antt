@@ -1,12 +1,13 @@
 -- What soundness asks, in numbers and in words.
-use Prim.Native.Nat.{ℕ, zero, suc, ◌<◌}
+use Prim.Native.Nat.{ℕ, zero, suc, ◌+◌, ◌<◌}
+use native.Mathlib.Nat.{add-zero}
 use mathlib.Core.Path.{◌≡◌, refl, sym, ap, ◌∙◌}
 use mathlib.Core.Bool.{Bool, true, false, not, ◌&&◌, ◌||◌, and-true}
 use mathlib.Core.List.{List}
 use native.Mathlib.Omega.{arith}
 use lib.Dec.{eqb, ltb, leb}
 use lib.ListN.{get_or}
-use borrow.Author.Tests.{ne_eqb}
+use borrow.Author.Tests.{ne_eqb, ltb-false, lt-ltb}
 use Rattle.std.proofs.Common.{if◌then◌else◌}
 use Rattle.lists.specs.Lists.{all_below, up_to}
 use Rattle.lists.proofs.Bools.{and_left, and_right, and_intro, all_below_lem, below_all, all_same}
@@ -138,6 +139,22 @@ module _ (ts : Tasks) (full : Full ts) (tick : ℕ) (stands : List ℕ) (holds :
   fine_whole h =
       let r = and_right a (rows && wakes) h in
       sym (tasks_back ts full (below_all 16 _ (plain (and_left rows wakes r) (and_right rows wakes r))))
+
+-- one more is counted, or not
+pub one_more : (n : ℕ) (b : Bool) → (ltb 0 n || b) ≡ ltb 0 (n + (if b then 1 else 0))
+one_more n true = go (ltb 0 n) ∙ sym (lt-ltb 0 (n + 1) (omega arith))
+  where
+    go : (a : Bool) → (a || true) ≡ true
+    go true = refl
+    go false = refl
+one_more n false = rw (add-zero n) (go (ltb 0 n))
+  where
+    go : (a : Bool) → (a || false) ≡ a
+    go true = refl
+    go false = refl
+
+pub none_there : {n : ℕ} → ltb 0 n ≡ false → n ≡ 0
+none_there {n} e = omega (arith, ltb-false 0 n e)
 
 -- the waits: only who waits for its turn is asked
 abbrev pub wait_number : List ℕ → List ℕ → List ℕ → List Bool → List Bool → List ℕ → ℕ → Bool

@@ -1,5 +1,5 @@
 // What soundness asks of the tasks, tested in numbers: no Task is made, so that the compiler does all sixteen rows at once.
-ghost use Rattle.std.specs.Prelude.{◌*◌, min, ◌≡◌, false, ◌&&◌, eqb, get_or};
+ghost use Rattle.std.specs.Prelude.{◌≡◌, false, ◌&&◌, eqb, nat_lt, get_or};
 ghost use Rattle.lists.specs.Lists.{all_below};
 ghost use Rattle.order.specs.Order.{listed};
 ghost use Rattle.tasks.specs.Columns.{row_at};
@@ -119,17 +119,17 @@ impl Tasks {
         self.rows_fine(stands, holds) & self.wakes_fine(tick)
     }
 
-    // How many wait on an object.
-    #[tactic(auto, using(lists::proofs::Turns::up_to_none, lists::proofs::Turns::up_to_more), unfolding(crate::specs::Fine::waiting_in))]
-    pub(crate) fn waiting(self) -> u8
-        ensures { result ≡ waiting_in self }
+    // Whether somebody waits on an object.
+    #[tactic(auto, using(lists::proofs::Turns::up_to_none, lists::proofs::Turns::up_to_more, crate::proofs::Fines::one_more), unfolding(crate::specs::Fine::waiting_in))]
+    pub(crate) fn is_waiting(self) -> bool
+        ensures { result ≡ nat_lt 0 (waiting_in self) }
     {
         let state = self.state;
-        let mut n = 0;
+        let mut any = false;
         for i in 0..16 {
-            n += u8::from(waits(state[i]));
+            any |= waits(state[i]);
         }
-        n
+        any
     }
 
     #[tactic(auto, using(lists::proofs::Turns::all_below_none, lists::proofs::Turns::all_below_more, crate::proofs::Fines::waits_are))]
@@ -150,11 +150,13 @@ impl Tasks {
     }
 
     // Each that waits for its turn waits on an object that is open, or taken by another. Where nobody waits nothing is asked.
-    #[tactic(auto, using(crate::proofs::Fines::none_asked))]
     pub fn waits_fine(self, opens: [bool; 16], takes: [bool; 16], holder: [u8; 16]) -> bool
         ensures { result ≡ all_below 16 (waits_at self opens takes holder) }
     {
-        self.waiting() == 0 || self.turns_fine(opens, takes, holder)
+        if !self.is_waiting() {
+            return true;
+        }
+        self.turns_fine(opens, takes, holder)
     }
 
     // How many want bits of an event group.

@@ -46,12 +46,13 @@ impl Tasks {
     }
 
     // The level of each task, where `by` has the holder of each object, and whether every chain ends. Where nobody waits on an object each has its own, and there is no
-    // chain to go along.
+    // chain to go along. (Compiled into its callers, so that the table is not copied for it.)
+    #[inline(always)]
     fn levels(self, by: [u8; 16]) -> AllLent
         ensures { LevelsAre self by result }
     {
         let own = self.own;
-        if self.waiting() == 0 {
+        if !self.is_waiting() {
             return AllLent {
                 levels: own,
                 ended: true,
@@ -73,7 +74,7 @@ impl Tasks {
         ensures { result ≡ (ended_in self by && all_below 16 (λ n. eqb (row_at self n).effective (get_or (levels_in self by) n 0))) }
     {
         // Asked here, so that where nobody waits nothing is called.
-        if self.waiting() == 0 {
+        if !self.is_waiting() {
             return self.at_levels(self.own);
         }
         let lent = self.levels(by);

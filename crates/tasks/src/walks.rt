@@ -1,5 +1,5 @@
 // Walks of the order and of the rows. They read columns: a Task made for each turn would cost more than the walk.
-ghost use Rattle.std.specs.Prelude.{◌≡◌, ◌&&◌, None, eqb, slice_index_or};
+ghost use Rattle.std.specs.Prelude.{◌≡◌, ◌&&◌, None, eqb, slice_index_or, take};
 ghost use Rattle.std.specs.List.{find};
 ghost use Rattle.order.specs.Order.{listed, ordered};
 ghost use Rattle.slots.specs.Leads.{is_who};
@@ -51,6 +51,13 @@ fn first_in_line(
         .find(|&t| in_line(state, effective, t, p))
 }
 
+// The tasks that an order lists, of its places by themselves.
+fn among(places: &[TaskSlot; 16], living: u8) -> &[TaskSlot]
+    ensures { result.now ≡ take living places.now }
+{
+    &places[..usize::from(living).min(16)]
+}
+
 // The walks that soundness makes look into columns of their own: a table that is looked into by a number is kept in memory, and copied there.
 impl Tasks {
     #[tactic(auto, unfolding(crate::specs::Columns::row_at))]
@@ -79,7 +86,8 @@ impl Tasks {
     {
         let state = self.state;
         let effective = self.effective;
-        first_in_line(o.listed(), &state, &effective, p)
+        let places = o.places;
+        first_in_line(among(&places, o.living), &state, &effective, p)
     }
 
     // The ready tasks of priority `p`, as they stand in the order.
@@ -104,7 +112,8 @@ impl Tasks {
         let state = self.state;
         let effective = self.effective;
         let mut lines = Lines::none();
-        for &t in o.listed() {
+        let places = o.places;
+        for &t in among(&places, o.living) {
             lines.note(is_ready(&state, t), at(&effective, t));
         }
         lines

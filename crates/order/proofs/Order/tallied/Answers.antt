@@ -17,7 +17,7 @@ loop-t-init c = (count_begin (omega arith), all_begin refl, omega arith)
 pub loop-t-preserved : goal.loop-t-preserved
 loop-t-preserved c =
     let l = c.loop-t in
-    let t = get_or c.listed-t-items.result.now l.t-index idle in (
+    let t = get_or c.among-t-items.result.now l.t-index idle in (
       count_turn l.invariant.0 (search rules)
           (elim c.if-s-lt16.branch [
             | then-s-lt16 v ↦ v.tallies-is ∙ rw c.slot-s.ensures
@@ -34,10 +34,10 @@ loop-t-preserved c =
 pub returns-clause-tallies : goal.returns-clause-tallies
 unfolding tallies_of
 returns-clause-tallies c =
-    let d = c.listed-t-items in
+    let d = c.among-t-items in
     done c.loop-t.invariant.0.rest c.loop-t-test.false ∙ rw (take_all (length d.result.now) d.result.now (omega arith), d.ensures.those)
 
 pub returns-clause-numbers : goal.returns-clause-numbers
 returns-clause-numbers c =
-    let d = c.listed-t-items in
+    let d = c.among-t-items in
     numbered c.args.self.now {n = c.loop-t.t-index} (omega arith) (rw d.ensures.those at c.loop-t.invariant.1)

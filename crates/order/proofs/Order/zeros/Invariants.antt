@@ -6,4 +6,4 @@ use mathlib.Core.Bool.{true, ◌||◌}
 use Rattle.order.proofs.Order.zeros.Given as goal
 
 abbrev pub invariant-loop-i : goal.invariant-loop-i
-invariant-loop-i l = Held (λ j. ltb j l.initial.i || eqb (get_or l.self.places j idle).0 0) true l.ok l.i
+invariant-loop-i l = Held (λ j. ltb j l.initial.i || eqb (get_or l.places j idle).0 0) true l.ok l.i

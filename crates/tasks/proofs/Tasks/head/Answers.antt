@@ -6,4 +6,4 @@ use Rattle.tasks.proofs.Tasks.head.Goals as goal
 pub returns : goal.returns
 returns c =
     let a = c.args in
-    c.first_in_line.ensures ∙ rw c.listed.ensures.those (found_in a.self a.p (listed a.o))
+    c.first_in_line.ensures ∙ rw c.among.ensures (found_in a.self a.p (listed a.o))

@@ -1,7 +1,0 @@
-use Rattle.std.proofs.Common.{◌≡◌, ◌+◌, ◌≤◌, get_or, if◌then◌else◌}
-use Rattle.lists.specs.Lists.{up_to}
-use Rattle.tasks.specs.Known.{waits_state}
-use Rattle.tasks.proofs.Tasks.waiting.Given as goal
-
-abbrev pub invariant-loop-i : goal.invariant-loop-i
-invariant-loop-i l = (l.n ≡ up_to (λ m j. m + (if waits_state (get_or l.state j 0) then 1 else 0)) l.i 0) × (l.n ≤ l.i)
